@@ -1,0 +1,4 @@
+pub mod Literals
+pub mod Methods
+pub mod Bytes
+pub mod Units

@@ -1,0 +1,10 @@
+pub mod Rounded
+pub mod Value
+pub mod Exact
+pub mod Signed
+pub mod TwoSum
+pub mod Split
+pub mod TwoProd
+pub mod Parts
+pub mod Num
+pub mod Step
