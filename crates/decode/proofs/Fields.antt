@@ -9,7 +9,6 @@ use lib.Dec.{T, eqb, ltb, leb, ltb→lt, leb→le, lit≤}
 use lib.Pow.{pow-add, pow-pos, pow-lt, pow-mono, shl-lt}
 use lib.IntN.{ℤ, pos, negsuc}
 use lib.Ieee.{Float, fin, nan, inf, binary64, up, down, fits, isNan, size, toBits}
-use lib.Ieee.Scale.{finite}
 use lib.Count.{leadingZeros, leading-top}
 use lib.Ieee.Digits.{size-le, size-reaches}
 use lib.Ieee.Fits.{and-l, and-r, kept-lt}
@@ -142,95 +141,75 @@ units-pos s (suc m) e t h =
     let p = place 1074 1024 e (leb→le (down e) (2 ^ 1074) (and-r (a && b) c (and-l (a && b && c) d t))) in
     subst (λ (x : ℕ). 0 < x) (sym (p .is (suc m))) (mul-pos h (pow-pos (p .j)))
 
--- ---- what the functions read
-
-exact : (n w k w′ k′ : ℕ) → w′ ≡ w → k′ ≡ k → Whole n w k → Whole n w′ k′
-exact n w k w′ k′ p q h = subst (λ (a : ℕ). Whole n a k′) (sym p) (subst (λ (a : ℕ). Whole n w a) (sym q) h)
+-- ---- the pattern without its sign
 
 sign-off : (s : Bool) (a : ℕ) → a < 2 ^ 63 → (cond s (2 ^ 63) 0 + a) % 2 ^ 63 ≡ a
 sign-off true a h = omega arith
 sign-off false a h = omega arith
 
-module _ (s : Bool) (m : ℕ) (e : ℤ) (h : Shape s m e) where
-  rest : toBits binary64 (fin s m e) % 2 ^ 63 ≡ h .k * 2 ^ 52 + h .w
-  rest =
-      ap (λ (b : ℕ). b % 2 ^ 63) (h .bits ∙ add-assoc (cond s (2 ^ 63) 0) (h .k * 2 ^ 52) (h .w))
-      ∙ sign-off s (h .k * 2 ^ 52 + h .w) (omega (arith, h .whole .short, h .whole .reach))
+-- An infinity's, or digits and the exponent's field above them.
+abbrev pub Pattern : Float → ℕ → Type 0
+Pattern x b = ((b ≡ 2047 * 2 ^ 52) × (unitsOf x ≡ 0)) ⊎ ((w : ℕ) × (k : ℕ) × (b ≡ k * 2 ^ 52 + w) × Whole (unitsOf x) w k)
 
-  low-shape : toBits binary64 (fin s m e) % 2 ^ 63 / 2 ^ 52 ≡ 0 → Whole (unitsOf (fin s m e)) (toBits binary64 (fin s m e) % 2 ^ 63 % 2 ^ 52) 0
-  low-shape z =
-      let w = h .w in
-      let k = h .k in
-      let r = rest in
-      let W : k * 2 ^ 52 + w < 2 ^ 52 = omega arith in
-      exact (unitsOf (fin s m e)) w k (toBits binary64 (fin s m e) % 2 ^ 63 % 2 ^ 52) 0 (omega arith) (omega arith) (h .whole)
+pub pattern : (x : Float) → fits binary64 x ≡ true → T (not (isNan x)) → Pattern x (toBits binary64 x % 2 ^ 63)
+unfolding toBits isNan
+pattern nan f t = absurd t
+pattern (inf s) f t = inl (sign-off s (2047 * 2 ^ 52) (omega arith), refl)
+pattern (fin s m e) f t = inr (h .w, h .k, ap (λ (b : ℕ). b % 2 ^ 63) (h .bits ∙ add-assoc (cond s (2 ^ 63) 0) (h .k * 2 ^ 52) (h .w)) ∙ sign-off s (h .k * 2 ^ 52 + h .w) (omega (arith, h .whole .short, h .whole .reach)), h .whole)
+  where
+    h : Shape s m e
+    h = shape s m e (subst T (sym f) tt)
 
-  high-shape : (toBits binary64 (fin s m e) % 2 ^ 63 / 2 ^ 52 ≡ 0 → ⊥)
-      → Whole (unitsOf (fin s m e)) (2 ^ 52 + toBits binary64 (fin s m e) % 2 ^ 63 % 2 ^ 52) (toBits binary64 (fin s m e) % 2 ^ 63 / 2 ^ 52 - 1)
-  high-shape z =
-      let w = h .w in
-      let k = h .k in
-      let r = rest in
-      let big : 2 ^ 52 ≤ w = ⊎-elim (λ l. l) (λ k0. omega (arith, r, z)) (h .whole .led) in
-      let S : w < 2 ^ 53 = h .whole .short in
-      exact (unitsOf (fin s m e)) w k (2 ^ 52 + toBits binary64 (fin s m e) % 2 ^ 63 % 2 ^ 52) (toBits binary64 (fin s m e) % 2 ^ 63 / 2 ^ 52 - 1) (omega arith) (omega arith) (h .whole)
+-- ---- what the fields of such a pattern say
 
-pub low-digits : (x : Float) → fits binary64 x ≡ true → T (finite x) → toBits binary64 x % 2 ^ 63 / 2 ^ 52 ≡ 0 → Whole (unitsOf x) (toBits binary64 x % 2 ^ 63 % 2 ^ 52) 0
-low-digits nan f t z = absurd t
-low-digits (inf s) f t z = absurd t
-low-digits (fin s m e) f t z = low-shape s m e (shape s m e (subst T (sym f) tt)) z
+module _ (n w k b : ℕ) (e : b ≡ k * 2 ^ 52 + w) (h : Whole n w k) where
+  pub not-top : b / 2 ^ 52 ≡ 2047 → ⊥
+  not-top z = omega (arith, h .short, h .reach)
 
-pub high-digits : (x : Float) → fits binary64 x ≡ true → T (finite x) → (toBits binary64 x % 2 ^ 63 / 2 ^ 52 ≡ 0 → ⊥)
-    → Whole (unitsOf x) (2 ^ 52 + toBits binary64 x % 2 ^ 63 % 2 ^ 52) (toBits binary64 x % 2 ^ 63 / 2 ^ 52 - 1)
-high-digits nan f t z = absurd t
-high-digits (inf s) f t z = absurd t
-high-digits (fin s m e) f t z = high-shape s m e (shape s m e (subst T (sym f) tt)) z
+  pub normal : (b / 2 ^ 52 ≡ 0 → ⊥) → Normal n (2 ^ 52 + b % 2 ^ 52) (b / 2 ^ 52 + 51)
+  normal z =
+      let S : w < 2 ^ 53 = h .short in
+      let big : 2 ^ 52 ≤ w = ⊎-elim (λ l. l) (λ k0. omega (arith, z)) (h .led) in
+      subst (λ (a : ℕ). Normal n a (b / 2 ^ 52 + 51)) (let d : w ≡ 2 ^ 52 + b % 2 ^ 52 = omega arith in d)
+      (subst (λ (a : ℕ). Normal n w a) (let d : k + 52 ≡ b / 2 ^ 52 + 51 = omega arith in d)
+      (record {
+        value = ap (λ (x : ℕ). w * x) (pow-add 2 k 52) ∙ sym (mul-assoc w (2 ^ k) (2 ^ 52)) ∙ ap (λ (x : ℕ). x * 2 ^ 52) (h .value);
+        short = S;
+        led = big;
+        reach = omega (arith, h .reach);
+      }))
 
-pub finite-not-nan : (x : Float) → T (finite x) → T (not (isNan x))
-unfolding isNan
-finite-not-nan nan t = t
-finite-not-nan (inf s) t = tt
-finite-not-nan (fin s m e) t = tt
+  pub fraction-is : b / 2 ^ 52 ≡ 0 → b % 2 ^ 52 ≡ n
+  fraction-is z =
+      let k0 : k ≡ 0 = omega arith in
+      (let d : b % 2 ^ 52 ≡ w = omega arith in d) ∙ sym (mul-one w) ∙ ap (λ (x : ℕ). w * 2 ^ x) (sym k0) ∙ h .value
 
--- ---- all 53 digits
+-- ---- a fraction alone: its leading zeros, of which 11 are those above 53 digits, say how far it is shifted
 
-pub full : (n w k : ℕ) → Whole n w k → 2 ^ 52 ≤ w → Normal n w (k + 52)
-full n w k h l = record {
-  value = ap (λ (x : ℕ). w * x) (pow-add 2 k 52) ∙ sym (mul-assoc w (2 ^ k) (2 ^ 52)) ∙ ap (λ (x : ℕ). x * 2 ^ 52) (h .value);
-  short = h .short;
-  led = l;
-  reach = omega (arith, h .reach);
-}
-
--- the zeros above the highest set digit of a subnormal's w, of which 11 are those above 53 digits
-pub record Shifted (n w : ℕ) : Type 0 where
+pub record Shifted (w : ℕ) : Type 0 where
   pub enough : 11 ≤ leadingZeros 64 w
   pub bound : leadingZeros 64 w - 11 ≤ 52
-  pub normal : Normal n (w * 2 ^ (leadingZeros 64 w - 11) % 2 ^ 64) (52 - (leadingZeros 64 w - 11))
+  pub digits : Normal w (w * 2 ^ (leadingZeros 64 w - 11) % 2 ^ 64) (52 - (leadingZeros 64 w - 11))
 
-pub shifted : (n w k : ℕ) → Whole n w k → 0 < n → w < 2 ^ 52 → Shifted n w
-shifted n w k h p l =
-    let k0 : k ≡ 0 = ⊎-elim (λ b. omega arith) (λ z. z) (h .led) in
-    let same : w ≡ n = sym (mul-one w) ∙ ap (λ (x : ℕ). w * 2 ^ x) (sym k0) ∙ h .value in
-    let top = leading-top 64 w (subst (λ (x : ℕ). 0 < x) (sym same) p) (omega arith) in
+pub shifted : (w : ℕ) → (w ≡ 0 → ⊥) → w < 2 ^ 52 → Shifted w
+shifted w p l =
+    let top = leading-top 64 w (omega (arith, p)) (omega arith) in
     let j = top .0 in
     let j-lt : j < 52 = pow-lt-back j 52 (lt-of-le-of-lt (top .2) l) in
     let zj : leadingZeros 64 w - 11 ≡ 52 - j = omega (arith, top .1) in
     let z = 52 - j in
-    let zs : z + j ≡ 52 = omega arith in
     let up-lt : w * 2 ^ z < 2 ^ 53 =
     subst (λ (x : ℕ). w * 2 ^ z < 2 ^ x) (let e : suc j + z ≡ 53 = omega arith in e) (shl-lt (suc j) z (top .3)) in
     let lo : 2 ^ 52 ≤ w * 2 ^ z =
     subst (λ (x : ℕ). x ≤ w * 2 ^ z) (sym (pow-add 2 j z) ∙ ap (λ (x : ℕ). 2 ^ x) (let e : j + z ≡ 52 = omega arith in e)) (mul-le-mul-right (2 ^ z) (top .2)) in
     let small : w * 2 ^ z % 2 ^ 64 ≡ w * 2 ^ z = mod-eq-of-lt (lt-of-lt-of-le up-lt (lit≤ tt)) in
-    let val : w * 2 ^ z * 2 ^ (52 - z) ≡ n * 2 ^ 52 =
+    let val : w * 2 ^ z * 2 ^ (52 - z) ≡ w * 2 ^ 52 =
     mul-assoc w (2 ^ z) (2 ^ (52 - z))
-    ∙ ap (λ (x : ℕ). w * x) (sym (pow-add 2 z (52 - z)) ∙ ap (λ (x : ℕ). 2 ^ x) (let e : z + (52 - z) ≡ 52 = omega arith in e))
-    ∙ ap (λ (x : ℕ). x * 2 ^ 52) same in
+    ∙ ap (λ (x : ℕ). w * x) (sym (pow-add 2 z (52 - z)) ∙ ap (λ (x : ℕ). 2 ^ x) (let e : z + (52 - z) ≡ 52 = omega arith in e)) in
     record {
       enough = omega (arith, top .1);
       bound = omega arith;
-      normal = subst (λ (a : ℕ). Normal n (w * 2 ^ a % 2 ^ 64) (52 - a)) (sym zj)
-          (subst (λ (a : ℕ). Normal n a (52 - z)) (sym small)
+      digits = subst (λ (a : ℕ). Normal w (w * 2 ^ a % 2 ^ 64) (52 - a)) (sym zj)
+          (subst (λ (a : ℕ). Normal w a (52 - z)) (sym small)
           (record { value = val; short = up-lt; led = lo; reach = omega arith }));
     }

@@ -5,7 +5,8 @@ use lib.IntN.{ℤ, pos}
 use lib.Ieee.{Float, nan, inf, fin, minus, size}
 use Rattle.float.specs.Units.{unitsOf}
 
--- The exponent of a double: the greatest k with 2 ^ k ≤ |x|, from the highest set digit of its units. -1075 for a zero, 1024 for an infinity and a NaN.
+-- 'the exact exponent': the greatest k with 2 ^ k ≤ |x|. 'The exponent of a number below 2^-1022 comes from its highest set bit': so does every
+-- other here, from the size of its units. -1075 for a zero and 1024 for an infinity and a NaN, below and above all others.
 unfoldable pub exponentOf : Float → ℤ
 unfolding size
 exponentOf nan = pos 1024

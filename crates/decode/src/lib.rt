@@ -1,74 +1,43 @@
-// A finite f64 taken apart into whole numbers: w * 2^k units of 2^-1074.
+// A double taken apart into whole numbers: the one place where an exponent is read from the highest set bit.
+// It rests on `float` (unitsOf); square root, cube root, third angle, logarithm and scaling rest on it.
 ghost use mathlib.Core.Path.{_≡_};
-ghost use Prim.Native.Nat.{_+_, _*_, _^_, _≤_, _<_};
-ghost use lib.Dec.{T};
-ghost use lib.Ieee.Scale.{finite};
-ghost use Rattle.float.specs.Units.{unitsOf};
-ghost use Rattle.decode.specs.Exponent.{exponentOf, regularOf};
-ghost use Rattle.decode.specs.Shape.{Whole, Normal};
+ghost use Rattle.decode.specs.Exponent.{exponentOf};
+ghost use Rattle.decode.specs.Shape.{Decoded};
 
-// w * 2^k units.
+// w * 2^k / 2^52 units of 2^-1074.
 pub struct Digits {
     pub w: u64,
     pub k: u64,
 }
 
-// The digits of a finite x as its bit pattern has them: w has 53 digits, or k is 0.
-pub fn digits_of(x: f64) -> Digits
-    requires { ⌜ T (finite x) ⌝ }
-    ensures { λ r. ⌜ Whole (unitsOf x) (r .w) (r .k) ⌝ }
-{
-    let b = f64::to_bits(x) % 0x8000_0000_0000_0000;
-    let field = b / 0x10_0000_0000_0000;
-    let low = b % 0x10_0000_0000_0000;
-    if field == 0 {
-        Digits { w: low, k: 0 }
-    } else {
-        Digits {
-            w: 0x10_0000_0000_0000 + low,
-            k: field - 1,
-        }
-    }
-}
-
-// The digits of a finite x that is not zero, shifted so that w has all 53: x is w * 2^k / 2^52 units. The
-// highest set bit of a subnormal's digits says how far.
+// The digits of a finite x that is not zero, all 53 of them. Below 2^-1022 the leading zeros of the 52-bit fraction say how far they
+// are shifted. 0 and 0 for a zero, an infinity and a NaN.
 pub fn normal_of(x: f64) -> Digits
-    requires { ⌜ T (finite x) ⌝ ∗ ⌜ 0 < unitsOf x ⌝ }
-    ensures { λ r. ⌜ Normal (unitsOf x) (r .w) (r .k) ⌝ }
-{
-    let d = digits_of(x);
-    if 0x10_0000_0000_0000 <= d.w {
-        Digits {
-            w: d.w,
-            k: d.k + 52,
-        }
-    } else {
-        let z = u64::leading_zeros(d.w) - 11;
-        Digits {
-            w: d.w << z,
-            k: 52 - z as u64,
-        }
-    }
-}
-
-// Whether x is finite and not zero.
-pub fn regular(x: f64) -> bool
-    ensures { λ r. ⌜ r ≡ regularOf x ⌝ }
+    ensures { λ r. ⌜ Decoded x (r .w) (r .k) ⌝ }
 {
     if x != x {
-        return false;
+        return Digits { w: 0, k: 0 };
     }
-    if x == 0.0 {
-        return false;
+    let b = f64::to_bits(x) % 0x8000_0000_0000_0000;
+    let field = b / 0x10_0000_0000_0000;
+    let fraction = b % 0x10_0000_0000_0000;
+    if field == 0x7ff {
+        return Digits { w: 0, k: 0 };
     }
-    if x == 1.0 / 0.0 {
-        return false;
+    if field != 0 {
+        return Digits {
+            w: 0x10_0000_0000_0000 + fraction,
+            k: field + 51,
+        };
     }
-    if x == -1.0 / 0.0 {
-        return false;
+    if fraction == 0 {
+        return Digits { w: 0, k: 0 };
     }
-    true
+    let z = u64::leading_zeros(fraction) - 11;
+    Digits {
+        w: fraction << z,
+        k: 52 - z as u64,
+    }
 }
 
 // The exponent of x: the greatest k with 2^k <= |x|. 1024 for an infinity and a NaN, -1075 for a zero.
@@ -78,8 +47,9 @@ pub fn exponent(x: f64) -> i32
     if x == 0.0 {
         return -1075;
     }
-    if !regular(x) {
+    let n = normal_of(x);
+    if n.w == 0 {
         return 1024;
     }
-    normal_of(x).k as i32 - 1074
+    n.k as i32 - 1074
 }

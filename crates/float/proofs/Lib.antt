@@ -1,1 +1,5 @@
+pub mod Bits
+pub mod Bytes
+pub mod RoundDown
+pub mod Whole
 pub mod Zero

@@ -1,26 +1,27 @@
--- Rust's small functions on f64, on the values of lib.Ieee. Definitions only.
+-- The methods of Rust's f64 that the port calls and Rattle has not, on the values of lib.Ieee: one NaN, with no sign. Definitions only.
+-- is_nan is isNan of lib.Ieee.
 use mathlib.Core.Bool.{Bool, true, false, not, cond, _&&_, _||_}
-use Prim.Native.Nat.{ℕ}
-use lib.IntN.{ℤ}
-use lib.Ieee.{Float, nan, inf, fin, lt, eq, isNan}
+use Prim.Native.Nat.{ℕ, zero, suc}
+use lib.Ieee.{Float, nan, inf, fin, binary64, mul, lt, eq, isNan}
+use Rattle.float.specs.Literals.{one64}
 
--- |x|
-unfoldable pub absOf : Float → Float
-absOf nan = nan
-absOf (inf s) = inf false
-absOf (fin s m e) = fin false m e
-
--- finite: neither an infinity nor nan
+-- x.is_finite(): neither an infinity nor NaN
 unfoldable pub isFiniteOf : Float → Bool
 isFiniteOf nan = false
 isFiniteOf (inf s) = false
 isFiniteOf (fin s m e) = true
 
--- the sign bit; false at nan
+-- x.is_sign_negative(): the sign, of a zero too; false at NaN
 unfoldable pub isSignNegativeOf : Float → Bool
 isSignNegativeOf nan = false
 isSignNegativeOf (inf s) = s
 isSignNegativeOf (fin s m e) = s
+
+-- x.abs()
+unfoldable pub absOf : Float → Float
+absOf nan = nan
+absOf (inf s) = inf false
+absOf (fin s m e) = fin false m e
 
 -- x with the sign s
 unfoldable pub withSign : Bool → Float → Float
@@ -28,22 +29,32 @@ withSign s nan = nan
 withSign s (inf t) = inf s
 withSign s (fin t m e) = fin s m e
 
--- |x| with the sign of y
+-- x.copysign(y): x with the sign of y; at a NaN y it is x.abs()
 unfoldable pub copysignOf : Float → Float → Float
 unfolding withSign isSignNegativeOf
 copysignOf x y = withSign (isSignNegativeOf y) x
 
--- the smaller and the larger: of two zeros the first, and a nan is passed over
+-- x.min(y), in which a NaN is passed over. The reference build: of two zeros with unlike signs, the first.
 unfoldable pub minOf : Float → Float → Float
 minOf x y = cond (lt y x || isNan x) y x
 
+-- x.max(y), likewise
 unfoldable pub maxOf : Float → Float → Float
 maxOf x y = cond (lt x y || isNan x) y x
 
+-- x.clamp(lo, hi), as Rust writes it: NaN stays
 unfoldable pub clampOf : Float → Float → Float → Float
 clampOf x lo hi = let y = cond (lt x lo) lo x in cond (lt hi y) hi y
 
--- x is at most y in the order -inf .. -0, +0 .. inf, nan
+-- x.total_cmp(&y).is_le(): -0 is below +0, and NaN above infinity
 unfoldable pub totalLeOf : Float → Float → Bool
 unfolding isSignNegativeOf
 totalLeOf x y = isNan y || (lt x y || (eq x y && (isSignNegativeOf x || not (isSignNegativeOf y))))
+
+-- v.powi(n) for an n up to 4. The reference build: v, v·v, (v·v)·v, (v·v)·(v·v).
+unfoldable pub powiOf : Float → ℕ → Float
+powiOf v zero = one64
+powiOf v (suc zero) = v
+powiOf v (suc (suc zero)) = mul binary64 v v
+powiOf v (suc (suc (suc zero))) = mul binary64 (mul binary64 v v) v
+powiOf v (suc (suc (suc (suc n)))) = mul binary64 (mul binary64 v v) (mul binary64 v v)

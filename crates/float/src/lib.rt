@@ -1,16 +1,17 @@
-// Doubles: Rust's methods on f64 that Rattle has not, and doubles as bits and bytes. Every function is total, on all bits.
-// It rests on the library alone; every crate with code rests on it.
+// Doubles: the methods of Rust's f64 that Rattle has not, and doubles as bits and as bytes. Every function takes all bits; every NaN is one NaN.
+// It rests on the library alone. Every crate that computes with doubles rests on it.
 ghost use mathlib.Core.Path.{_≡_};
-ghost use mathlib.Core.Bool.{not};
-ghost use Prim.Native.Nat.{_+_, _<_, _≤_};
-ghost use lib.Dec.{T};
+ghost use mathlib.Core.Bool.{cond, _||_};
+ghost use Prim.Native.Nat.{_+_, _^_, _<_, _≤_};
 ghost use lib.ListN.{length, getD};
-ghost use lib.Ieee.{binary64, isNan, ofBits, toBits};
+ghost use lib.Seq.{sets};
+ghost use lib.Ieee.{binary64, isNan, minus, ofInt, ofBits, toBits};
 ghost use Rattle.float.specs.Literals.{inf64};
-ghost use Rattle.float.specs.Methods.{absOf, isFiniteOf, isSignNegativeOf, copysignOf, minOf, maxOf, clampOf, totalLeOf};
-ghost use Rattle.float.specs.Bytes.{u64At};
+ghost use Rattle.float.specs.Methods.{absOf, isFiniteOf, isSignNegativeOf, copysignOf, minOf, maxOf, clampOf, totalLeOf, powiOf};
+ghost use Rattle.float.specs.Floor.{floorOf};
+ghost use Rattle.float.specs.Bytes.{u64At, f64At, bytesOf};
 
-// A constant cannot be an infinity.
+// Rattle has no infinite constant.
 pub fn infinity() -> f64
     ensures { λ r. ⌜ r ≡ inf64 ⌝ }
 {
@@ -48,6 +49,7 @@ pub fn is_sign_negative(x: f64) -> bool
     if x < 0.0 {
         return true;
     }
+    // 1 / -0 is -infinity.
     if x == 0.0 {
         return 1.0 / x < 0.0;
     }
@@ -61,10 +63,11 @@ pub fn copysign(x: f64, y: f64) -> f64
     if is_sign_negative(y) { -a } else { a }
 }
 
-pub fn min(x: f64, y: f64) -> f64
-    ensures { λ r. ⌜ r ≡ minOf x y ⌝ }
+// y where it is to be taken, and where x is NaN.
+fn pick(second: bool, x: f64, y: f64) -> f64
+    ensures { λ r. ⌜ r ≡ cond (second || isNan x) y x ⌝ }
 {
-    if y < x {
+    if second {
         return y;
     }
     if is_nan(x) {
@@ -73,10 +76,16 @@ pub fn min(x: f64, y: f64) -> f64
     x
 }
 
+pub fn min(x: f64, y: f64) -> f64
+    ensures { λ r. ⌜ r ≡ minOf x y ⌝ }
+{
+    pick(y < x, x, y)
+}
+
 pub fn max(x: f64, y: f64) -> f64
     ensures { λ r. ⌜ r ≡ maxOf x y ⌝ }
 {
-    if x < y || is_nan(x) { y } else { x }
+    pick(x < y, x, y)
 }
 
 pub fn clamp(x: f64, lo: f64, hi: f64) -> f64
@@ -110,8 +119,69 @@ pub fn total_le(x: f64, y: f64) -> bool
     false
 }
 
-// The byte at i, as a number that sums can take.
-pub fn byte_at(s: &[u8], i: usize) -> u64
+pub fn powi(v: f64, n: usize) -> f64
+    requires { ⌜ n ≤ 4 ⌝ }
+    ensures { λ r. ⌜ r ≡ powiOf v n ⌝ }
+{
+    match n {
+        0 => 1.0,
+        1 => v,
+        2 => v * v,
+        3 => v * v * v,
+        _ => v * v * (v * v),
+    }
+}
+
+// (p - q) as f64, where the Rust has an i32.
+pub fn difference(p: u64, q: u64) -> f64
+    requires { ⌜ p ≤ 2 ^ 53 ⌝ ∗ ⌜ q ≤ 2 ^ 53 ⌝ }
+    ensures { λ r. ⌜ r ≡ ofInt binary64 (minus p q) ⌝ }
+{
+    if q <= p {
+        return (p - q) as f64;
+    }
+    -((q - p) as f64)
+}
+
+// x rounded down, and 8192. It lies between low and high, and each turn halves what is left.
+pub fn floor(x: f64) -> u64
+    ensures { λ r. ⌜ r ≡ floorOf x ⌝ }
+{
+    let mut low: u64 = 0;
+    let mut high: u64 = 16384;
+    while low + 1 < high {
+        let middle = (low + high) / 2;
+        if difference(middle, 8192) <= x {
+            low = middle;
+        } else {
+            high = middle;
+        }
+    }
+    low
+}
+
+// A NaN's pattern, the sign taken off, is above infinity's.
+pub fn from_bits(n: u64) -> f64
+    ensures { λ r. ⌜ r ≡ ofBits binary64 n ⌝ }
+{
+    if n % 0x8000_0000_0000_0000 > 0x7FF0_0000_0000_0000 {
+        return 0.0 / 0.0;
+    }
+    f64::from_bits(n)
+}
+
+// f64::to_bits has no value at NaN.
+pub fn to_bits(x: f64) -> u64
+    ensures { λ r. ⌜ r ≡ toBits binary64 x ⌝ }
+{
+    if is_nan(x) {
+        return 0x7FF8_0000_0000_0000;
+    }
+    f64::to_bits(x)
+}
+
+// A byte, as a number that sums can take.
+fn byte_at(s: &[u8], i: usize) -> u64
     requires { ⌜ i < length (now s) ⌝ }
     ensures { λ r. ⌜ (r ≡ getD (now (s .entry)) i 0) × (r < 256) ⌝ }
 {
@@ -134,29 +204,30 @@ pub fn u64_at(s: &[u8], at: usize) -> u64
     b0 + 256 * (b1 + 256 * (b2 + 256 * (b3 + 256 * (b4 + 256 * (b5 + 256 * (b6 + 256 * b7))))))
 }
 
-// The double whose bits are n; every NaN pattern gives the one NaN.
-pub fn float_of_bits(n: u64) -> f64
-    ensures { λ r. ⌜ r ≡ ofBits binary64 n ⌝ }
+// n into the eight bytes from at on, lowest first.
+pub fn put_u64(out: &mut [u8], at: usize, n: u64)
+    requires { ⌜ at + 8 ≤ length (now out) ⌝ }
+    ensures { λ _. ⌜ now (out .exit) ≡ sets (now (out .entry)) at (bytesOf n) ⌝ }
 {
-    if n % 0x8000_0000_0000_0000 > 0x7FF0_0000_0000_0000 {
-        0.0 / 0.0
-    } else {
-        f64::from_bits(n)
+    let mut rest = n;
+    let mut i = 0;
+    while i < 8 {
+        out[at + i] = (rest % 256) as u8;
+        rest /= 256;
+        i += 1;
     }
 }
 
-// The bits of a double that is no NaN.
-pub fn bits_of(x: f64) -> u64
-    requires { ⌜ T (not (isNan x)) ⌝ }
-    ensures { λ r. ⌜ r ≡ toBits binary64 x ⌝ }
-{
-    f64::to_bits(x)
-}
-
-// The double in the eight bytes from at on.
 pub fn f64_at(s: &[u8], at: usize) -> f64
     requires { ⌜ at + 8 ≤ length (now s) ⌝ }
-    ensures { λ r. ⌜ r ≡ ofBits binary64 (u64At (now (s .entry)) at) ⌝ }
+    ensures { λ r. ⌜ r ≡ f64At (now (s .entry)) at ⌝ }
 {
-    float_of_bits(u64_at(s, at))
+    from_bits(u64_at(s, at))
+}
+
+pub fn put_f64(out: &mut [u8], at: usize, x: f64)
+    requires { ⌜ at + 8 ≤ length (now out) ⌝ }
+    ensures { λ _. ⌜ now (out .exit) ≡ sets (now (out .entry)) at (bytesOf (toBits binary64 x)) ⌝ }
+{
+    put_u64(out, at, to_bits(x));
 }

@@ -1,190 +1,124 @@
--- No double is nearer than `nearestOf`: |r - x| ≤ |d - x| for every finite double d and every number x that t and `exact` describe, in whole
--- numbers. Assumes nothing.
+-- No double is nearer than `nearestOf`. Let `under h` say that h half units are at most a number, and `over h` that they are at least it. Then the middle
+-- of r = `nearestOf` and any smaller double is `under`, and the middle of r and any larger one is `over`. Assumes nothing.
 use mathlib.Core.Path.{_≡_, refl, sym, ap, _∙_, subst}
 use mathlib.Core.Logic.{⊎-elim}
-use mathlib.Core.Bool.{Bool, true, false, cond}
-use Prim.Native.Nat.{ℕ, suc, _+_, _-_, _*_, _/_, _%_, _^_, _≤_, _<_, compare, Ordering, Ordering·lt, Ordering·eq, Ordering·gt}
+use mathlib.Core.Bool.{Bool, true, false, cond, true≢false}
+use Prim.Native.Nat.{ℕ, zero, suc, _+_, _-_, _*_, _/_, _^_, _≤_, _<_}
 use native.Mathlib.Omega.{arith}
-use native.Mathlib.Nat.{eq-zero-or-pos, le-trans, lt-of-lt-of-le, lt-of-le-of-lt, lt-of-not-le, lt-irrefl, suc-mul, mul-assoc, mul-left-comm, mul-le-mul-right, mul-pos, zero-lt-suc, pow-succ', div-add-mod', mod-lt, mul-div-cancel, add-mul}
-use lib.Dec.{T, ltb}
-use lib.Pow.{pow-add, pow-pos, pow-mono}
-use lib.Ieee.{Float, nan, inf, fin, binary64, fits, units, odd, size, nearest, down}
-use lib.Ieee.Digits.{size-lt, size-reaches}
-use lib.Ieee.Fits.{core, round-is, down-pos}
-use lib.Ieee.Nearest.{closest}
-use lib.Ieee.Exact.{HasValue, odd-sign}
-use lib.Ieee.Scale.{finite}
+use native.Mathlib.Nat.{le-trans, le-of-lt, lt-of-le-of-lt, lt-of-mul-lt-mul-right, add-mul, suc-mul, mul-assoc, mul-left-comm, mul-le-mul-left, mul-le-mul-right, mul-div-cancel, zero-lt-suc, pow-succ'}
+use lib.Dec.{T, lit<}
+use lib.Pow.{pow-pos}
+use lib.Ieee.{Float, nan, inf, fin, binary64, fits, down}
+use lib.Ieee.Bits.{is-true}
+use lib.Ieee.Fits.{round-is, round-fits, down-pos}
+use lib.Ieee.Order.{drop, kept}
+use lib.Ieee.Exact.{HasValue, units-val}
+use Rattle.float.specs.Methods.{isFiniteOf}
 use Rattle.float.specs.Units.{unitsOf}
-use Rattle.decode.specs.Shape.{Whole}
 use Rattle.decode.proofs.Fields.{shape}
+use Rattle.algebra.specs.NatOrder.{le-or-lt, pow2-finer, pow2-twice}
+use Rattle.rounding.specs.Rounded.{Rounded, rounded, same-fraction}
 use Rattle.nearest.specs.Greatest.{nearestOf}
-use Rattle.nearest.proofs.Rounding.{Cmp, cmp, halved, kept, three}
-
-abbrev pub dist : ℕ → ℕ → ℕ
-dist a b = a - b + (b - a)
-
--- p / q units are x: t where it is exact, and otherwise a number from t to t + 1
-abbrev pub Described : ℕ → Bool → ℕ → ℕ → Type 0
-Described t true p q = p ≡ t * q
-Described t false p q = (t * q ≤ p) × (p ≤ suc t * q)
-
--- q times the distance of a finite d from p / q units
-abbrev pub away : Float → ℕ → ℕ → ℕ
-away nan p q = 0
-away (inf s) p q = 0
-away (fin false m e) p q = dist (unitsOf (fin false m e) * q) p
-away (fin true m e) p q = unitsOf (fin true m e) * q + p
 
 pub units-of : (x : Float) (s : Bool) (a : ℕ) → HasValue x s a (2 ^ 1074) → unitsOf x ≡ a
 units-of nan s a h = absurd h
 units-of (inf t) s a h = absurd h
 units-of (fin t m e) s a h = ap (λ (y : ℕ). y / down e) (h .1) ∙ mul-div-cancel a (down-pos e)
 
--- ---- `closest` is within a half
+-- ---- 2 t half units and one for a part of a unit, rounded to r = q * 2 ^ k units
 
-closest-half : (a b : ℕ) → 0 < b → (2 * (closest a b * b) ≤ 2 * a + b) × (2 * a ≤ 2 * (closest a b * b) + b)
-closest-half a b B = go (compare (a % b * 2) b) (cmp (a % b * 2) b)
-  where
-    go : (o : Ordering) → Cmp o (a % b * 2) b → (2 * (nearest (a / b) o * b) ≤ 2 * a + b) × (2 * a ≤ 2 * (nearest (a / b) o * b) + b)
-    go Ordering·lt c = let v = div-add-mod' a b in (omega arith, omega arith)
-    go Ordering·eq c = let v = div-add-mod' a b in let m = add-mul (a / b) (a / b % 2) b in ⊎-elim (λ z. let n : a / b % 2 * b ≡ 0 = ap (λ (y : ℕ). y * b) z ∙ (let e : 0 * b ≡ 0 = omega arith in e) in (omega arith, omega arith)) (λ z. let n : a / b % 2 * b ≡ b = ap (λ (y : ℕ). y * b) (let e : a / b % 2 ≡ 1 = omega arith in e) ∙ (let e : 1 * b ≡ b = omega arith in e) in (omega arith, omega arith)) (eq-zero-or-pos (a / b % 2))
-    go Ordering·gt c = let v = div-add-mod' a b in let m = suc-mul (a / b) b in let r = mod-lt a B in (omega arith, omega arith)
+abbrev pub part : Bool → ℕ
+part exact = cond exact 0 1
 
--- x is within half a step K of Q * K
-within : (t K Q p q : ℕ) (exact : Bool) → (exact ≡ false → K % 2 ≡ 0) → 2 * (Q * (2 * K)) ≤ 2 * (2 * t + cond exact 0 1) + 2 * K → 2 * (2 * t + cond exact 0 1) ≤ 2 * (Q * (2 * K)) + 2 * K → Described t exact p q
-    → 2 * dist (Q * K * q) p ≤ K * q
-within t K Q p q true even lo hi d =
-    let m = mul-left-comm Q 2 K in
-    let a : 2 * (Q * K) ≤ 2 * t + K = omega arith in
-    let b : 2 * t ≤ 2 * (Q * K) + K = omega arith in
-    scaled (Q * K) t K q a b p d
-  where
-    scaled : (R t K q : ℕ) → 2 * R ≤ 2 * t + K → 2 * t ≤ 2 * R + K → (p : ℕ) → p ≡ t * q → 2 * dist (R * q) p ≤ K * q
-    scaled R t K q a b p d =
-        let x : 2 * (R * q) ≤ 2 * (t * q) + K * q = let h = mul-le-mul-right q a in let e = add-mul (2 * t) K q in let f = mul-assoc 2 R q in let g = mul-assoc 2 t q in omega arith in
-        let y : 2 * (t * q) ≤ 2 * (R * q) + K * q = let h = mul-le-mul-right q b in let e = add-mul (2 * R) K q in let f = mul-assoc 2 R q in let g = mul-assoc 2 t q in omega arith in
-        omega arith
-within t K Q p q false even lo hi d =
-    let m = mul-left-comm Q 2 K in
-    let z = even refl in
-    let a : 2 * (Q * K) ≤ 2 * t + K = omega arith in
-    let b : 2 * t + 2 ≤ 2 * (Q * K) + K = omega arith in
-    scaled (Q * K) t K q a b p (d .0) (d .1)
-  where
-    scaled : (R t K q : ℕ) → 2 * R ≤ 2 * t + K → 2 * t + 2 ≤ 2 * R + K → (p : ℕ) → t * q ≤ p → p ≤ suc t * q → 2 * dist (R * q) p ≤ K * q
-    scaled R t K q a b p d e =
-        let x : 2 * (R * q) ≤ 2 * (t * q) + K * q = let h = mul-le-mul-right q a in let e = add-mul (2 * t) K q in let f = mul-assoc 2 R q in let g = mul-assoc 2 t q in omega arith in
-        let y : 2 * (t * q) + 2 * q ≤ 2 * (R * q) + K * q = let h = mul-le-mul-right q b in let e = add-mul (2 * R) K q in let f = mul-assoc 2 R q in let g = mul-assoc 2 t q in let i = add-mul (2 * t) 2 q in omega arith in
-        let s = suc-mul t q in
-        omega arith
+part-le : (exact : Bool) → part exact ≤ 1
+part-le true = omega arith
+part-le false = omega arith
 
--- no multiple of K is nearer
-multiple : (Q K e p q : ℕ) → 2 * dist (Q * K * q) p ≤ K * q → dist (Q * K * q) p ≤ dist (e * K * q) p
-multiple Q K e p q h = ⊎-elim (λ l. far l) (λ z. ⊎-elim (λ s. subst (λ (y : ℕ). dist (Q * K * q) p ≤ dist (y * K * q) p) (sym s) (let r : dist (Q * K * q) p ≤ dist (Q * K * q) p = omega arith in r)) (λ g. beyond g) z) (three e Q)
-  where
-    apart : (a b : ℕ) → a < b → a * K * q + K * q ≤ b * K * q
-    apart a b l = subst (λ (y : ℕ). y ≤ b * K * q) (ap (λ (y : ℕ). y * q) (suc-mul a K) ∙ add-mul (a * K) K q) (mul-le-mul-right q (mul-le-mul-right K l))
+-- the middle of r and u units is not beyond the number
+abbrev Beside : ℕ → Bool → ℕ → ℕ → Type 0
+Beside t exact r u = (u < r → r + u ≤ 2 * t) × (r < u → 2 * (t + part exact) ≤ r + u)
 
-    far : e < Q → dist (Q * K * q) p ≤ dist (e * K * q) p
-    far l = let a = apart e Q l in omega arith
+-- where a part is left K is even, so a bound of c * K by an odd number is one by the even number next to it
+sharp : (exact : Bool) (t K c : ℕ) → (exact ≡ false → (H : ℕ) × (K ≡ 2 * H)) → (c * K ≤ 2 * t + part exact → c * K ≤ 2 * t) × (2 * t + part exact ≤ c * K → 2 * (t + part exact) ≤ c * K)
+sharp true t K c even = (λ h. omega arith, λ h. omega arith)
+sharp false t K c even = let e : c * K ≡ 2 * (c * even refl .0) = ap (λ (y : ℕ). c * y) (even refl .1) ∙ mul-left-comm c 2 (even refl .0) in (λ h. omega arith, λ h. omega arith)
 
-    beyond : Q < e → dist (Q * K * q) p ≤ dist (e * K * q) p
-    beyond l = let a = apart Q e l in omega arith
+step : (a b K : ℕ) → a * K < b * K → a * K + K ≤ b * K
+step a b K h = subst (λ (y : ℕ). y ≤ b * K) (suc-mul a K) (mul-le-mul-right K (lt-of-mul-lt-mul-right K h))
 
--- ---- every double is a multiple of the step, or below the first number of the step's binade
+module _ (t r : ℕ) (exact : Bool) (R : Rounded (2 * t + part exact) 2 r) (big : exact ≡ false → 2 ^ 53 ≤ t) where
+  even : exact ≡ false → (H : ℕ) × (2 ^ R .k ≡ 2 * H)
+  even e = go (R .k) (R .most)
+    where
+      go : (k : ℕ) → 2 * t + part exact < 2 ^ 53 * (2 * 2 ^ k) → (H : ℕ) × (2 ^ k ≡ 2 * H)
+      go zero u = let b = big e in absurd (omega arith)
+      go (suc k) u = (2 ^ k, pow-succ' 2 k)
 
--- the exponent of the step between doubles around t units
-step-of : ℕ → ℕ
-step-of t = size t - 53
+  -- a multiple of the step 2 ^ k
+  multiple : (e : ℕ) → Beside t exact r (e * 2 ^ R .k)
+  multiple e =
+      let K = 2 ^ R .k in
+      let s = sharp exact t K (R .q + e) even in
+      let sum : (R .q + e) * K ≡ r + e * K = add-mul (R .q) e K ∙ ap (λ (y : ℕ). y + e * K) (sym (R .is)) in (
+        λ h. let l = step e (R .q) K (rw (R .is) at h) in rw sum at (s .0 (omega (arith, R .is, R .lo))),
+        λ h. let l = step (R .q) e K (rw (R .is) at h) in rw sum at (s .1 (omega (arith, R .is, R .hi))),
+      )
 
--- t and the half that stands for a part of a unit, in such steps
-abbrev steps : ℕ → Bool → ℕ
-steps t exact = closest (2 * t + cond exact 0 1) (2 * 2 ^ step-of t)
+  -- a double is such a multiple, or at most the first number of 53 digits at this step
+  beside : (w j : ℕ) → w < 2 ^ 53 → Beside t exact r (w * 2 ^ j)
+  beside w j s = ⊎-elim coarse fine (le-or-lt (R .k) j)
+    where
+      coarse : R .k ≤ j → Beside t exact r (w * 2 ^ j)
+      coarse l = rw (pow2-finer w l) (multiple (w * 2 ^ (j - R .k)))
 
-any-double : (t w j Q p q : ℕ) → w < 2 ^ 53 → t * q ≤ p → 2 * dist (Q * 2 ^ step-of t * q) p ≤ 2 ^ step-of t * q → dist (Q * 2 ^ step-of t * q) p ≤ dist (w * 2 ^ j * q) p
-unfolding step-of
-any-double t w j Q p q s lo h = ⊎-elim (λ z. coarse z) (λ l. fine l) (eq-zero-or-pos (size t - 53 - j))
-  where
-    coarse : size t - 53 - j ≡ 0 → dist (Q * 2 ^ (size t - 53) * q) p ≤ dist (w * 2 ^ j * q) p
-    coarse z =
-        let e : w * 2 ^ (j - (size t - 53)) * 2 ^ (size t - 53) ≡ w * 2 ^ j =
-        mul-assoc w (2 ^ (j - (size t - 53))) (2 ^ (size t - 53)) ∙ ap (λ (x : ℕ). w * x) (sym (pow-add 2 (j - (size t - 53)) (size t - 53)) ∙ ap (λ (x : ℕ). 2 ^ x) (let q : j - (size t - 53) + (size t - 53) ≡ j = omega arith in q)) in
-        subst (λ (y : ℕ). dist (Q * 2 ^ (size t - 53) * q) p ≤ dist (y * q) p) e (multiple Q (2 ^ (size t - 53)) (w * 2 ^ (j - (size t - 53))) p q h)
+      fine : j < R .k → Beside t exact r (w * 2 ^ j)
+      fine l =
+          let F = 2 ^ 52 * 2 ^ R .k in
+          let m = multiple (2 ^ 52) in
+          let under : w * 2 ^ j ≤ F = omega (arith, mul-le-mul-right (2 ^ j) (le-of-lt s), pow2-twice l) in
+          let first : F ≤ t = let o = part-le exact in ⊎-elim (λ z. absurd (omega arith)) (λ g. omega arith) (R .least) in (
+            λ h. ⊎-elim (λ g. omega arith) (λ g. let a = m .0 g in omega arith) (le-or-lt r F),
+            λ h. let a = m .1 (omega arith) in absurd (omega arith),
+          )
 
-    fine : 0 < size t - 53 - j → dist (Q * 2 ^ (size t - 53) * q) p ≤ dist (w * 2 ^ j * q) p
-    fine l =
-        let first : 2 ^ 52 * 2 ^ (size t - 53) ≤ t = subst (λ (y : ℕ). y ≤ t) (pow-add 2 52 (size t - 53)) (size-reaches t (52 + (size t - 53)) (let e : 52 + (size t - 53) < size t = omega arith in e)) in
-        let below : w * 2 ^ j ≤ 2 ^ 52 * 2 ^ (size t - 53) =
-        le-trans (mul-le-mul-right (2 ^ j) (let e : w ≤ 2 ^ 53 = omega arith in e))
-        (subst (λ (y : ℕ). 2 ^ 53 * 2 ^ j ≤ y) (pow-add 2 52 (size t - 53)) (subst (λ (y : ℕ). y ≤ 2 ^ (52 + (size t - 53))) (pow-add 2 53 j) (pow-mono (let e : 53 + j ≤ 52 + (size t - 53) = omega arith in e)))) in
-        let a : w * 2 ^ j * q ≤ 2 ^ 52 * 2 ^ (size t - 53) * q = mul-le-mul-right q below in
-        let b : 2 ^ 52 * 2 ^ (size t - 53) * q ≤ p = le-trans (mul-le-mul-right q first) lo in
-        between (Q * 2 ^ (size t - 53) * q) (w * 2 ^ j * q) (2 ^ 52 * 2 ^ (size t - 53) * q) p a b (multiple Q (2 ^ (size t - 53)) (2 ^ 52) p q h)
-      where
-        between : (A D F p : ℕ) → D ≤ F → F ≤ p → dist A p ≤ dist F p → dist A p ≤ dist D p
-        between A D F p a b h = omega arith
+-- ---- what `nearestOf` makes of them
 
--- ---- what `nearestOf` rounds to
+below-top : (t r : ℕ) (exact : Bool) → t < 2 ^ 2000 → Rounded (2 * t + part exact) 2 r → r < 2 ^ 2098
+below-top t r exact h R =
+    let o = part-le exact in
+    let s : 2 ^ R .k ≤ 2 * t + part exact + 1 = ⊎-elim (λ z. subst (λ (k : ℕ). 2 ^ k ≤ 2 * t + part exact + 1) (sym z) (omega arith)) (λ g. omega arith) (R .least) in
+    let l : r ≤ 2 * suc t = omega (arith, R .lo) in
+    lt-of-le-of-lt (le-trans l (mul-le-mul-left 2 h)) (lit< tt)
 
-rounded : (t : ℕ) (exact : Bool) → nearestOf t exact ≡ units binary64 false (steps t exact) (step-of t)
-unfolding nearestOf step-of
-rounded t exact =
-    let x = 2 * t + cond exact 0 1 in
-    round-is binary64 false x (2 ^ 1075)
-    ∙ ap (λ (z : ℕ). core binary64 false (x * 2 ^ 1074) (2 ^ 1075) (size z - 53)) (halved 1074 x ∙ half t exact)
-    ∙ ap (λ (z : ℕ). units binary64 false z (size t - 53)) (kept 1074 x (size t - 53))
-  where
-    half : (t : ℕ) (exact : Bool) → (2 * t + cond exact 0 1) / 2 ≡ t
-    half t true = omega arith
-    half t false = omega arith
+rounds : (t : ℕ) (exact : Bool) → t < 2 ^ 2000 → let r = unitsOf (nearestOf t exact) in HasValue (nearestOf t exact) false r (2 ^ 1074) × Rounded (2 * t + part exact) 2 r
+unfolding nearestOf
+rounds t exact h =
+    let x = 2 * t + part exact in
+    let q = kept 53 (x * 2 ^ 1074) (2 ^ 1075) in
+    let k = drop 53 (x * 2 ^ 1074) (2 ^ 1075) in
+    let R = same-fraction x 2 (pow-pos 1075) (zero-lt-suc 1) (mul-assoc x (2 ^ 1074) 2) (rounded (x * 2 ^ 1074) (2 ^ 1075) (pow-pos 1075)) in
+    let v : HasValue (nearestOf t exact) false (q * 2 ^ k) (2 ^ 1074) = rw (round-is binary64 false x (2 ^ 1075)) (units-val binary64 false q k (below-top t (q * 2 ^ k) exact h R)) in
+    rw (units-of (nearestOf t exact) false (q * 2 ^ k) v) (v, R)
 
-finite-value : (Q k : ℕ) → T (finite (units binary64 false Q k)) → HasValue (units binary64 false Q k) false (Q * 2 ^ k) (2 ^ 1074)
-unfolding units
-finite-value Q k h = go (ltb (Q * 2 ^ k) (2 ^ 2098)) h
-  where
-    go : (b : Bool) → T (finite (cond b (odd 54 false Q k 1074) (inf false))) → HasValue (cond b (odd 54 false Q k 1074) (inf false)) false (Q * 2 ^ k) (2 ^ 1074)
-    go true h = odd-sign 54 false Q k 1074
-    go false h = absurd h
+-- ---- the theorem, of a number that is t units and a part of one more, or t where it is exact
+module _ (t : ℕ) (exact : Bool) (small : t < 2 ^ 2000) where
+  pub nearest-value : HasValue (nearestOf t exact) false (unitsOf (nearestOf t exact)) (2 ^ 1074)
+  nearest-value = rounds t exact small .0
 
-even-step : (t : ℕ) → 2 ^ 53 ≤ t → 2 ^ step-of t % 2 ≡ 0
-unfolding step-of
-even-step t l =
-    let s : 53 < size t = lt-of-not-le (λ (g : size t ≤ 53). lt-irrefl (2 ^ 53) (lt-of-le-of-lt l (lt-of-lt-of-le (size-lt t) (pow-mono g)))) in
-    subst (λ (y : ℕ). 2 ^ y % 2 ≡ 0) (let e : suc (size t - 54) ≡ size t - 53 = omega arith in e) (subst (λ (y : ℕ). y % 2 ≡ 0) (sym (pow-succ' 2 (size t - 54))) (twice (2 ^ (size t - 54))))
-  where
-    twice : (y : ℕ) → 2 * y % 2 ≡ 0
-    twice y = omega arith
+  pub nearest-fits : fits binary64 (nearestOf t exact) ≡ true
+  unfolding nearestOf
+  nearest-fits = is-true _ (round-fits binary64 false (2 * t + part exact) (2 ^ 1075))
 
--- ---- the theorem
-
-at-least : (t : ℕ) (exact : Bool) (p q : ℕ) → Described t exact p q → t * q ≤ p
-at-least t true p q d = omega arith
-at-least t false p q d = d .0
-
-pub nearest-best : (t : ℕ) (exact : Bool) → (exact ≡ false → 2 ^ 53 ≤ t) → T (finite (nearestOf t exact))
-    → (p q : ℕ) → Described t exact p q → (d : Float) → T (fits binary64 d) → T (finite d) → dist (unitsOf (nearestOf t exact) * q) p ≤ away d p q
-nearest-best t exact big f p q x d g h = go d g h
-  where
-    r-is : unitsOf (nearestOf t exact) ≡ steps t exact * 2 ^ step-of t
-    r-is =
-        ap unitsOf (rounded t exact)
-        ∙ units-of (units binary64 false (steps t exact) (step-of t)) false _ (finite-value (steps t exact) (step-of t) (subst (λ (y : Float). T (finite y)) (rounded t exact) f))
-
-    near : 2 * dist (steps t exact * 2 ^ step-of t * q) p ≤ 2 ^ step-of t * q
-    near =
-        let c = closest-half (2 * t + cond exact 0 1) (2 * 2 ^ step-of t) (mul-pos (zero-lt-suc 1) (pow-pos (step-of t))) in
-        within t (2 ^ step-of t) (steps t exact) p q exact (λ e. even-step t (big e)) (c .0) (c .1) x
-
-    by-units : (n w j : ℕ) → Whole n w j → dist (unitsOf (nearestOf t exact) * q) p ≤ dist (n * q) p
-    by-units n w j s =
-        subst (λ (y : ℕ). dist (unitsOf (nearestOf t exact) * q) p ≤ dist (y * q) p) (s .value)
-        (subst (λ (y : ℕ). dist (y * q) p ≤ dist (w * 2 ^ j * q) p) (sym r-is) (any-double t w j (steps t exact) p q (s .short) (at-least t exact p q x) near))
-
-    farther : (a b c : ℕ) → c ≤ dist a b → c ≤ a + b
-    farther a b c l = omega arith
-
-    go : (d : Float) → T (fits binary64 d) → T (finite d) → dist (unitsOf (nearestOf t exact) * q) p ≤ away d p q
-    go nan g h = absurd h
-    go (inf s) g h = absurd h
-    go (fin false m e) g h = let s = shape false m e g in by-units (unitsOf (fin false m e)) (s .w) (s .k) (s .whole)
-    go (fin true m e) g h = let s = shape true m e g in farther (unitsOf (fin true m e) * q) p _ (by-units (unitsOf (fin true m e)) (s .w) (s .k) (s .whole))
+  -- it asks for 2 ^ 53 units where a part is left: below, a middle of two doubles may lie inside a unit
+  module _ (big : exact ≡ false → 2 ^ 53 ≤ t) (under over : ℕ → Type 0) (down : (a b : ℕ) → a ≤ b → under b → under a) (up : (a b : ℕ) → a ≤ b → over a → over b) (lo : under (2 * t)) (hi : over (2 * (t + part exact))) where
+    pub nearest-best : (d : Float) → fits binary64 d ≡ true → isFiniteOf d ≡ true
+        → let r = unitsOf (nearestOf t exact) in (unitsOf d < r → under (r + unitsOf d)) × (r < unitsOf d → over (r + unitsOf d))
+    unfolding isFiniteOf
+    nearest-best nan f g = absurd (true≢false (sym g))
+    nearest-best (inf s) f g = absurd (true≢false (sym g))
+    nearest-best (fin s m e) f g =
+        let r = unitsOf (nearestOf t exact) in
+        let u = unitsOf (fin s m e) in
+        let h = shape s m e (subst T (sym f) tt) in
+        let c : Beside t exact r u = rw (h .whole .value) at (beside t r exact (rounds t exact small .1) big (h .w) (h .k) (h .whole .short)) in
+        (λ l. down (r + u) (2 * t) (c .0 l) lo, λ l. up (2 * (t + part exact)) (r + u) (c .1 l) hi)

@@ -1,10 +1,3 @@
+pub mod Units
+pub mod Diff
 pub mod Rounded
-pub mod Value
-pub mod Exact
-pub mod Signed
-pub mod TwoSum
-pub mod Split
-pub mod TwoProd
-pub mod Parts
-pub mod Num
-pub mod Step

@@ -1,28 +1,29 @@
 -- The cases of the definition. Assumes nothing.
-use mathlib.Core.Path.{_≡_, sym, ap, _∙_}
+use mathlib.Core.Path.{_≡_, refl, sym, ap, _∙_}
 use mathlib.Core.Logic.{⊎-elim}
-use mathlib.Core.Bool.{true, false}
-use Prim.Native.Nat.{_*_, _^_}
+use mathlib.Core.Bool.{true, false, false≢true}
+use Prim.Native.Nat.{zero, suc, _*_, _^_}
+use native.Mathlib.Nat.{zero-lt-suc}
+use borrow.Author.Tests.{lt-ltb}
 use lib.IntN.{pos}
-use lib.Ieee.{Float, nan, fin, lt, eq}
+use lib.Ieee.{Float, nan, inf, fin, lt}
 use Rattle.float.specs.Units.{unitsOf}
 use Rattle.decode.specs.Exponent.{regularOf}
-use Rattle.decode.proofs.Class.{zero-is, negative-view, special-view, positive-view}
-use Rattle.sqrt.specs.Root.{sqrtOf}
-use Rattle.sqrt.proofs.Fine.{nearestRoot}
-
-pub root-zero : (x : Float) → eq x (fin false 0 (pos 0)) ≡ true → sqrtOf x ≡ x
-unfolding sqrtOf
-root-zero x e = let z = zero-is x e in ap sqrtOf (z .2) ∙ sym (z .2)
+use Rattle.decode.proofs.Class.{negative-view, positive-view}
+use Rattle.sqrt.specs.Root.{sqrtOf, nearestSqrt}
 
 pub root-negative : (x : Float) → lt x (fin false 0 (pos 0)) ≡ true → sqrtOf x ≡ nan
 unfolding sqrtOf
 root-negative x e = ⊎-elim (λ i. ap sqrtOf i) (λ v. ap sqrtOf (v .2)) (negative-view x e)
 
-pub root-special : (x : Float) → lt x (fin false 0 (pos 0)) ≡ false → eq x (fin false 0 (pos 0)) ≡ false → regularOf x ≡ false → sqrtOf x ≡ x
-unfolding sqrtOf
-root-special x a b r = ⊎-elim (λ i. ap sqrtOf i ∙ sym i) (λ i. ap sqrtOf i ∙ sym i) (special-view x a b r)
+pub root-special : (x : Float) → lt x (fin false 0 (pos 0)) ≡ false → regularOf x ≡ false → sqrtOf x ≡ x
+unfolding sqrtOf lt
+root-special nan t r = refl
+root-special (inf true) t r = absurd (false≢true (sym t))
+root-special (inf false) t r = refl
+root-special (fin s zero e) t r = refl
+root-special (fin s (suc m) e) t r = absurd (false≢true (sym r ∙ lt-ltb 0 (suc m) (zero-lt-suc m)))
 
-pub root-positive : (x : Float) → lt x (fin false 0 (pos 0)) ≡ false → regularOf x ≡ true → sqrtOf x ≡ nearestRoot (unitsOf x * 2 ^ 1074)
+pub root-positive : (x : Float) → lt x (fin false 0 (pos 0)) ≡ false → regularOf x ≡ true → sqrtOf x ≡ nearestSqrt (unitsOf x * 2 ^ 1074)
 unfolding sqrtOf
-root-positive x a r = let v = positive-view x a r in ap sqrtOf (v .2) ∙ ap (λ (y : Float). nearestRoot (unitsOf y * 2 ^ 1074)) (sym (v .2))
+root-positive x a r = let v = positive-view x a r in ap sqrtOf (v .2) ∙ ap (λ (y : Float). nearestSqrt (unitsOf y * 2 ^ 1074)) (sym (v .2))

@@ -1,3 +1,4 @@
+-- Below 0 the sign is turned; of the two zeros it gives +0; anything else keeps its sign, which is clear.
 use mathlib.Core.Path.{sym, subst}
 use lib.Dec.{T}
 use Rattle.float.proofs.Zero.{below-zero, not-below, abs-neg, abs-pos, abs-zero}

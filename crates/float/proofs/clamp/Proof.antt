@@ -1,4 +1,4 @@
-use mathlib.Core.Path.{sym, _∙_}
+-- Rust's own two tests, one after the other; the first leaves lo or x.
 use mathlib.Core.Logic.{⊎-elim}
 use Rattle.float.specs.Methods.{clampOf}
 use Rattle.float.proofs.clamp.Statement.{statement}

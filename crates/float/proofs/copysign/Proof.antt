@@ -1,3 +1,4 @@
+-- The size of x, turned where y is negative.
 use mathlib.Core.Path.{sym, ap, _∙_}
 use lib.Ieee.{neg}
 use Rattle.float.proofs.Zero.{sign-on, sign-off}

@@ -1,3 +1,4 @@
+-- The pattern is no NaN's.
 use lib.Ieee.{nanBits}
 use borrow.Author.Needs.{needs}
 use Rattle.float.proofs.infinity.Statement.{statement}

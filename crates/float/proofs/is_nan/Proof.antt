@@ -1,3 +1,4 @@
+-- Only NaN differs from itself.
 use Rattle.float.proofs.Zero.{ne-self}
 use Rattle.float.proofs.is_nan.Statement.{statement}
 use Rattle.float.proofs.is_nan.Tie as tie

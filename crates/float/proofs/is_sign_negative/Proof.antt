@@ -1,3 +1,4 @@
+-- Below 0 the sign is set; of a zero, 1 / x has it; anything else has it clear.
 use mathlib.Core.Path.{sym, subst}
 use lib.Dec.{T}
 use Rattle.float.proofs.Zero.{below-zero, not-below, zero-sign}

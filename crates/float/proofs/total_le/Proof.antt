@@ -1,3 +1,4 @@
+-- Each way out is one term of the definition.
 use mathlib.Core.Path.{sym, _∙_}
 use Rattle.float.specs.Methods.{totalLeOf}
 use borrow.Author.Needs.{needs}

@@ -1,72 +1,52 @@
 -- `sqrt::sqrt` meets its contract: by the cases of the definition. Assumes nothing.
-use mathlib.Core.Path.{sym, _∙_}
-use Prim.Native.Nat.{_%_}
+use mathlib.Core.Path.{refl, sym, _∙_}
 use native.Mathlib.Omega.{arith}
-use borrow.Author.Tests.{not-true, not-false}
 use lib.Ieee.{ofBits, div}
-use Rattle.float.specs.Units.{unitsOf}
-use Rattle.decode.proofs.Class.{regular-finite, regular-units}
-use Rattle.sqrt.proofs.Squares.{half-bounds}
-use Rattle.sqrt.proofs.Fine.{digits, root-of}
-use Rattle.sqrt.proofs.Cases.{root-zero, root-negative, root-special, root-positive}
+use Rattle.decode.proofs.Class.{decoded-irregular, decoded-regular, decoded-normal}
+use Rattle.nearest.proofs.Powers.{half-digits}
+use Rattle.sqrt.proofs.Squares.{squares, root-of}
+use Rattle.sqrt.proofs.Cases.{root-negative, root-special, root-positive}
 use borrow.Author.Needs.{needs}
 use Rattle.sqrt.proofs.sqrt.Statement.{statement}
 use Rattle.sqrt.proofs.sqrt.Tie as tie
 
 returns : tie.Need-returns
-unfolding ofBits
-returns c = sym (root-zero (c .before .args .x) (c .if1 .taken))
-
-returns-2 : tie.Need-returns-2
 unfolding ofBits div
-returns-2 c = sym (root-negative (c .before .before .args .x) (c .if2 .taken))
-
-regular-requires : tie.Need-regular-requires
-regular-requires c κs = search needs
-
-returns-3 : tie.Need-returns-3
-unfolding ofBits
-returns-3 c = sym (root-special (c .before .before .before .before .args .x) (c .before .before .if2 .left) (c .before .before .before .if1 .left) (sym (c .before .regular .ensures) ∙ not-true _ (c .if3 .taken)))
+returns c = sym (root-negative _ (c .if1 .taken))
 
 normal-of-requires : tie.Need-normal-of-requires
-normal-of-requires c κs =
-    let a = c .before .before .before .before in
-    let r = sym (c .before .regular .ensures) ∙ not-false _ (c .if3 .left) in
-    (regular-finite (a .args .x) r, regular-units (a .args .x) (a .good .0 .1) r)
+normal-of-requires c κs = search needs
+
+returns-2 : tie.Need-returns-2
+unfolding ofBits
+returns-2 c = sym (root-special _ (c .before .before .before .if1 .left) (decoded-irregular _ _ _ (c .before .before .normal-of .ensures) (c .if2 .taken)))
 
 nearest-root-requires : tie.Need-nearest-root-requires
-nearest-root-requires c κs = search needs
+nearest-root-requires c κs =
+    let n = decoded-normal _ _ _ (c .before .before .before .normal-of .ensures) (c .before .if2 .left) in
+    (n .led, (n .short, omega arith))
 
 add-from-units : tie.Need-add-from-units
-add-from-units c = search needs
+add-from-units c = omega (arith, decoded-normal _ _ _ (c .before .before .before .before .before .normal-of .ensures) (c .before .before .before .if2 .left) .reach)
 
 from-units-requires : tie.Need-from-units-requires
 from-units-requires c κs =
-    let d = c .before .before .before .normal-of in
-    let n = digits (d .result .w) (d .result .k % 2) (d .ensures .led) (d .ensures .short) (omega arith) in
-    let h = half-bounds _ (n .0) (n .1) _ (c .before .nearest-root .ensures) in
-    (h .0, (h .1, omega (arith, d .ensures .reach)))
+    let d = c .before .before .before .before .before .normal-of in
+    let n = decoded-normal _ _ _ (d .ensures) (c .before .before .before .if2 .left) in
+    let h = half-digits 2 _ squares 54 refl _ _ _ _ n (c .before .nearest-root .ensures) in
+    (h .0, (h .1, omega (arith, n .reach)))
 
-returns-4 : tie.Need-returns-4
+returns-3 : tie.Need-returns-3
 unfolding ofBits
-returns-4 c =
-    let d = c .before .before .before .before .normal-of in
-    let x = c .before .before .before .before .before .before .before .before .before .args .x in
-    let r = sym (c .before .before .before .before .before .before .regular .ensures) ∙ not-false _ (c .before .before .before .before .before .if3 .left) in
+returns-3 c =
+    let d = c .before .before .before .before .before .before .normal-of in
+    let some = c .before .before .before .before .if2 .left in
+    let n = decoded-normal _ _ _ (d .ensures) some in
     c .from-units .ensures
-    ∙ sym (root-of (unitsOf x) (d .result .w) (d .result .k) (c .before .before .nearest-root .result) (d .ensures) (c .before .before .nearest-root .ensures))
-    ∙ sym (root-positive x (c .before .before .before .before .before .before .before .if2 .left) r)
+    ∙ sym (root-of _ (d .result .w) (d .result .k) _ n (c .before .before .nearest-root .ensures))
+    ∙ sym (root-positive _ (c .before .before .before .before .before .before .before .if1 .left) (decoded-regular _ _ _ (d .ensures) some))
 
 pub sqrt-spec : {M : Type 1} → statement M
 sqrt-spec =
     tie.close
-    (tie.spec
-    returns
-    returns-2
-    regular-requires
-    returns-3
-    normal-of-requires
-    nearest-root-requires
-    add-from-units
-    from-units-requires
-    returns-4)
+    (tie.spec returns normal-of-requires returns-2 nearest-root-requires add-from-units from-units-requires returns-3)

@@ -1,0 +1,25 @@
+-- `angle::rough` is safe.
+use native.Mathlib.Omega.{arith}
+use Rattle.scale.proofs.Pack.{pack-not-nan}
+use Rattle.nearest.proofs.Digits.{at-least-not-nan}
+use borrow.Author.Needs.{needs}
+use Rattle.angle.proofs.rough.Statement.{statement}
+use Rattle.angle.proofs.rough.Tie as tie
+
+float-to-bits-s : tie.Need-float-to-bits-s
+float-to-bits-s c = at-least-not-nan _ _ (c .if1 .taken)
+
+add-s : tie.Need-add-s
+add-s c = search needs
+
+float-from-bits-s : tie.Need-float-from-bits-s
+float-from-bits-s c = pack-not-nan _ (omega arith)
+
+returns : tie.Need-returns
+returns c = search needs
+
+returns-2 : tie.Need-returns-2
+returns-2 c = search needs
+
+pub rough-spec : {M : Type 1} → statement M
+rough-spec = tie.close (tie.spec float-to-bits-s add-s float-from-bits-s returns returns-2)

@@ -1,0 +1,75 @@
+-- A finite double is its sign and its units. Assumes nothing.
+use mathlib.Core.Path.{_≡_, refl, sym, ap, ap₂, _∙_, subst}
+use mathlib.Core.Bool.{Bool, true, cond, true≢false}
+use Prim.Native.Nat.{ℕ, _+_, _-_, _*_, _/_, _^_, _<_}
+use native.Mathlib.Nat.{mul-assoc}
+use lib.Dec.{T}
+use lib.Pow.{pow-pos}
+use lib.Ieee.{Float, nan, inf, fin, binary64, up, down, size, round, toBits, ofBits}
+use lib.Ieee.Bits.{is-true, ofBits-toBits}
+use lib.Ieee.Exact.{HasValue, round-exact}
+use lib.Ieee.Fits.{round-fits}
+use Rattle.float.specs.Methods.{isFiniteOf, isSignNegativeOf}
+use Rattle.float.specs.Units.{unitsOf}
+use Rattle.decode.proofs.Fields.{shape}
+use Rattle.rounding.specs.Units.{oneUnits}
+use Rattle.rounding.proofs.Value.{exponent, fits-says}
+use Rattle.nearest.proofs.Best.{units-of}
+use Rattle.demands.specs.Demands.{Finite}
+use Rattle.demands.proofs.Nearest.{has-sign, units-below}
+
+pub units-exact : (x : Float) → Finite x → HasValue x (isSignNegativeOf x) (unitsOf x) (2 ^ 1074)
+unfolding isFiniteOf isSignNegativeOf oneUnits
+units-exact nan f = absurd (true≢false (sym (f .finite)))
+units-exact (inf s) f = absurd (true≢false (sym (f .finite)))
+units-exact (fin s m e) f =
+    let i = exponent e (fits-says s m e (subst T (sym (f .held)) tt) .1) in
+    let v : HasValue (fin s m e) s (m * 2 ^ i .0) (2 ^ 1074) = (refl, mul-assoc m (up e) (2 ^ 1074) ∙ ap (λ (a : ℕ). m * a) (i .1) ∙ sym (mul-assoc m (2 ^ i .0) (down e))) in
+    rw (units-of (fin s m e) s (m * 2 ^ i .0) v) v
+
+-- ---- the bits are made of the sign and the units
+
+same-bits : (x y : Float) → isFiniteOf x ≡ true → isFiniteOf y ≡ true → isSignNegativeOf x ≡ isSignNegativeOf y → unitsOf x ≡ unitsOf y → toBits binary64 x ≡ toBits binary64 y
+unfolding toBits isFiniteOf isSignNegativeOf
+same-bits (fin s m e) (fin t n d) f g a b = ap₂ (λ (s : Bool) (n : ℕ). cond s (2 ^ 63) 0 + (size n - 53) * 2 ^ 52 + n / 2 ^ (size n - 53)) a b
+same-bits nan y f g a b = absurd (true≢false (sym f))
+same-bits (inf s) y f g a b = absurd (true≢false (sym f))
+same-bits (fin s m e) nan f g a b = absurd (true≢false (sym g))
+same-bits (fin s m e) (inf t) f g a b = absurd (true≢false (sym g))
+
+pub only-one : (x y : Float) → Finite x → Finite y → isSignNegativeOf x ≡ isSignNegativeOf y → unitsOf x ≡ unitsOf y → x ≡ y
+only-one x y f g a b =
+    sym (ofBits-toBits binary64 x (subst T (sym (f .held)) tt)) ∙ ap (ofBits binary64) (same-bits x y (f .finite) (g .finite) a b) ∙ ofBits-toBits binary64 y (subst T (sym (g .held)) tt)
+
+-- ---- the double of n units, where n is w * 2 ^ j
+
+unfoldable pub doubleOf : Bool → ℕ → Float
+unfolding round
+doubleOf s n = round binary64 s n (2 ^ 1074)
+
+pub record Held (n : ℕ) : Type 0 where
+  pub w : ℕ
+  pub j : ℕ
+  pub is : n ≡ w * 2 ^ j
+  pub short : w < 2 ^ 53
+  pub reach : n < 2 ^ 2098
+
+pub held : (x : Float) → Finite x → Held (unitsOf x)
+unfolding isFiniteOf
+held nan f = absurd (true≢false (sym (f .finite)))
+held (inf s) f = absurd (true≢false (sym (f .finite)))
+held (fin s m e) f = let h = shape s m e (subst T (sym (f .held)) tt) in record { w = h .w; j = h .k; is = sym (h .whole .value); short = h .whole .short; reach = units-below (fin s m e) f }
+
+pub double-value : (s : Bool) (n : ℕ) → Held n → HasValue (doubleOf s n) s n (2 ^ 1074)
+unfolding doubleOf
+double-value s n h = round-exact binary64 s n (2 ^ 1074) (h .w) (h .j) (pow-pos 1074) (h .short) (rw (h .is) at (h .reach)) (ap (λ (a : ℕ). a * 2 ^ 1074) (h .is))
+
+-- x is that double
+pub itself : (x : Float) → Finite x → x ≡ doubleOf (isSignNegativeOf x) (unitsOf x)
+unfolding doubleOf
+itself x f =
+    let s = isSignNegativeOf x in
+    let n = unitsOf x in
+    let v = double-value s n (held x f) in
+    let g = has-sign (doubleOf s n) s n (2 ^ 1074) v in
+    only-one x (doubleOf s n) f (record { held = is-true _ (round-fits binary64 s n (2 ^ 1074)); finite = g .0 }) (sym (g .1)) (sym (units-of (doubleOf s n) s n v))

@@ -1,0 +1,26 @@
+-- Bytes that are stored whole, or not at all.
+-- Assumes nothing.
+use mathlib.Core.Path.{_≡_, refl, sym, ap, _∙_}
+use mathlib.Core.List.{List, []}
+use Prim.Native.Nat.{ℕ, _<_, _≤_}
+use native.Mathlib.Omega.{arith}
+use lib.ListN.{length}
+use lib.Seq.{sets}
+use borrow.Author.Tests.{lt-ltb, le-ltb}
+use Rattle.exports.specs.Bytes.{whole}
+
+-- what a function that stores t whole says of its answer n and of the bytes m that it leaves where l were
+abbrev pub Stored : List ℕ → List ℕ → ℕ → List ℕ → Type 0
+Stored t l n m = (n ≡ length (whole t (length l))) × (m ≡ sets l 0 (whole t (length l)))
+
+pub refused : (t l : List ℕ) → length l < length t → Stored t l 0 l
+unfolding whole
+refused t l h = simp (lt-ltb _ _ h) (refl, refl)
+
+pub nothing : (t l : List ℕ) → t ≡ [] → Stored t l 0 l
+unfolding whole
+nothing t l e = rw e (simp (le-ltb (length l) 0 (omega arith)) (refl, refl))
+
+pub stored : (t l m : List ℕ) (n : ℕ) → length t ≤ length l → n ≡ length t → m ≡ sets l 0 t → Stored t l n m
+unfolding whole
+stored t l m n h e p = simp (le-ltb _ _ h) (e, p)

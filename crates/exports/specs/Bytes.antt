@@ -1,0 +1,30 @@
+-- What exports store in lent bytes. Definitions only.
+use mathlib.Core.Bool.{cond}
+use mathlib.Core.List.{List, [], _∷_, flatMap}
+use Prim.Native.Nat.{ℕ}
+use lib.Dec.{ltb}
+use lib.ListN.{length}
+use lib.Ieee.{Float, binary64, toBits}
+use Rattle.float.specs.Bytes.{f64At, bytesOf}
+use Rattle.angle.specs.Third.{thirdAngleOf}
+use Rattle.log2.specs.Log.{log2FiveOf}
+
+-- the bits of a double in eight bytes, lowest first
+abbrev pub doubleBytes : Float → List ℕ
+doubleBytes x = bytesOf (toBits binary64 x)
+
+-- doubles one after another
+abbrev pub doublesBytes : List Float → List ℕ
+doublesBytes xs = flatMap doubleBytes xs
+
+-- t where n bytes have room for all of it, and nothing where not
+unfoldable pub whole : List ℕ → ℕ → List ℕ
+whole t n = cond (ltb n (length t)) [] t
+
+-- the cosine and the sine of a third of the angle whose cosine is v
+unfoldable pub thirdAngleBytes : Float → List ℕ
+thirdAngleBytes v = doublesBytes (thirdAngleOf v .cos ∷ thirdAngleOf v .sin ∷ [])
+
+-- L of the five doubles in the first 40 bytes, and nothing where there are fewer bytes
+unfoldable pub log2FiveBytes : List ℕ → List ℕ
+log2FiveBytes a = cond (ltb (length a) 40) [] (doublesBytes (log2FiveOf (f64At a 0 ∷ f64At a 8 ∷ f64At a 16 ∷ f64At a 24 ∷ f64At a 32 ∷ [])))

@@ -1,0 +1,113 @@
+// The leaves: scaling, exponent, roots, logarithm, third angle.
+ghost use mathlib.Core.Path.{_≡_};
+ghost use lib.ListN.{length};
+ghost use lib.Seq.{sets};
+ghost use Rattle.scale.specs.Scale.{ldexpOf};
+ghost use Rattle.decode.specs.Exponent.{exponentOf};
+ghost use Rattle.log2.specs.Log.{log2GridOf};
+ghost use Rattle.sqrt.specs.Root.{sqrtOf};
+ghost use Rattle.cbrt.specs.Root.{cbrtOf};
+ghost use Rattle.angle.specs.Third.{thirdAngleOf};
+ghost use Rattle.exports.specs.Bytes.{whole, thirdAngleBytes, log2FiveBytes};
+ghost use Rattle.exports.specs.Total.{pow2OrNan};
+use crate::bytes::put_all;
+
+#[no_mangle]
+pub extern "C" fn leaf_ldexp(x: f64, k: i32) -> f64
+    ensures { λ r. ⌜ r ≡ ldexpOf x k ⌝ }
+{
+    scale::ldexp(x, k)
+}
+
+#[no_mangle]
+pub extern "C" fn leaf_pow2(k: i32) -> f64
+    ensures { λ r. ⌜ r ≡ pow2OrNan k ⌝ }
+{
+    if k < -1022 {
+        return 0.0 / 0.0;
+    }
+    if 1023 < k {
+        return 0.0 / 0.0;
+    }
+    scale::pow2(k)
+}
+
+#[no_mangle]
+pub extern "C" fn leaf_exponent(x: f64) -> i32
+    ensures { λ r. ⌜ r ≡ exponentOf x ⌝ }
+{
+    decode::exponent(x)
+}
+
+#[no_mangle]
+pub extern "C" fn leaf_sqrt(x: f64) -> f64
+    ensures { λ r. ⌜ r ≡ sqrtOf x ⌝ }
+{
+    sqrt::sqrt(x)
+}
+
+#[no_mangle]
+pub extern "C" fn leaf_cbrt(x: f64) -> f64
+    ensures { λ r. ⌜ r ≡ cbrtOf x ⌝ }
+{
+    cbrt::cbrt(x)
+}
+
+#[no_mangle]
+pub extern "C" fn leaf_log2(x: f64) -> f64
+    ensures { λ r. ⌜ r ≡ log2GridOf x ⌝ }
+{
+    log2::log2_grid(x)
+}
+
+#[no_mangle]
+pub extern "C" fn leaf_third_cos(v: f64) -> f64
+    ensures { λ r. ⌜ r ≡ thirdAngleOf v .cos ⌝ }
+{
+    let t = angle::third_angle(v);
+    t.cos
+}
+
+#[no_mangle]
+pub extern "C" fn leaf_third_sin(v: f64) -> f64
+    ensures { λ r. ⌜ r ≡ thirdAngleOf v .sin ⌝ }
+{
+    let t = angle::third_angle(v);
+    t.sin
+}
+
+// c and s into 16 bytes; how many bytes are stored.
+#[no_mangle]
+pub extern "C" fn leaf_third_angle(v: f64, out: &mut [u8]) -> u64
+    ensures { λ r. ⌜ r ≡ length (whole (thirdAngleBytes v) (length (now (out .entry)))) ⌝ }
+    ensures { λ _. ⌜ now (out .exit) ≡ sets (now (out .entry)) 0 (whole (thirdAngleBytes v) (length (now (out .entry)))) ⌝ }
+{
+    if out.len() < 16 {
+        return 0;
+    }
+    let t = angle::third_angle(v);
+    put_all(out, &[t.cos, t.sin]);
+    16
+}
+
+// L of five doubles in 40 bytes, into 40 bytes; how many bytes are stored.
+#[no_mangle]
+pub extern "C" fn leaf_log2_five(a: &[u8], out: &mut [u8]) -> u64
+    ensures { λ r. ⌜ r ≡ length (whole (log2FiveBytes (now (a .entry))) (length (now (out .entry)))) ⌝ }
+    ensures { λ _. ⌜ now (out .exit) ≡ sets (now (out .entry)) 0 (whole (log2FiveBytes (now (a .entry))) (length (now (out .entry)))) ⌝ }
+{
+    if a.len() < 40 {
+        return 0;
+    }
+    if out.len() < 40 {
+        return 0;
+    }
+    let x0 = float::f64_at(a, 0);
+    let x1 = float::f64_at(a, 8);
+    let x2 = float::f64_at(a, 16);
+    let x3 = float::f64_at(a, 24);
+    let x4 = float::f64_at(a, 32);
+    let logs = log2::log2_five([x0, x1, x2, x3, x4]);
+    put_all(out, &logs);
+    40
+}

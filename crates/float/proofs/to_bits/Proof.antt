@@ -1,0 +1,23 @@
+-- The NaN is picked out by `is_nan`; every other double has bits of its own.
+use borrow.Author.Needs.{needs}
+use mathlib.Core.Path.{sym, subst, _∙_}
+use mathlib.Core.Bool.{Bool, not}
+use lib.Dec.{T}
+use Rattle.float.proofs.Bits.{nan-bits}
+use Rattle.float.proofs.to_bits.Statement.{statement}
+use Rattle.float.proofs.to_bits.Tie as tie
+
+is-nan-requires : tie.Need-is-nan-requires
+is-nan-requires c κs = search needs
+
+returns : tie.Need-returns
+returns c = nan-bits _ (sym (c .before .is-nan .ensures) ∙ c .if1 .taken)
+
+float-to-bits-result : tie.Need-float-to-bits-result
+float-to-bits-result c = subst (λ (b : Bool). T (not b)) (sym (c .if1 .left) ∙ c .before .is-nan .ensures) tt
+
+returns-2 : tie.Need-returns-2
+returns-2 c = search needs
+
+pub to-bits-spec : {M : Type 1} → statement M
+to-bits-spec = tie.close (tie.spec is-nan-requires returns float-to-bits-result returns-2)

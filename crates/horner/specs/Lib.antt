@@ -1,0 +1,4 @@
+pub mod Loops
+pub mod Product
+pub mod Horner
+pub mod Taylor

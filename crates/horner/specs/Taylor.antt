@@ -1,0 +1,38 @@
+-- Derivatives and Taylor coefficients. p holds the coefficients, ascending, and d is the degree. Definitions only.
+use Prim.Native.Nat.{ℕ, _+_}
+use mathlib.Core.Bool.{cond}
+use mathlib.Core.List.{List}
+use lib.Dec.{leb}
+use lib.IntN.{pos}
+use lib.ListN.{getD, set}
+use lib.Ieee.{Float, nan, binary64, add, sub, mul, ofInt}
+use Rattle.facts.specs.Count.{countUp}
+use Rattle.float.specs.Literals.{zero64, one64}
+use Rattle.horner.specs.Loops.{downTo}
+use Rattle.horner.specs.declared.Derivs.{Derivs}
+
+-- one turn of `derivs12`, at place i: the factors are i and i * (i - 1)
+unfoldable pub derivsStep : List Float → Float → ℕ → Derivs → Derivs
+derivsStep p y i h =
+    let k = ofInt binary64 (pos i) in
+    let a = getD p i nan in
+    record {
+      d1 = add binary64 (mul binary64 (h .d1) y) (mul binary64 k a);
+      d2 = cond (leb 2 i) (add binary64 (mul binary64 (h .d2) y) (mul binary64 (mul binary64 k (sub binary64 k one64)) a)) (h .d2);
+    }
+
+-- `derivs12`: the first and second derivative at y
+unfoldable pub derivs12Of : List Float → ℕ → Float → Derivs
+derivs12Of p d y = downTo 1 (derivsStep p y) (d + 1) (record { d1 = zero64; d2 = zero64 })
+
+-- t[i] += y * t[i + 1]
+unfoldable pub taylorStep : Float → ℕ → List Float → List Float
+taylorStep y i t = set t i (add binary64 (getD t i nan) (mul binary64 y (getD t (i + 1) nan)))
+
+-- the inner loop of `taylor`, one synthetic division from d down to k: t[k] becomes final
+unfoldable pub sweepOf : Float → ℕ → ℕ → List Float → List Float
+sweepOf y d k t = downTo k (taylorStep y) d t
+
+-- `taylor`: the coefficients of p about y
+unfoldable pub taylorOf : List Float → ℕ → Float → List Float
+taylorOf p d y = countUp d (sweepOf y d) d p

@@ -1,0 +1,194 @@
+-- `leafcases::lines::put_answer` meets its contract: each leaf's line is that of its letter, and no other letter has one.
+-- Assumes nothing.
+use borrow.Author.Needs.{needs}
+use borrow.Author.Tests.{ne-eqb}
+use mathlib.Core.Path.{_≡_, sym}
+use mathlib.Core.List.{[]}
+use native.Mathlib.Omega.{arith}
+use mir.Facts.{toZ-ofZ}
+use Rattle.text.proofs.Laws.{written-none, written-as}
+use Rattle.leafcases.specs.Lines.{answerOf}
+use Rattle.leafcases.proofs.Answers.{sqrt-line, cbrt-line, third-line, log2-line, ldexp-line, exponent-line, pow2-line}
+use Rattle.leafcases.proofs.lines.put_answer.Statement.{statement}
+use Rattle.leafcases.proofs.lines.put_answer.Tie as tie
+
+sqrt-requires : tie.Need-sqrt-requires
+sqrt-requires c κs = search needs
+
+slice-aggregate-put-line : tie.Need-slice-aggregate-put-line
+slice-aggregate-put-line c = search needs
+
+put-line-requires : tie.Need-put-line-requires
+put-line-requires c κs = search needs
+
+same-length : tie.Need-same-length
+same-length c = search needs
+
+returns : tie.Need-returns
+returns c =
+    let leaf = c .before .before .before .before .before in
+    let start = leaf .before .before .before in
+    let put = c .before .before .put-line .ensures in
+    (written-as (sqrt-line (start .args .letter) (start .args .x) (start .args .k) (leaf .sqrt .result) (leaf .before .if1 .taken) (leaf .sqrt .ensures)) (put .0), put .1)
+
+cbrt-requires : tie.Need-cbrt-requires
+cbrt-requires c κs = search needs
+
+slice-aggregate-put-line-2 : tie.Need-slice-aggregate-put-line-2
+slice-aggregate-put-line-2 c = search needs
+
+put-line-requires-2 : tie.Need-put-line-requires-2
+put-line-requires-2 c κs = search needs
+
+same-length-2 : tie.Need-same-length-2
+same-length-2 c = search needs
+
+returns-2 : tie.Need-returns-2
+returns-2 c =
+    let leaf = c .before .before .before .before .before in
+    let start = leaf .before .before .before .before in
+    let put = c .before .before .put-line2 .ensures in
+    (written-as (cbrt-line (start .args .letter) (start .args .x) (start .args .k) (leaf .cbrt .result) (leaf .before .if2 .taken) (leaf .cbrt .ensures)) (put .0), put .1)
+
+third-angle-requires : tie.Need-third-angle-requires
+third-angle-requires c κs = search needs
+
+slice-aggregate-put-line-3 : tie.Need-slice-aggregate-put-line-3
+slice-aggregate-put-line-3 c = search needs
+
+put-line-requires-3 : tie.Need-put-line-requires-3
+put-line-requires-3 c κs = search needs
+
+same-length-3 : tie.Need-same-length-3
+same-length-3 c = search needs
+
+returns-3 : tie.Need-returns-3
+returns-3 c =
+    let leaf = c .before .before .before .before .before in
+    let start = leaf .before .before .before .before .before in
+    let put = c .before .before .put-line3 .ensures in
+    (written-as (third-line (start .args .letter) (start .args .x) (start .args .k) (leaf .third-angle .result) (leaf .before .if3 .taken) (leaf .third-angle .ensures)) (put .0), put .1)
+
+log2-grid-requires : tie.Need-log2-grid-requires
+log2-grid-requires c κs = search needs
+
+slice-aggregate-put-line-4 : tie.Need-slice-aggregate-put-line-4
+slice-aggregate-put-line-4 c = search needs
+
+put-line-requires-4 : tie.Need-put-line-requires-4
+put-line-requires-4 c κs = search needs
+
+same-length-4 : tie.Need-same-length-4
+same-length-4 c = search needs
+
+returns-4 : tie.Need-returns-4
+returns-4 c =
+    let leaf = c .before .before .before .before .before in
+    let start = leaf .before .before .before .before .before .before in
+    let put = c .before .before .put-line4 .ensures in
+    (written-as (log2-line (start .args .letter) (start .args .x) (start .args .k) (leaf .log2-grid .result) (leaf .before .if4 .taken) (leaf .log2-grid .ensures)) (put .0), put .1)
+
+ldexp-requires : tie.Need-ldexp-requires
+ldexp-requires c κs = search needs
+
+slice-aggregate-put-line-5 : tie.Need-slice-aggregate-put-line-5
+slice-aggregate-put-line-5 c = search needs
+
+put-line-requires-5 : tie.Need-put-line-requires-5
+put-line-requires-5 c κs = search needs
+
+same-length-5 : tie.Need-same-length-5
+same-length-5 c = search needs
+
+returns-5 : tie.Need-returns-5
+returns-5 c =
+    let leaf = c .before .before .before .before .before in
+    let start = leaf .before .before .before .before .before .before .before in
+    let put = c .before .before .put-line5 .ensures in
+    (written-as (ldexp-line (start .args .letter) (start .args .x) (start .args .k) _ (leaf .ldexp .result) (leaf .before .if5 .taken) (toZ-ofZ (start .fits .k)) (leaf .ldexp .ensures)) (put .0), put .1)
+
+exponent-requires : tie.Need-exponent-requires
+exponent-requires c κs = search needs
+
+slice-aggregate-put-line-6 : tie.Need-slice-aggregate-put-line-6
+slice-aggregate-put-line-6 c = search needs
+
+put-line-requires-6 : tie.Need-put-line-requires-6
+put-line-requires-6 c κs = search needs
+
+same-length-6 : tie.Need-same-length-6
+same-length-6 c = search needs
+
+returns-6 : tie.Need-returns-6
+returns-6 c =
+    let leaf = c .before .before .before .before .before in
+    let start = leaf .before .before .before .before .before .before .before .before in
+    let put = c .before .before .put-line6 .ensures in
+    (written-as (exponent-line (start .args .letter) (start .args .x) (start .args .k) _ (leaf .exponent .result) (leaf .before .if6 .taken) (toZ-ofZ (record { sfits = leaf .exponent .ok })) (leaf .exponent .ensures)) (put .0), put .1)
+
+leaf-pow2-requires : tie.Need-leaf-pow2-requires
+leaf-pow2-requires c κs = search needs
+
+slice-aggregate-put-line-7 : tie.Need-slice-aggregate-put-line-7
+slice-aggregate-put-line-7 c = search needs
+
+put-line-requires-7 : tie.Need-put-line-requires-7
+put-line-requires-7 c κs = search needs
+
+same-length-7 : tie.Need-same-length-7
+same-length-7 c = search needs
+
+returns-7 : tie.Need-returns-7
+returns-7 c =
+    let leaf = c .before .before .before .before .before in
+    let start = leaf .before .before .before .before .before .before .before .before .before in
+    let put = c .before .before .put-line7 .ensures in
+    (written-as (pow2-line (start .args .letter) (start .args .x) (start .args .k) _ (leaf .leaf-pow2 .result) (leaf .before .if7 .taken) (toZ-ofZ (start .fits .k)) (leaf .leaf-pow2 .ensures)) (put .0), put .1)
+
+returns-8 : tie.Need-returns-8
+unfolding answerOf
+returns-8 c =
+    let a = c .before .before .before .before .before .before .before .before .args in
+    let none : answerOf (a .letter) (a .x) (a .k) ≡ [] = simp (ne-eqb _ _ (c .before .before .before .before .before .before .if1 .left), ne-eqb _ _ (c .before .before .before .before .before .if2 .left), ne-eqb _ _ (c .before .before .before .before .if3 .left), ne-eqb _ _ (c .before .before .before .if4 .left), ne-eqb _ _ (c .before .before .if5 .left), ne-eqb _ _ (c .before .if6 .left), ne-eqb _ _ (c .if7 .left)) in
+    (written-as (sym none) (written-none (a .out .now) (a .at)), omega arith)
+
+pub put-answer-spec : {M : Type 1} → statement M
+put-answer-spec =
+    tie.close
+    (tie.spec
+    sqrt-requires
+    slice-aggregate-put-line
+    put-line-requires
+    same-length
+    returns
+    cbrt-requires
+    slice-aggregate-put-line-2
+    put-line-requires-2
+    same-length-2
+    returns-2
+    third-angle-requires
+    slice-aggregate-put-line-3
+    put-line-requires-3
+    same-length-3
+    returns-3
+    log2-grid-requires
+    slice-aggregate-put-line-4
+    put-line-requires-4
+    same-length-4
+    returns-4
+    ldexp-requires
+    slice-aggregate-put-line-5
+    put-line-requires-5
+    same-length-5
+    returns-5
+    exponent-requires
+    slice-aggregate-put-line-6
+    put-line-requires-6
+    same-length-6
+    returns-6
+    leaf-pow2-requires
+    slice-aggregate-put-line-7
+    put-line-requires-7
+    same-length-7
+    returns-7
+    returns-8)

@@ -1,0 +1,123 @@
+-- `leafcases::lines::put_record` meets its contract: its tests are those of the definition, and where they all pass the line is that of the record's letter.
+-- Assumes nothing.
+use borrow.Author.Needs.{needs}
+use borrow.Author.Tests.{not-true, not-false}
+use native.Mathlib.Omega.{arith}
+use mathlib.Core.Path.{_≡_, sym, ap, subst, _∙_}
+use mathlib.Core.List.{List}
+use Prim.Native.Nat.{ℕ, _+_, _-_, _/_, _^_, _<_, _≤_}
+use lib.Dec.{eqb}
+use lib.IntN.{ℤ}
+use lib.ListN.{length, getD}
+use lib.Ieee.{Float}
+use mir.Syntax.{w32}
+use mir.Val.{toZ, ofZ}
+use mir.Facts.{toZ-ofZ}
+use Rattle.scale.specs.Scale.{signed}
+use Rattle.text.proofs.Laws.{written-none, written-as}
+use Rattle.leafcases.specs.Lines.{answerOf, sizeAt, recordOf}
+use Rattle.leafcases.proofs.Records.{too-short, too-large, no-sign, record-is}
+use Rattle.leafcases.proofs.lines.put_record.Statement.{statement}
+use Rattle.leafcases.proofs.lines.put_record.Tie as tie
+
+-- the size that was read
+size-is : (c : tie.After-u64-at) → c .u64-at .result / 2 ^ 32 ≡ sizeAt (c .before .before .before .before .args .s .now) (c .before .before .before .before .args .at)
+size-is c = ap (λ (n : ℕ). n / 2 ^ 32) (c .u64-at .ensures)
+
+-- the line, from what was read
+line-is : (c : tie.After-with-sign)
+    → let a = c .before .before .before .before .before .before .before .before .before .before .before .before .args in
+    recordOf (a .s .now) (a .at) ≡ answerOf (getD (a .s .now) (a .at) 0) (c .before .before .before .f64-at .result) (toZ w32 (ofZ w32 (c .with-sign .result)))
+line-is c =
+    let sign = c .before .before .before .before .before in
+    let size = sign .before .before .before in
+    let a = size .before .before .before .before .args in
+    let s = a .s .now in
+    let at = a .at in
+    let small : sizeAt s at ≤ 2 ^ 31 - 1 = subst (λ (n : ℕ). n ≤ 2 ^ 31 - 1) (size-is size) (sign .before .before .if2 .left) in
+    let k : toZ w32 (ofZ w32 (c .with-sign .result)) ≡ signed (eqb (getD s (at + 9) 0) 45) (sizeAt s at) =
+    toZ-ofZ (record { sfits = c .with-sign .ok }) ∙ c .with-sign .ensures ∙ ap (λ (n : ℕ). signed (eqb (getD s (at + 9) 0) 45) n) (size-is size) in
+    record-is s at (size .before .if1 .left) small (sym (sign .is-sign .ensures) ∙ not-false (sign .is-sign .result) (c .before .before .before .before .if3 .left))
+    ∙ ap (λ (x : Float). answerOf (getD s at 0) x (signed (eqb (getD s (at + 9) 0) 45) (sizeAt s at))) (sym (c .before .before .before .f64-at .ensures))
+    ∙ ap (λ (z : ℤ). answerOf (getD s at 0) (c .before .before .before .f64-at .result) z) (sym k)
+
+sub-if1 : tie.Need-sub-if1
+sub-if1 c = search needs
+
+returns : tie.Need-returns
+returns c =
+    let a = c .before .before .before .args in
+    (written-as (sym (too-short (a .s .now) (a .at) (c .if1 .taken))) (written-none (a .out .now) (a .w)), omega arith)
+
+add-u64-at : tie.Need-add-u64-at
+add-u64-at c = search needs
+
+u64-at-requires : tie.Need-u64-at-requires
+u64-at-requires c κs = search needs
+
+returns-2 : tie.Need-returns-2
+returns-2 c =
+    let size = c .before in
+    let a = size .before .before .before .before .args in
+    let large : 2 ^ 31 - 1 < sizeAt (a .s .now) (a .at) = subst (λ (n : ℕ). 2 ^ 31 - 1 < n) (size-is size) (c .if2 .taken) in
+    (written-as (sym (too-large (a .s .now) (a .at) (size .before .if1 .left) large)) (written-none (a .out .now) (a .w)), omega arith)
+
+add-sign : tie.Need-add-sign
+add-sign c = search needs
+
+shared-slice-read-sign : tie.Need-shared-slice-read-sign
+shared-slice-read-sign c = search needs
+
+is-sign-requires : tie.Need-is-sign-requires
+is-sign-requires c κs = search needs
+
+returns-3 : tie.Need-returns-3
+returns-3 c =
+    let sign = c .before in
+    let size = sign .before .before .before in
+    let a = size .before .before .before .before .args in
+    let small : sizeAt (a .s .now) (a .at) ≤ 2 ^ 31 - 1 = subst (λ (n : ℕ). n ≤ 2 ^ 31 - 1) (size-is size) (sign .before .before .if2 .left) in
+    let none = no-sign (a .s .now) (a .at) (size .before .if1 .left) small (sym (sign .is-sign .ensures) ∙ not-true (sign .is-sign .result) (c .if3 .taken)) in
+    (written-as (sym none) (written-none (a .out .now) (a .w)), omega arith)
+
+add-f64-at : tie.Need-add-f64-at
+add-f64-at c = search needs
+
+f64-at-requires : tie.Need-f64-at-requires
+f64-at-requires c κs = search needs
+
+shared-slice-read-put-answer : tie.Need-shared-slice-read-put-answer
+shared-slice-read-put-answer c = search needs
+
+with-sign-requires : tie.Need-with-sign-requires
+with-sign-requires c κs = search needs
+
+put-answer-requires : tie.Need-put-answer-requires
+put-answer-requires c κs = omega arith
+
+same-length : tie.Need-same-length
+same-length c = search needs
+
+returns-4 : tie.Need-returns-4
+returns-4 c = (written-as (sym (line-is (c .before .before .before))) (c .before .before .put-answer .ensures .0), c .before .before .put-answer .ensures .1)
+
+pub put-record-spec : {M : Type 1} → statement M
+put-record-spec =
+    tie.close
+    (tie.spec
+    sub-if1
+    returns
+    add-u64-at
+    u64-at-requires
+    returns-2
+    add-sign
+    shared-slice-read-sign
+    is-sign-requires
+    returns-3
+    add-f64-at
+    f64-at-requires
+    shared-slice-read-put-answer
+    with-sign-requires
+    put-answer-requires
+    same-length
+    returns-4)

@@ -1,0 +1,10 @@
+pub mod Value
+pub mod Exact
+pub mod Diff
+pub mod Moved
+pub mod TwoSum
+pub mod Split
+pub mod TwoProd
+pub mod TwoProdClose
+pub mod Num
+pub mod Step

@@ -1,0 +1,158 @@
+//! What a call of each leaf costs, beside Rust's own.
+use crate::port;
+use crate::random::Random;
+use crate::reference;
+use std::hint::black_box;
+use std::time::Instant;
+
+const VALUES: usize = 1_000_000;
+const PASSES: usize = 9;
+const STRETCH: usize = 10_000;
+
+/// One line of the table: nanoseconds for a value by the port and by Rust's own, and the most that
+/// their ratio, or the port's time, should be.
+struct Row {
+    leaf: &'static str,
+    port: f64,
+    beside: &'static str,
+    rust: f64,
+    aim: Aim,
+}
+
+enum Aim {
+    Times(f64),
+    Nanoseconds(f64),
+    Open,
+}
+
+/// Nanoseconds an input, by both. Of each stretch of inputs the best of several passes counts, and
+/// the two take turns, so that a busy machine slows neither or both.
+fn best<T: Copy>(inputs: &[T], port: impl Fn(T) -> f64, rust: impl Fn(T) -> f64) -> (f64, f64) {
+    let mut least = vec![(f64::MAX, f64::MAX); inputs.len().div_ceil(STRETCH)];
+    for _ in 0..PASSES {
+        for (part, best) in inputs.chunks(STRETCH).zip(&mut least) {
+            best.0 = best.0.min(pass(part, &port));
+            best.1 = best.1.min(pass(part, &rust));
+        }
+    }
+    let all = least.iter().fold((0.0, 0.0), |sum, part| (sum.0 + part.0, sum.1 + part.1));
+    (all.0 / inputs.len() as f64, all.1 / inputs.len() as f64)
+}
+
+/// Nanoseconds for all the inputs.
+fn pass<T: Copy>(inputs: &[T], f: impl Fn(T) -> f64) -> f64 {
+    let start = Instant::now();
+    let mut all = 0;
+    for &x in inputs {
+        all ^= f(black_box(x)).to_bits();
+    }
+    black_box(all);
+    start.elapsed().as_nanos() as f64
+}
+
+fn row<T: Copy>(
+    names: (&'static str, &'static str),
+    aim: Aim,
+    inputs: &[T],
+    port: impl Fn(T) -> f64,
+    rust: impl Fn(T) -> f64,
+) -> Row {
+    let (port, rust) = best(inputs, port, rust);
+    Row { leaf: names.0, port, beside: names.1, rust, aim }
+}
+
+fn roots(r: &mut Random) -> Vec<Row> {
+    let x: Vec<f64> = (0..VALUES).map(|_| 1e-3 + 2000.0 * r.unit()).collect();
+    vec![
+        row(("sqrt", "f64::sqrt"), Aim::Times(6.0), &x, |x| port::leaf_sqrt(x), f64::sqrt),
+        row(("cbrt", "f64::cbrt"), Aim::Times(2.5), &x, |x| port::leaf_cbrt(x), f64::cbrt),
+    ]
+}
+
+fn angles(r: &mut Random) -> Vec<Row> {
+    let v: Vec<f64> = (0..VALUES).map(|_| 2.0 * r.unit() - 1.0).collect();
+    let pair = |v| {
+        let mut out = [0; 16];
+        port::leaf_third_angle(v, &mut out);
+        port::double(&out, 0) + port::double(&out, 1)
+    };
+    let both = |v: f64| {
+        let (s, c) = (v.acos() / 3.0).sin_cos();
+        s + c
+    };
+    let cosine = |v: f64| (v.acos() / 3.0).cos();
+    vec![
+        row(("third_cos", "cos(acos/3)"), Aim::Open, &v, |v| port::leaf_third_cos(v), cosine),
+        row(("third_angle", "sin_cos(acos/3)"), Aim::Times(3.0), &v, pair, both),
+    ]
+}
+
+fn logarithms(r: &mut Random) -> Vec<Row> {
+    let x: Vec<f64> = (0..VALUES).map(|_| 1e-3 + 2000.0 * r.unit()).collect();
+    let fives: Vec<[u8; 40]> =
+        x.chunks_exact(5).map(|a| port::bytes(a).try_into().unwrap()).collect();
+    let five = |a: [u8; 40]| {
+        let mut out = [0; 40];
+        port::leaf_log2_five(&a, &mut out);
+        (0..5).map(|i| port::double(&out, i)).sum()
+    };
+    let rust = |a: [u8; 40]| (0..5).map(|i| port::double(&a, i).log2()).sum();
+    let mut by_five = row(("log2_five", "f64::log2"), Aim::Nanoseconds(20.0), &fives, five, rust);
+    by_five.port /= 5.0;
+    by_five.rust /= 5.0;
+    vec![row(("log2", "f64::log2"), Aim::Open, &x, |x| port::leaf_log2(x), f64::log2), by_five]
+}
+
+fn scales(r: &mut Random) -> Vec<Row> {
+    let small = |r: &mut Random| (r.unit() - 0.5, r.below(100) as i32 - 50);
+    let x: Vec<(f64, i32)> = (0..VALUES).map(|_| small(r)).collect();
+    let wide = |r: &mut Random| (r.unit() - 0.5, r.below(4000) as i32 - 2000);
+    let y: Vec<(f64, i32)> = (0..VALUES).map(|_| wide(r)).collect();
+    let port = |(x, k)| port::leaf_ldexp(x, k);
+    let (name, rust) = rust_ldexp();
+    let log_floor = |(x, _): (f64, i32)| x.abs().log2().floor();
+    let exponent = |(x, _)| port::leaf_exponent(x) as f64;
+    vec![
+        row(("ldexp", name), Aim::Open, &x, port, |(x, k)| rust(x, k)),
+        row(("ldexp, far", name), Aim::Open, &y, port, |(x, k)| rust(x, k)),
+        row(("exponent", "log2, floor"), Aim::Open, &x, exponent, log_floor),
+    ]
+}
+
+#[cfg(geomcore)]
+fn rust_ldexp() -> (&'static str, fn(f64, i32) -> f64) {
+    ("geomcore's ldexp", reference::untouched::poly::ldexp)
+}
+
+#[cfg(not(geomcore))]
+fn rust_ldexp() -> (&'static str, fn(f64, i32) -> f64) {
+    println!("geomcore's ldexp: {}", reference::SKIPPED);
+    ("powi, once", |x, k| x * 2f64.powi(k))
+}
+
+fn verdict(row: &Row) -> String {
+    let (value, most, unit) = match row.aim {
+        Aim::Open => return String::new(),
+        Aim::Times(most) => (row.port / row.rust, most, "times"),
+        Aim::Nanoseconds(most) => (row.port, most, "ns"),
+    };
+    let met = if value <= most { "met" } else { "missed" };
+    format!("{most} {unit}, {met}")
+}
+
+/// Measures all leaves and prints the table.
+pub fn run() {
+    let mut r = Random::new(1);
+    let parts = [roots, angles, logarithms, scales].map(|part| part(&mut r));
+    println!("ns a value, best of {PASSES} passes over {VALUES} values, both in turns");
+    println!("{:12}{:>8}   {:18}{:>8}{:>8}   at most", "leaf", "port", "beside", "Rust", "ratio");
+    for row in parts.iter().flatten() {
+        let Row { leaf, port, beside, rust, .. } = row;
+        let line = format!(
+            "{leaf:12}{port:>8.1}   {beside:18}{rust:>8.1}{:>8.1}   {}",
+            port / rust,
+            verdict(row)
+        );
+        println!("{}", line.trim_end());
+    }
+}
