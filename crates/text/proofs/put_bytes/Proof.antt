@@ -1,8 +1,6 @@
 -- `text::put_bytes` meets its contract: after i turns the first i bytes of s are stored.
 -- Assumes nothing.
-use borrow.Author.Needs.{needs}
 use native.Mathlib.Omega.{arith}
-use mathlib.Core.Path.{_∙_}
 use Prim.Native.Nat.{_≤_, _<_, _-_}
 use lib.ListN.{length, take}
 use lib.Seq.{length-take-le}

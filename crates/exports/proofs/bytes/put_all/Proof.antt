@@ -1,7 +1,6 @@
 -- `exports::bytes::put_all` meets its contract: after i turns the first i doubles are stored.
 -- Assumes nothing.
 use native.Mathlib.Omega.{arith}
-use mathlib.Core.Path.{_∙_}
 use Prim.Native.Nat.{_+_, _*_, _≤_, _<_, _-_}
 use lib.ListN.{length, take, getD}
 use lib.Ieee.{nan, binary64, toBits}
