@@ -14,6 +14,7 @@ pub mod hard;
 pub mod inputs;
 pub mod methods;
 pub mod plain;
+pub mod polynomials;
 pub mod port;
 pub mod random;
 pub mod reference;

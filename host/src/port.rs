@@ -24,6 +24,174 @@ unsafe extern "C" {
     pub safe fn float_from_bits(n: u64) -> f64;
     pub safe fn float_to_bits(x: f64) -> u64;
     pub safe fn float_floor(x: f64) -> u64;
+    pub safe fn two_prod_prod(a: f64, b: f64) -> f64;
+    pub safe fn two_prod_err(a: f64, b: f64) -> f64;
+    pub safe fn discriminant(al: f64, be: f64) -> f64;
+    pub safe fn value_slope_value(
+        p0: f64,
+        p1: f64,
+        p2: f64,
+        p3: f64,
+        p4: f64,
+        d: u64,
+        y: f64,
+    ) -> f64;
+    pub safe fn value_slope_slope(
+        p0: f64,
+        p1: f64,
+        p2: f64,
+        p3: f64,
+        p4: f64,
+        d: u64,
+        y: f64,
+    ) -> f64;
+    pub safe fn compensated_value(
+        p0: f64,
+        p1: f64,
+        p2: f64,
+        p3: f64,
+        p4: f64,
+        d: u64,
+        y: f64,
+    ) -> f64;
+    pub safe fn compensated_slope(
+        p0: f64,
+        p1: f64,
+        p2: f64,
+        p3: f64,
+        p4: f64,
+        d: u64,
+        y: f64,
+    ) -> f64;
+    pub safe fn derivs12_d1(p0: f64, p1: f64, p2: f64, p3: f64, p4: f64, d: u64, y: f64) -> f64;
+    pub safe fn derivs12_d2(p0: f64, p1: f64, p2: f64, p3: f64, p4: f64, d: u64, y: f64) -> f64;
+    pub safe fn taylor_at(
+        p0: f64,
+        p1: f64,
+        p2: f64,
+        p3: f64,
+        p4: f64,
+        d: u64,
+        y: f64,
+        k: u64,
+    ) -> f64;
+    pub safe fn solve_square3_ok(
+        m00: f64,
+        m01: f64,
+        m02: f64,
+        m10: f64,
+        m11: f64,
+        m12: f64,
+        m20: f64,
+        m21: f64,
+        m22: f64,
+        b0: f64,
+        b1: f64,
+        b2: f64,
+        tol: f64,
+    ) -> bool;
+    pub safe fn solve_square3_at(
+        m00: f64,
+        m01: f64,
+        m02: f64,
+        m10: f64,
+        m11: f64,
+        m12: f64,
+        m20: f64,
+        m21: f64,
+        m22: f64,
+        b0: f64,
+        b1: f64,
+        b2: f64,
+        tol: f64,
+        k: u64,
+    ) -> f64;
+    pub safe fn solve_square4_ok(
+        m00: f64,
+        m01: f64,
+        m02: f64,
+        m03: f64,
+        m10: f64,
+        m11: f64,
+        m12: f64,
+        m13: f64,
+        m20: f64,
+        m21: f64,
+        m22: f64,
+        m23: f64,
+        m30: f64,
+        m31: f64,
+        m32: f64,
+        m33: f64,
+        b0: f64,
+        b1: f64,
+        b2: f64,
+        b3: f64,
+        tol: f64,
+    ) -> bool;
+    pub safe fn solve_square4_at(
+        m00: f64,
+        m01: f64,
+        m02: f64,
+        m03: f64,
+        m10: f64,
+        m11: f64,
+        m12: f64,
+        m13: f64,
+        m20: f64,
+        m21: f64,
+        m22: f64,
+        m23: f64,
+        m30: f64,
+        m31: f64,
+        m32: f64,
+        m33: f64,
+        b0: f64,
+        b1: f64,
+        b2: f64,
+        b3: f64,
+        tol: f64,
+        k: u64,
+    ) -> f64;
+    pub safe fn refine_cubic_at(b: f64, c: f64, d: f64, x0: f64, x1: f64, x2: f64, k: u64) -> f64;
+    pub safe fn refine_quartic_at(
+        b: f64,
+        c: f64,
+        d: f64,
+        e: f64,
+        x0: f64,
+        x1: f64,
+        x2: f64,
+        x3: f64,
+        k: u64,
+    ) -> f64;
+    pub safe fn refine_peel_at(
+        b: f64,
+        c: f64,
+        d: f64,
+        e: f64,
+        x0: f64,
+        x1: f64,
+        x2: f64,
+        x3: f64,
+        k: u64,
+    ) -> f64;
+    pub safe fn newton_cubic(p0: f64, p1: f64, p2: f64, p3: f64, p4: f64, y: f64) -> f64;
+    pub safe fn cubic_closed_form_n(b: f64, c: f64, d: f64) -> u64;
+    pub safe fn cubic_closed_form_at(b: f64, c: f64, d: f64, k: u64) -> f64;
+    pub safe fn isolated_root_found(al: f64, be: f64, ga: f64, de: f64) -> bool;
+    pub safe fn isolated_root_at(al: f64, be: f64, ga: f64, de: f64) -> f64;
+    pub safe fn cubic_factor_r(b: f64, c: f64, d: f64) -> f64;
+    pub safe fn cubic_factor_e(b: f64, c: f64, d: f64) -> f64;
+    pub safe fn cubic_factor_f(b: f64, c: f64, d: f64) -> f64;
+    pub safe fn quartic_factor_al(b: f64, c: f64, d: f64, e: f64) -> f64;
+    pub safe fn quartic_factor_be(b: f64, c: f64, d: f64, e: f64) -> f64;
+    pub safe fn quartic_factor_ga(b: f64, c: f64, d: f64, e: f64) -> f64;
+    pub safe fn quartic_factor_de(b: f64, c: f64, d: f64, e: f64) -> f64;
+    pub safe fn peel_root_r(b: f64, c: f64, d: f64, e: f64, y: f64) -> f64;
+    pub safe fn peel_root_h2(b: f64, c: f64, d: f64, e: f64, y: f64) -> f64;
+    pub safe fn peel_root_h1(b: f64, c: f64, d: f64, e: f64, y: f64) -> f64;
+    pub safe fn peel_root_h0(b: f64, c: f64, d: f64, e: f64, y: f64) -> f64;
 }
 
 mod slices {
@@ -54,4 +222,106 @@ pub fn bytes(a: &[f64]) -> Vec<u8> {
 /// The i-th double in such bytes.
 pub fn double(bytes: &[u8], i: usize) -> f64 {
     f64::from_le_bytes(bytes[8 * i..8 * i + 8].try_into().unwrap())
+}
+
+/// `value_slope`'s answer.
+pub fn value_slope([p0, p1, p2, p3, p4]: [f64; 5], d: u64, y: f64) -> [f64; 2] {
+    [value_slope_value, value_slope_slope].map(|f| f(p0, p1, p2, p3, p4, d, y))
+}
+
+/// `value_slope_compensated`'s answer.
+pub fn compensated([p0, p1, p2, p3, p4]: [f64; 5], d: u64, y: f64) -> [f64; 2] {
+    [compensated_value, compensated_slope].map(|f| f(p0, p1, p2, p3, p4, d, y))
+}
+
+/// `derivs12`'s answer.
+pub fn derivs12([p0, p1, p2, p3, p4]: [f64; 5], d: u64, y: f64) -> [f64; 2] {
+    [derivs12_d1, derivs12_d2].map(|f| f(p0, p1, p2, p3, p4, d, y))
+}
+
+/// `taylor`'s answer.
+pub fn taylor([p0, p1, p2, p3, p4]: [f64; 5], d: u64, y: f64) -> [f64; 5] {
+    std::array::from_fn(|k| taylor_at(p0, p1, p2, p3, p4, d, y, k as u64))
+}
+
+/// `solve_square`'s answer at size 3: whether there is one, and the unknowns.
+pub fn solve_square3(m: [[f64; 3]; 3], b: [f64; 3], tol: f64) -> (bool, [f64; 3]) {
+    let [[m00, m01, m02], [m10, m11, m12], [m20, m21, m22]] = m;
+    let [b0, b1, b2] = b;
+    let ok = solve_square3_ok(m00, m01, m02, m10, m11, m12, m20, m21, m22, b0, b1, b2, tol);
+    let at = |k: usize| {
+        solve_square3_at(m00, m01, m02, m10, m11, m12, m20, m21, m22, b0, b1, b2, tol, k as u64)
+    };
+    (ok, std::array::from_fn(at))
+}
+
+/// `solve_square`'s answer at size 4: whether there is one, and the unknowns.
+pub fn solve_square4(m: [[f64; 4]; 4], b: [f64; 4], tol: f64) -> (bool, [f64; 4]) {
+    let [[m00, m01, m02, m03], [m10, m11, m12, m13], [m20, m21, m22, m23], [m30, m31, m32, m33]] =
+        m;
+    let [b0, b1, b2, b3] = b;
+    let ok = solve_square4_ok(
+        m00, m01, m02, m03, m10, m11, m12, m13, m20, m21, m22, m23, m30, m31, m32, m33, b0, b1, b2,
+        b3, tol,
+    );
+    let at = |k: usize| {
+        solve_square4_at(
+            m00, m01, m02, m03, m10, m11, m12, m13, m20, m21, m22, m23, m30, m31, m32, m33, b0, b1,
+            b2, b3, tol, k as u64,
+        )
+    };
+    (ok, std::array::from_fn(at))
+}
+
+/// The first of those unknowns.
+pub fn solve_square4_first(m: [[f64; 4]; 4], b: [f64; 4], tol: f64) -> f64 {
+    let [[m00, m01, m02, m03], [m10, m11, m12, m13], [m20, m21, m22, m23], [m30, m31, m32, m33]] =
+        m;
+    let [b0, b1, b2, b3] = b;
+    solve_square4_at(
+        m00, m01, m02, m03, m10, m11, m12, m13, m20, m21, m22, m23, m30, m31, m32, m33, b0, b1, b2,
+        b3, tol, 0,
+    )
+}
+
+/// `refine`'s answer for a cubic's factors.
+pub fn refine_cubic([b, c, d]: [f64; 3], [x0, x1, x2]: [f64; 3]) -> [f64; 3] {
+    std::array::from_fn(|k| refine_cubic_at(b, c, d, x0, x1, x2, k as u64))
+}
+
+/// `refine`'s answer for the two quadratics of a quartic.
+pub fn refine_quartic([b, c, d, e]: [f64; 4], [x0, x1, x2, x3]: [f64; 4]) -> [f64; 4] {
+    std::array::from_fn(|k| refine_quartic_at(b, c, d, e, x0, x1, x2, x3, k as u64))
+}
+
+/// `refine`'s answer for a quartic with one root peeled off.
+pub fn refine_peel([b, c, d, e]: [f64; 4], [x0, x1, x2, x3]: [f64; 4]) -> [f64; 4] {
+    std::array::from_fn(|k| refine_peel_at(b, c, d, e, x0, x1, x2, x3, k as u64))
+}
+
+/// `cubic_closed_form`'s answer: the roots, and how many they are.
+pub fn cubic_closed_form([b, c, d]: [f64; 3]) -> ([f64; 3], u64) {
+    let at = |k: usize| cubic_closed_form_at(b, c, d, k as u64);
+    (std::array::from_fn(at), cubic_closed_form_n(b, c, d))
+}
+
+/// `cubic_factor`'s answer: r, e and f.
+pub fn cubic_factor([b, c, d]: [f64; 3]) -> [f64; 3] {
+    [cubic_factor_r, cubic_factor_e, cubic_factor_f].map(|f| f(b, c, d))
+}
+
+/// `quartic_factor`'s answer: al, be, ga and de.
+pub fn quartic_factor([b, c, d, e]: [f64; 4]) -> [f64; 4] {
+    [quartic_factor_al, quartic_factor_be, quartic_factor_ga, quartic_factor_de]
+        .map(|f| f(b, c, d, e))
+}
+
+/// `isolated_root`'s answer: whether there is one, and the root, NaN where there is none.
+pub fn isolated_root([al, be, ga, de]: [f64; 4]) -> (bool, f64) {
+    (isolated_root_found(al, be, ga, de), isolated_root_at(al, be, ga, de))
+}
+
+/// `peel_root`'s answer: r, h2, h1 and h0.
+pub fn peel_root([b, c, d, e]: [f64; 4], y: f64) -> [f64; 4] {
+    [peel_root_r, peel_root_h2, peel_root_h1, peel_root_h0].map(|f| f(b, c, d, e, y))
 }

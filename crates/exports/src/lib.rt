@@ -2,5 +2,8 @@
 // them what the test host links. No function here requires anything. One file for each layer.
 // It rests on every crate whose functions it hands out; `leafcases` rests on it.
 mod bytes;
+pub mod evaluation;
+pub mod factors;
 pub mod floats;
 pub mod leaves;
+pub mod systems;

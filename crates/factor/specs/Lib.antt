@@ -1,0 +1,3 @@
+pub mod Cubic
+pub mod Quartic
+pub mod Isolated

@@ -1,0 +1,46 @@
+-- `trial3` is its definition, by what elimination gave. Assumes nothing.
+use mathlib.Core.Path.{refl, ap, sym, _∙_}
+use mathlib.Core.Option.{none}
+use borrow.Author.Tests.{not-true, not-false}
+use Rattle.square.specs.Step.{step3}
+use Rattle.square.proofs.Steps.{no-step3, a-step3}
+use Rattle.refine.proofs.Laws.{trial-none, trial-far, trial-there}
+use borrow.Author.Needs.{needs}
+use Rattle.refine.proofs.trial3.Statement.{statement}
+use Rattle.refine.proofs.trial3.Tie as tie
+
+returns : tie.Need-returns
+returns c =
+    let t = c .before .before .solve-square3 in
+    let none = no-step3 _ (t .ensures) (not-true _ (c .if1 .taken)) in
+    t .ensures ∙ ap step3 (none ∙ sym (trial-none 3 _ _ _ _ _ _ (c .before .before .before .weigh-rows3 .ensures) refl none))
+
+returns-2 : tie.Need-returns-2
+unfolding step3
+returns-2 c =
+    let step = a-step3 _ (c .before .before .before .before .before .before .solve-square3 .ensures) (not-false _ (c .before .before .before .before .if1 .left)) in
+    ap step3 (sym (trial-far 3 _ _ _ _ _ _ (c .before .before .before .before .before .before .before .weigh-rows3 .ensures) step _ refl (sym (c .before .all-finite .ensures) ∙ not-true _ (c .if2 .taken))))
+
+returns-3 : tie.Need-returns-3
+unfolding step3
+returns-3 c =
+    let step = a-step3 _ (c .before .before .before .before .before .before .solve-square3 .ensures) (not-false _ (c .before .before .before .before .if1 .left)) in
+    ap step3 (sym (trial-there 3 _ _ _ _ _ _ (c .before .before .before .before .before .before .before .weigh-rows3 .ensures) step _ refl (sym (c .before .all-finite .ensures) ∙ not-false _ (c .if2 .left))))
+
+pub trial3-spec : {M : Type 1} → statement M
+trial3-spec =
+    tie.close
+    (tie.spec
+    (λ c κs. search needs)
+    (λ c κs. search needs)
+    returns
+    (λ c. search needs)
+    (λ c κs. search needs)
+    returns-2
+    (λ c. search needs)
+    (λ c. search needs)
+    (λ c. search needs)
+    (λ c. search needs)
+    (λ c. search needs)
+    (λ c. search needs)
+    returns-3)

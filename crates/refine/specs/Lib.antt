@@ -1,0 +1,4 @@
+pub mod Refine
+pub mod Systems
+pub mod Weighed
+pub mod Newton

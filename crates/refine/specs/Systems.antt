@@ -1,0 +1,104 @@
+-- The three systems of `refine`: the coefficients of a product's factors against those of the product. Definitions only.
+use mathlib.Core.List.{List, [], _∷_}
+use Prim.Native.Nat.{ℕ}
+use lib.ListN.{getD}
+use lib.Ieee.{Float, nan, binary64, add, sub, mul, neg}
+use Rattle.float.specs.Literals.{zero64, one64}
+use Rattle.float.specs.Methods.{absOf}
+use Rattle.refine.specs.Refine.{System}
+
+abbrev at : List Float → ℕ → Float
+at x i = getD x i nan
+
+abbrev pub size2Of : Float → Float → Float
+size2Of a b = add binary64 (absOf a) (absOf b)
+
+abbrev pub size3Of : Float → Float → Float → Float
+size3Of a b c = add binary64 (size2Of a b) (absOf c)
+
+abbrev pub size4Of : Float → Float → Float → Float → Float
+size4Of a b c d = add binary64 (size3Of a b c) (absOf d)
+
+-- ---- y^3 + b*y^2 + c*y + d = (y - x0) * (y^2 + x1*y + x2)
+
+abbrev pub cubicResidualOf : Float → Float → Float → List Float → List Float
+cubicResidualOf b c d x =
+    sub binary64 (sub binary64 (at x 1) (at x 0)) b
+    ∷ sub binary64 (sub binary64 (at x 2) (mul binary64 (at x 0) (at x 1))) c
+    ∷ sub binary64 (mul binary64 (neg (at x 0)) (at x 2)) d
+    ∷ []
+
+abbrev pub cubicMagnitudeOf : Float → Float → Float → List Float → List Float
+cubicMagnitudeOf b c d x =
+    size3Of (at x 1) (at x 0) b
+    ∷ size3Of (at x 2) (mul binary64 (at x 0) (at x 1)) c
+    ∷ size2Of (mul binary64 (at x 0) (at x 2)) d
+    ∷ []
+
+abbrev pub cubicJacobianOf : List Float → List (List Float)
+cubicJacobianOf x =
+    (neg one64 ∷ one64 ∷ zero64 ∷ [])
+    ∷ (neg (at x 1) ∷ neg (at x 0) ∷ one64 ∷ [])
+    ∷ (neg (at x 2) ∷ zero64 ∷ neg (at x 0) ∷ [])
+    ∷ []
+
+abbrev pub cubicSystem : Float → Float → Float → System
+cubicSystem b c d = record { res = cubicResidualOf b c d; mag = cubicMagnitudeOf b c d; jac = cubicJacobianOf }
+
+-- ---- y^4 + b*y^3 + c*y^2 + d*y + e = (y^2 + x0*y + x1) * (y^2 + x2*y + x3)
+
+abbrev pub quarticResidualOf : Float → Float → Float → Float → List Float → List Float
+quarticResidualOf b c d e x =
+    sub binary64 (add binary64 (at x 0) (at x 2)) b
+    ∷ sub binary64 (add binary64 (add binary64 (at x 1) (at x 3)) (mul binary64 (at x 0) (at x 2))) c
+    ∷ sub binary64 (add binary64 (mul binary64 (at x 0) (at x 3)) (mul binary64 (at x 1) (at x 2))) d
+    ∷ sub binary64 (mul binary64 (at x 1) (at x 3)) e
+    ∷ []
+
+abbrev pub quarticMagnitudeOf : Float → Float → Float → Float → List Float → List Float
+quarticMagnitudeOf b c d e x =
+    size3Of (at x 0) (at x 2) b
+    ∷ size4Of (at x 1) (at x 3) (mul binary64 (at x 0) (at x 2)) c
+    ∷ size3Of (mul binary64 (at x 0) (at x 3)) (mul binary64 (at x 1) (at x 2)) d
+    ∷ size2Of (mul binary64 (at x 1) (at x 3)) e
+    ∷ []
+
+abbrev pub quarticJacobianOf : List Float → List (List Float)
+quarticJacobianOf x =
+    (one64 ∷ zero64 ∷ one64 ∷ zero64 ∷ [])
+    ∷ (at x 2 ∷ one64 ∷ at x 0 ∷ one64 ∷ [])
+    ∷ (at x 3 ∷ at x 2 ∷ at x 1 ∷ at x 0 ∷ [])
+    ∷ (zero64 ∷ at x 3 ∷ zero64 ∷ at x 1 ∷ [])
+    ∷ []
+
+abbrev pub quarticSystem : Float → Float → Float → Float → System
+quarticSystem b c d e = record { res = quarticResidualOf b c d e; mag = quarticMagnitudeOf b c d e; jac = quarticJacobianOf }
+
+-- ---- y^4 + b*y^3 + c*y^2 + d*y + e = (y - x0) * (y^3 + x1*y^2 + x2*y + x3)
+
+abbrev pub peelResidualOf : Float → Float → Float → Float → List Float → List Float
+peelResidualOf b c d e x =
+    sub binary64 (sub binary64 (at x 1) (at x 0)) b
+    ∷ sub binary64 (sub binary64 (at x 2) (mul binary64 (at x 0) (at x 1))) c
+    ∷ sub binary64 (sub binary64 (at x 3) (mul binary64 (at x 0) (at x 2))) d
+    ∷ sub binary64 (mul binary64 (neg (at x 0)) (at x 3)) e
+    ∷ []
+
+abbrev pub peelMagnitudeOf : Float → Float → Float → Float → List Float → List Float
+peelMagnitudeOf b c d e x =
+    size3Of (at x 1) (at x 0) b
+    ∷ size3Of (at x 2) (mul binary64 (at x 0) (at x 1)) c
+    ∷ size3Of (at x 3) (mul binary64 (at x 0) (at x 2)) d
+    ∷ size2Of (mul binary64 (at x 0) (at x 3)) e
+    ∷ []
+
+abbrev pub peelJacobianOf : List Float → List (List Float)
+peelJacobianOf x =
+    (neg one64 ∷ one64 ∷ zero64 ∷ zero64 ∷ [])
+    ∷ (neg (at x 1) ∷ neg (at x 0) ∷ one64 ∷ zero64 ∷ [])
+    ∷ (neg (at x 2) ∷ zero64 ∷ neg (at x 0) ∷ one64 ∷ [])
+    ∷ (neg (at x 3) ∷ zero64 ∷ zero64 ∷ neg (at x 0) ∷ [])
+    ∷ []
+
+abbrev pub peelSystem : Float → Float → Float → Float → System
+peelSystem b c d e = record { res = peelResidualOf b c d e; mag = peelMagnitudeOf b c d e; jac = peelJacobianOf }

@@ -1,0 +1,10 @@
+pub mod Signed
+pub mod Held
+pub mod Needed
+pub mod Best
+pub mod Digits
+pub mod Built
+pub mod Rounds
+pub mod Chained
+pub mod Smallest
+pub mod Promise

@@ -1,0 +1,2 @@
+pub mod Exponent
+pub mod Scaled

@@ -1,0 +1,3 @@
+pub mod Dropped
+pub mod Rises
+pub mod Gaps

@@ -1,0 +1,76 @@
+-- `split::popped` meets its contract. The loop's invariant: what stays of the first k points is what stays of all. Assumes nothing.
+use mathlib.Core.Path.{_≡_, refl, sym, ap, _∙_}
+use Prim.Native.Nat.{_≤_}
+use native.Mathlib.Omega.{arith}
+use lib.Ieee.{Float, le}
+use borrow.Author.Needs.{needs}
+use Rattle.float.specs.Literals.{zero64}
+use Rattle.split.specs.Hull.{poppedOf}
+use Rattle.split.proofs.Dropped.{pop-go, pop-stop, pop-end}
+use Rattle.split.proofs.Rises.{last-two}
+use Rattle.split.proofs.popped.Statement.{statement}
+use Rattle.split.proofs.popped.Tie as tie
+
+abbrev Inv-loop : tie.InvT-loop
+Inv-loop lg i at k₀ k = (k ≤ k₀) × (poppedOf lg at i k ≡ poppedOf lg at i k₀)
+
+abbrev μ-loop : tie.MeasureT-loop
+μ-loop lg i at k₀ k = k
+
+loop-holds : tie.Need-loop-holds Inv-loop μ-loop
+loop-holds c = (search needs, refl)
+
+mul-a : tie.Need-mul-a Inv-loop μ-loop
+mul-a c = search needs
+
+array-read-a : tie.Need-array-read-a Inv-loop μ-loop
+array-read-a c = search needs
+
+sub-b : tie.Need-sub-b Inv-loop μ-loop
+sub-b c = search needs
+
+mul-b : tie.Need-mul-b Inv-loop μ-loop
+mul-b c = search needs
+
+array-read-b : tie.Need-array-read-b Inv-loop μ-loop
+array-read-b c = search needs
+
+cross-requires : tie.Need-cross-requires Inv-loop μ-loop
+cross-requires c κs =
+    let p = c .before .before .before .pre in
+    let t = last-two _ _ (p .0) (c .before .loop .k) (c .loop-test .taken) (c .before .loop .inv .0) in
+    (t .0, (omega (arith, t .1), p .1))
+
+sub-k : tie.Need-sub-k Inv-loop μ-loop
+sub-k c = search needs
+
+loop-less : tie.Need-loop-less Inv-loop μ-loop
+loop-less c = search needs
+
+loop-again : tie.Need-loop-again Inv-loop μ-loop
+loop-again c = (search needs, sym (pop-go _ _ _ _ (c .before .before .loop-test .taken) (ap (λ (y : Float). le zero64 y) (sym (c .before .cross .ensures)) ∙ c .if1 .taken)) ∙ c .before .before .before .loop .inv .1)
+
+returns : tie.Need-returns Inv-loop μ-loop
+returns c = (pop-stop _ _ _ _ (c .before .before .loop-test .taken) (ap (λ (y : Float). le zero64 y) (sym (c .before .cross .ensures)) ∙ c .if1 .left) ∙ c .before .before .before .loop .inv .1, search needs)
+
+returns-2 : tie.Need-returns-2 Inv-loop μ-loop
+returns-2 c = (pop-end _ _ _ _ (c .loop-test .left) ∙ c .before .loop .inv .1, search needs)
+
+pub popped-spec : {M : Type 1} → statement M
+popped-spec =
+    tie.close
+    (tie.spec
+    Inv-loop
+    μ-loop
+    loop-holds
+    mul-a
+    array-read-a
+    sub-b
+    mul-b
+    array-read-b
+    cross-requires
+    sub-k
+    loop-less
+    loop-again
+    returns
+    returns-2)

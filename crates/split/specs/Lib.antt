@@ -1,0 +1,2 @@
+pub mod Hull
+pub mod Gap

@@ -1,0 +1,117 @@
+// magnitude_split of poly.rs: the topmost gap of more than 8 bits between root sizes, read off the upper hull of the points (i, lg[i]).
+// It rests on `float` and `scale`; factorize, which hands it the logarithms of a scaled polynomial, rests on it.
+ghost use mathlib.Core.Path.{_≡_};
+ghost use Prim.Native.Nat.{_≤_, _<_, _+_};
+ghost use lib.ListN.{getD};
+ghost use Rattle.split.specs.Hull.{Rising, crossOf, poppedOf, hullStep, hullOf, magOf};
+ghost use Rattle.split.specs.Gap.{exp2Of, magnitudeSplitOf};
+
+// The points of the hull by their indices, the first h of `at`.
+pub struct Hull {
+    pub at: [usize; 5],
+    pub h: usize,
+}
+
+// Where `found` is set, `small` roots lie below the gap, and its middle is about `threshold`.
+pub struct Split {
+    pub found: bool,
+    pub small: usize,
+    pub threshold: f64,
+}
+
+// At least 0 where the point b lies on or below the line from a to i.
+fn cross(lg: [f64; 5], a: usize, b: usize, i: usize) -> f64
+    requires { ⌜ a ≤ b ⌝ ∗ ⌜ b ≤ i ⌝ ∗ ⌜ i ≤ 4 ⌝ }
+    ensures { λ r. ⌜ r ≡ crossOf lg a b i ⌝ }
+{
+    (b - a) as f64 * (lg[i] - lg[a]) - (lg[b] - lg[a]) * (i - a) as f64
+}
+
+// How many points stay once those that do not stand above the line to i are dropped.
+fn popped(lg: [f64; 5], s: Hull, i: usize) -> usize
+    requires { ⌜ Rising i s ⌝ ∗ ⌜ i ≤ 4 ⌝ }
+    ensures { λ r. ⌜ (r ≡ poppedOf lg (s .at) i (s .h)) × (r ≤ s .h) ⌝ }
+{
+    let at = s.at;
+    let mut k = s.h;
+    while 2 <= k {
+        let a = at[k - 2];
+        let b = at[k - 1];
+        if cross(lg, a, b, i) >= 0.0 {
+            k -= 1;
+        } else {
+            return k;
+        }
+    }
+    k
+}
+
+fn hull_step(lg: [f64; 5], i: usize, s: Hull) -> Hull
+    requires { ⌜ Rising i s ⌝ ∗ ⌜ i ≤ 4 ⌝ }
+    ensures { λ r. ⌜ r ≡ hullStep lg i s ⌝ }
+{
+    if float::is_finite(lg[i]) {
+        let h = popped(lg, s, i);
+        let mut out = s;
+        out.at[h] = i;
+        out.h = h + 1;
+        return out;
+    }
+    s
+}
+
+pub fn upper_hull(lg: [f64; 5], d: usize) -> Hull
+    requires { ⌜ d ≤ 4 ⌝ }
+    ensures { λ r. ⌜ r ≡ hullOf lg d ⌝ }
+{
+    let mut s = Hull { at: [0; 5], h: 0 };
+    let mut i = 0;
+    while i < d + 1 {
+        s = hull_step(lg, i, s);
+        i += 1;
+    }
+    s
+}
+
+// The logarithm of the size of the roots of edge k.
+fn mag(lg: [f64; 5], at: [usize; 5], k: usize) -> f64
+    requires { ⌜ k < 4 ⌝ ∗ ⌜ (getD at k 0 ≤ getD at (k + 1) 0) × (getD at (k + 1) 0 ≤ 4) ⌝ }
+    ensures { λ r. ⌜ r ≡ magOf lg at k ⌝ }
+{
+    let a = at[k];
+    let b = at[k + 1];
+    (lg[a] - lg[b]) / (b - a) as f64
+}
+
+// 2^x, x rounded down.
+fn exp2(x: f64) -> f64
+    ensures { λ r. ⌜ r ≡ exp2Of x ⌝ }
+{
+    scale::ldexp_by(1.0, float::floor(x), 8192)
+}
+
+pub fn magnitude_split(lg: [f64; 5], d: usize) -> Split
+    requires { ⌜ d ≤ 4 ⌝ }
+    ensures { λ r. ⌜ r ≡ magnitudeSplitOf lg d ⌝ }
+{
+    let s = upper_hull(lg, d);
+    let at = s.at;
+    let mut k = s.h;
+    while 2 < k {
+        k -= 1;
+        let lo = mag(lg, at, k - 2);
+        let hi = mag(lg, at, k - 1);
+        if hi - lo > 8.0 {
+            return Split {
+                found: true,
+                small: at[k - 1],
+                threshold: exp2(0.5 * (lo + hi)),
+            };
+        }
+    }
+    Split {
+        found: false,
+        small: 0,
+        threshold: 0.0,
+    }
+}

@@ -1,0 +1,176 @@
+//! Square systems and their refinement by the port against the reference build.
+#![cfg(geomcore)]
+use host::compare::{Kind, Same, Shown, bits, compare, say};
+use host::polynomials::{every_kind, polynomial, refined, system};
+use host::port;
+use host::random::Random;
+use host::reference::patched::{poly, solve};
+
+const EACH: usize = 115_000;
+
+type System<const N: usize> = ([[f64; N]; N], [f64; N], f64);
+type Answer<const N: usize> = (bool, [f64; N]);
+
+/// An answer or none as a flag and numbers, zeros where there is none.
+fn flagged<const N: usize>(answer: Option<[f64; N]>) -> Answer<N> {
+    (answer.is_some(), answer.unwrap_or([0.0; N]))
+}
+
+fn solved<const N: usize>(seed: u64, port: fn([[f64; N]; N], [f64; N], f64) -> Answer<N>)
+where
+    System<N>: Shown,
+    Answer<N>: Same + Shown,
+{
+    let kinds: Vec<Kind<System<N>>> = every_kind(&mut Random::new(seed), EACH, system);
+    let rust = |(m, b, tol)| flagged(solve::solve_square(m, b, tol));
+    let name = format!("solve_square at size {N}");
+    compare(&name, seed, &kinds, |(m, b, tol)| port(m, b, tol), rust);
+    let all = kinds.iter().flat_map(|k| &k.inputs);
+    let with = all.filter(|(m, b, tol)| port(*m, *b, *tol).0).count();
+    say(&format!("{name}: {with} with an answer"));
+}
+
+#[test]
+fn size_three() {
+    solved(301, port::solve_square3);
+}
+
+#[test]
+fn size_four() {
+    solved(302, port::solve_square4);
+}
+
+#[test]
+fn places_beyond() {
+    for k in [3, 4, 1 << 32, u64::MAX] {
+        let x = port::solve_square3_at(
+            1.0, 0.0, 0.0, 0.0, 1.0, 0.0, 0.0, 0.0, 1.0, 5.0, 6.0, 7.0, 0.0, k,
+        );
+        assert_eq!(bits(x), bits(f64::NAN), "place {k}");
+    }
+}
+
+fn cubic_rust(([b, c, d], x): ([f64; 3], [f64; 3])) -> [f64; 3] {
+    poly::refine(
+        x,
+        |x| {
+            (
+                [x[1] - x[0] - b, x[2] - x[0] * x[1] - c, -x[0] * x[2] - d],
+                [
+                    x[1].abs() + x[0].abs() + b.abs(),
+                    x[2].abs() + (x[0] * x[1]).abs() + c.abs(),
+                    (x[0] * x[2]).abs() + d.abs(),
+                ],
+            )
+        },
+        |x| [[-1.0, 1.0, 0.0], [-x[1], -x[0], 1.0], [-x[2], 0.0, -x[0]]],
+    )
+}
+
+fn quartic_rust(([b, c, d, e], x): ([f64; 4], [f64; 4])) -> [f64; 4] {
+    poly::refine(
+        x,
+        |x| {
+            (
+                [
+                    x[0] + x[2] - b,
+                    x[1] + x[3] + x[0] * x[2] - c,
+                    x[0] * x[3] + x[1] * x[2] - d,
+                    x[1] * x[3] - e,
+                ],
+                [
+                    x[0].abs() + x[2].abs() + b.abs(),
+                    x[1].abs() + x[3].abs() + (x[0] * x[2]).abs() + c.abs(),
+                    (x[0] * x[3]).abs() + (x[1] * x[2]).abs() + d.abs(),
+                    (x[1] * x[3]).abs() + e.abs(),
+                ],
+            )
+        },
+        |x| {
+            [
+                [1.0, 0.0, 1.0, 0.0],
+                [x[2], 1.0, x[0], 1.0],
+                [x[3], x[2], x[1], x[0]],
+                [0.0, x[3], 0.0, x[1]],
+            ]
+        },
+    )
+}
+
+fn peel_rust(([b, c, d, e], x): ([f64; 4], [f64; 4])) -> [f64; 4] {
+    poly::refine(
+        x,
+        |x| {
+            (
+                [x[1] - x[0] - b, x[2] - x[0] * x[1] - c, x[3] - x[0] * x[2] - d, -x[0] * x[3] - e],
+                [
+                    x[1].abs() + x[0].abs() + b.abs(),
+                    x[2].abs() + (x[0] * x[1]).abs() + c.abs(),
+                    x[3].abs() + (x[0] * x[2]).abs() + d.abs(),
+                    (x[0] * x[3]).abs() + e.abs(),
+                ],
+            )
+        },
+        |x| {
+            [
+                [-1.0, 1.0, 0.0, 0.0],
+                [-x[1], -x[0], 1.0, 0.0],
+                [-x[2], 0.0, -x[0], 1.0],
+                [-x[3], 0.0, 0.0, -x[0]],
+            ]
+        },
+    )
+}
+
+/// How often the answer is not where it started.
+fn moved<const N: usize>(
+    name: &str,
+    kinds: &[Kind<([f64; N], [f64; N])>],
+    port: fn([f64; N], [f64; N]) -> [f64; N],
+) {
+    let all = kinds.iter().flat_map(|k| &k.inputs);
+    let moved = all.filter(|(a, x)| port(*a, *x).map(bits) != x.map(bits)).count();
+    say(&format!("{name}: {moved} moved"));
+}
+
+#[test]
+fn refine_cubic() {
+    let factors = |x: &[f64; 4]| [x[0], -x[1] - x[2], x[1] * x[2]];
+    let start = |r: &mut Random, which| refined::<3>(r, which, factors);
+    let kinds = every_kind(&mut Random::new(303), EACH, start);
+    compare("refine, cubic", 303, &kinds, |(a, x)| port::refine_cubic(a, x), cubic_rust);
+    moved("refine, cubic", &kinds, port::refine_cubic);
+}
+
+#[test]
+fn refine_quartic() {
+    let factors = |x: &[f64; 4]| [-x[0] - x[1], x[0] * x[1], -x[2] - x[3], x[2] * x[3]];
+    let start = |r: &mut Random, which| refined::<4>(r, which, factors);
+    let kinds = every_kind(&mut Random::new(304), EACH, start);
+    compare("refine, quartic", 304, &kinds, |(a, x)| port::refine_quartic(a, x), quartic_rust);
+    moved("refine, quartic", &kinds, port::refine_quartic);
+}
+
+#[test]
+fn refine_peel() {
+    let factors = |x: &[f64; 4]| {
+        let (s, t) = (x[1] + x[2], x[1] * x[2]);
+        [x[0], -s - x[3], t + s * x[3], -t * x[3]]
+    };
+    let start = |r: &mut Random, which| refined::<4>(r, which, factors);
+    let kinds = every_kind(&mut Random::new(305), EACH, start);
+    compare("refine, peel", 305, &kinds, |(a, x)| port::refine_peel(a, x), peel_rust);
+    moved("refine, peel", &kinds, port::refine_peel);
+}
+
+#[test]
+fn newton_cubic() {
+    let start = |r: &mut Random, which| {
+        let (p, y) = polynomial(r, which, 3);
+        (p, if r.below(4) == 0 { y } else { y + (r.unit() - 0.5) / (1u64 << r.below(30)) as f64 })
+    };
+    let kinds = every_kind(&mut Random::new(306), EACH, start);
+    let port =
+        |([p0, p1, p2, p3, p4], y): ([f64; 5], f64)| port::newton_cubic(p0, p1, p2, p3, p4, y);
+    compare("newton_cubic", 306, &kinds, port, |(p, y)| poly::newton_cubic(&p, y));
+}
