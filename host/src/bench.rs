@@ -1,4 +1,4 @@
-//! What a call of each leaf costs, beside Rust's own.
+//! What a call of each proved function costs, beside Rust's own and geomcore's.
 use crate::port;
 use crate::random::Random;
 use crate::reference;
@@ -6,13 +6,15 @@ use std::hint::black_box;
 use std::time::Instant;
 
 const VALUES: usize = 1_000_000;
+/// Inputs of the slower functions.
+const FACTORED: usize = 100_000;
 const PASSES: usize = 9;
 const STRETCH: usize = 10_000;
 
 /// One line of the table: nanoseconds for a value by the port and by Rust's own, and the most that
 /// their ratio, or the port's time, should be.
 struct Row {
-    leaf: &'static str,
+    name: &'static str,
     port: f64,
     beside: &'static str,
     rust: f64,
@@ -58,7 +60,7 @@ fn row<T: Copy>(
     rust: impl Fn(T) -> f64,
 ) -> Row {
     let (port, rust) = best(inputs, port, rust);
-    Row { leaf: names.0, port, beside: names.1, rust, aim }
+    Row { name: names.0, port, beside: names.1, rust, aim }
 }
 
 fn roots(r: &mut Random) -> Vec<Row> {
@@ -130,6 +132,41 @@ fn rust_ldexp() -> (&'static str, fn(f64, i32) -> f64) {
     ("powi, once", |x, k| x * 2f64.powi(k))
 }
 
+/// Elimination and factors of polynomials with roots from -2 to 2. By the port a call gives one
+/// number of the answer, which it computes whole.
+#[cfg(geomcore)]
+fn factors(r: &mut Random) -> Vec<Row> {
+    use crate::polynomials::{monic, system};
+    use reference::untouched::{poly, solve};
+    let systems: Vec<_> = (0..FACTORED).map(|_| system::<4>(r, 1)).collect();
+    let unknown = |(m, b, tol)| port::solve_square4_first(m, b, tol);
+    let solved = |(m, b, tol)| solve::solve_square(m, b, tol).map_or(0.0, |x: [f64; 4]| x[0]);
+    let cubics: Vec<_> = (0..FACTORED).map(|_| monic::<3>(r, 1)).collect();
+    let root = |[b, c, d]: [f64; 3]| port::cubic_factor_r(b, c, d);
+    let cubic = |[b, c, d]: [f64; 3]| {
+        let (r, e, f) = poly::cubic_factor(b, c, d);
+        r + e + f
+    };
+    let quartics: Vec<_> = (0..FACTORED).map(|_| monic::<4>(r, 1)).collect();
+    let al = |[b, c, d, e]: [f64; 4]| port::quartic_factor_al(b, c, d, e);
+    let quartic = |[b, c, d, e]: [f64; 4]| {
+        let [(al, be), (ga, de)] = poly::quartic_factor(b, c, d, e);
+        al + be + ga + de
+    };
+    let beside = "geomcore's";
+    vec![
+        row(("solve_square, 4", beside), Aim::Open, &systems, unknown, solved),
+        row(("cubic_factor", beside), Aim::Open, &cubics, root, cubic),
+        row(("quartic_factor", beside), Aim::Open, &quartics, al, quartic),
+    ]
+}
+
+#[cfg(not(geomcore))]
+fn factors(_: &mut Random) -> Vec<Row> {
+    println!("factors beside geomcore's: {}", reference::SKIPPED);
+    Vec::new()
+}
+
 fn verdict(row: &Row) -> String {
     let (value, most, unit) = match row.aim {
         Aim::Open => return String::new(),
@@ -140,16 +177,19 @@ fn verdict(row: &Row) -> String {
     format!("{most} {unit}, {met}")
 }
 
-/// Measures all leaves and prints the table.
+/// Measures all of them and prints the table.
 pub fn run() {
     let mut r = Random::new(1);
-    let parts = [roots, angles, logarithms, scales].map(|part| part(&mut r));
+    let parts = [roots, angles, logarithms, scales, factors].map(|part| part(&mut r));
     println!("ns a value, best of {PASSES} passes over {VALUES} values, both in turns");
-    println!("{:12}{:>8}   {:18}{:>8}{:>8}   at most", "leaf", "port", "beside", "Rust", "ratio");
+    println!(
+        "{:16}{:>8}   {:18}{:>8}{:>8}   at most",
+        "function", "port", "beside", "Rust", "ratio"
+    );
     for row in parts.iter().flatten() {
-        let Row { leaf, port, beside, rust, .. } = row;
+        let Row { name, port, beside, rust, .. } = row;
         let line = format!(
-            "{leaf:12}{port:>8.1}   {beside:18}{rust:>8.1}{:>8.1}   {}",
+            "{name:16}{port:>8.1}   {beside:18}{rust:>8.1}{:>8.1}   {}",
             port / rust,
             verdict(row)
         );

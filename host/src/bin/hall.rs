@@ -4,7 +4,7 @@ use std::path::Path;
 use std::process::ExitCode;
 
 const HELP: &str = "\
-hall bench                how long a call of each proved leaf takes, beside Rust's own
+hall bench                how long a call of each proved function takes, beside Rust's
 hall stored leaves DIR    write inputs of the leaves to DIR/data/leaves, and the exact
                           answers to DIR/stdout: what the crate leafcases reads and prints
 hall --help               this page
