@@ -21,12 +21,16 @@ use Rattle.factor.specs.declared.LoneRoot.the-variants.{At, None}
 use Rattle.factor.specs.declared.Peeled.{Peeled}
 use Rattle.factor.specs.Cubic.{overOr}
 
+-- Of two real roots of y^2 + al*y + be, whose discriminant is disc, the one of larger size: q = -0.5 * (al + disc.sqrt().copysign(al)), without cancellation
+unfoldable pub farRootOf : Float → Float → Float
+farRootOf al disc = mul binary64 (neg half64) (add binary64 al (copysignOf (sqrtOf disc) al))
+
 -- The roots of y^2 + al*y + be as (re, im). Real ones, a double one too (disc = 0): q of larger size, cancellation-free, and the other from their product be.
 -- Else conjugate ones, also where disc is a NaN: their im is a NaN then, so neither counts as real.
 unfoldable pub rootPairOf : Float → Float → RootPair
 rootPairOf al be =
     let disc = discriminantOf al be in
-    let q = mul binary64 (neg half64) (add binary64 al (copysignOf (sqrtOf disc) al)) in
+    let q = farRootOf al disc in
     let half = mul binary64 half64 (sqrtOf (neg disc)) in
     let re = mul binary64 (neg half64) al in
     cond (le zero64 disc) (record { re0 = q; im0 = zero64; re1 = overOr be q zero64; im1 = zero64 }) (record { re0 = re; im0 = half; re1 = re; im1 = neg half })

@@ -7,7 +7,7 @@ ghost use lib.Ieee.{lt, le};
 ghost use Rattle.float.specs.Literals.{zero64};
 ghost use Rattle.factor.specs.Cubic.{cardanoOf, oneRootOf, threeRootsOf, cubicClosedFormOf, OneOrThree, isolationAmong, mostIsolatedOf, overOr, cubicFactorOf};
 ghost use Rattle.factor.specs.Quartic.{largestOf, resolventOf, isClearOf, ferrariOf, quarticFactorOf};
-ghost use Rattle.factor.specs.Isolated.{rootPairOf, distOf, leastOf, greatestOf, isBetterOf, judgedOf, bestRootOf, isolatedRootOf, peelRootOf};
+ghost use Rattle.factor.specs.Isolated.{farRootOf, rootPairOf, distOf, leastOf, greatestOf, isBetterOf, judgedOf, bestRootOf, isolatedRootOf, peelRootOf};
 
 // The first n places hold roots.
 pub struct CubicRoots {
@@ -257,13 +257,19 @@ pub enum LoneRoot {
     None,
 }
 
-// Cancellation-free: q = -(al + sign(al)*sqrt(disc))/2, and be / q.
+// Cancellation-free: of the two real roots of y^2 + al*y + be the one of larger size, q = -(al + sign(al)*sqrt(disc))/2. The other is be / q.
+pub fn far_root(al: f64, disc: f64) -> f64
+    ensures { λ r. ⌜ r ≡ farRootOf al disc ⌝ }
+{
+    -0.5 * (al + float::copysign(sqrt::sqrt(disc), al))
+}
+
 fn root_pair(al: f64, be: f64) -> RootPair
     ensures { λ r. ⌜ r ≡ rootPairOf al be ⌝ }
 {
     let disc = horner::discriminant(al, be);
     if disc >= 0.0 {
-        let q = -0.5 * (al + float::copysign(sqrt::sqrt(disc), al));
+        let q = far_root(al, disc);
         return RootPair {
             re0: q,
             im0: 0.0,

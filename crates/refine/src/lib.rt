@@ -355,14 +355,14 @@ pub fn refine_peel(b: f64, c: f64, d: f64, e: f64, x0: [f64; 4]) -> [f64; 4]
 // ---- newton_cubic
 
 // Nothing to do: the value or the slope is zero.
-fn flat(fy: f64, dy: f64) -> bool
+pub fn flat(fy: f64, dy: f64) -> bool
     ensures { λ r. ⌜ r ≡ flatOf fy dy ⌝ }
 {
     fy == 0.0 || dy == 0.0
 }
 
 // The value nf is no smaller in size than fy, or is a NaN.
-fn no_gain(fy: f64, nf: f64) -> bool
+pub fn no_gain(fy: f64, nf: f64) -> bool
     ensures { λ r. ⌜ r ≡ noGainOf fy nf ⌝ }
 {
     if float::abs(nf) >= float::abs(fy) {

@@ -1,0 +1,190 @@
+-- The order of at most four keys: how it is made, one number after the other, and what is read through it: the sort of what is there. Assumes nothing.
+use mathlib.Core.Path.{_≡_, refl, sym, ap, _∙_}
+use mathlib.Core.Bool.{Bool, true, false, cond}
+use mathlib.Core.List.{List, [], _∷_, _++_, map}
+use Prim.Native.Nat.{ℕ, zero, suc, _+_, _-_, _≤_, _<_}
+use native.Mathlib.Numerals.{add-one}
+use native.Mathlib.Omega.{arith}
+use lib.ListN.{length, take, drop, getD, length-map}
+use lib.Seq.{take-at, drop-append-add, drop-cons, getD-take, length-take-le}
+use lib.Ieee.{Float, nan}
+use Rattle.facts.specs.Cond.{either-way}
+use Rattle.facts.specs.Sort.{insertedBy, insertedAll, sortedBy, AllOf, length-sorted, all-sorted, map-sorted}
+use Rattle.order.specs.Order.{numbersFrom, keysBefore, orderOf, firstFrom, placeOf, entryOf, Places}
+
+-- ---- the first number at which a test fails, as a loop finds it
+module _ (test : ℕ → Bool) where
+  pub first-go : (i p : ℕ) → p < i → test p ≡ true → firstFrom test p (i - p) ≡ firstFrom test (p + 1) (i - (p + 1))
+  unfolding firstFrom
+  first-go i p h t = let e : i - p ≡ suc (i - (p + 1)) = omega arith in ap (λ (k : ℕ). firstFrom test p k) e ∙ simp t
+
+  pub first-stop : (i p : ℕ) → p < i → test p ≡ false → firstFrom test p (i - p) ≡ p
+  unfolding firstFrom
+  first-stop i p h t = let e : i - p ≡ suc (i - (p + 1)) = omega arith in ap (λ (k : ℕ). firstFrom test p k) e ∙ simp t
+
+  pub first-end : (i p : ℕ) → i ≤ p → firstFrom test p (i - p) ≡ p
+  unfolding firstFrom
+  first-end i p h = let e : i - p ≡ 0 = omega arith in ap (λ (k : ℕ). firstFrom test p k) e
+
+-- ---- one number more
+abbrev pub entriesOf : List ℕ → ℕ → ℕ → List ℕ
+entriesOf at i p = entryOf at i p 0 ∷ entryOf at i p 1 ∷ entryOf at i p 2 ∷ entryOf at i p 3 ∷ []
+
+-- an array of four is known by its places
+of-four : (P : List ℕ → Type 0) → ((a b c d : ℕ) → P (a ∷ b ∷ c ∷ d ∷ [])) → (at : List ℕ) → length at ≡ 4 → P at
+of-four P f (a ∷ b ∷ c ∷ d ∷ []) e = f a b c d
+of-four P f [] e = absurd (omega (arith, e))
+of-four P f (a ∷ []) e = absurd (omega (arith, e))
+of-four P f (a ∷ b ∷ []) e = absurd (omega (arith, e))
+of-four P f (a ∷ b ∷ c ∷ []) e = absurd (omega (arith, e))
+of-four P f (a ∷ b ∷ c ∷ d ∷ x ∷ l) e = absurd (omega (arith, e))
+
+-- i put in at its place among the first i is i inserted: by i, and by which of them stand before it
+module _ (before : Float → Float → Bool) (key : List Float) where
+  inserted-of : (i : ℕ) → i < 4 → (a b c d : ℕ) → let at = a ∷ b ∷ c ∷ d ∷ [] in entriesOf at i (placeOf before key at i) ≡ insertedBy (keysBefore before key) i (take i at) ++ drop (i + 1) at
+  unfolding placeOf firstFrom entryOf insertedBy
+  inserted-of zero h a b c d = refl
+  inserted-of (suc zero) h a b c d = go (keysBefore before key a 1)
+    where
+      go : (x : Bool) → entriesOf (a ∷ b ∷ c ∷ d ∷ []) 1 (cond x 1 0) ≡ cond x (a ∷ 1 ∷ []) (1 ∷ a ∷ []) ++ c ∷ d ∷ []
+      go true = refl
+      go false = refl
+  inserted-of (suc (suc zero)) h a b c d = go (keysBefore before key a 2) (keysBefore before key b 2)
+    where
+      go : (x y : Bool) → entriesOf (a ∷ b ∷ c ∷ d ∷ []) 2 (cond x (cond y 2 1) 0) ≡ cond x (a ∷ cond y (b ∷ 2 ∷ []) (2 ∷ b ∷ [])) (2 ∷ a ∷ b ∷ []) ++ d ∷ []
+      go true true = refl
+      go true false = refl
+      go false y = refl
+  inserted-of (suc (suc (suc zero))) h a b c d = go (keysBefore before key a 3) (keysBefore before key b 3) (keysBefore before key c 3)
+    where
+      go : (x y z : Bool) → entriesOf (a ∷ b ∷ c ∷ d ∷ []) 3 (cond x (cond y (cond z 3 2) 1) 0)
+          ≡ cond x (a ∷ cond y (b ∷ cond z (c ∷ 3 ∷ []) (3 ∷ c ∷ [])) (3 ∷ b ∷ c ∷ [])) (3 ∷ a ∷ b ∷ c ∷ []) ++ []
+      go true true true = refl
+      go true true false = refl
+      go true false z = refl
+      go false y z = refl
+  inserted-of (suc (suc (suc (suc i)))) h a b c d = absurd (omega (arith, h))
+
+  pub inserted-entries : (at : List ℕ) (i : ℕ) → length at ≡ 4 → i < 4
+      → entriesOf at i (placeOf before key at i) ≡ insertedBy (keysBefore before key) i (take i at) ++ drop (i + 1) at
+  inserted-entries at i e h =
+      of-four (λ (at : List ℕ). entriesOf at i (placeOf before key at i) ≡ insertedBy (keysBefore before key) i (take i at) ++ drop (i + 1) at) (inserted-of i h) at e
+
+length-numbers : (i k : ℕ) → length (numbersFrom i k) ≡ k
+length-numbers i zero = refl
+length-numbers i (suc k) = ap suc (length-numbers (i + 1) k)
+
+all-numbers : (n i k : ℕ) → i + k ≤ n → AllOf (λ (j : ℕ). j < n) (numbersFrom i k)
+all-numbers n i zero h = tt
+all-numbers n i (suc k) h = (omega arith, all-numbers n (i + 1) k (omega arith))
+
+module _ {A : Type 0} (P : A → Type 0) where
+  all-append : (l m : List A) → AllOf P l → AllOf P m → AllOf P (l ++ m)
+  all-append [] m g h = h
+  all-append (x ∷ l) m g h = (g .0, all-append l m (g .1) h)
+
+  all-at : (l : List A) (d : A) → P d → AllOf P l → (k : ℕ) → P (getD l k d)
+  all-at [] d p h k = p
+  all-at (x ∷ l) d p h zero = h .0
+  all-at (x ∷ l) d p h (suc k) = all-at l d p (h .1) k
+
+module _ (before : Float → Float → Bool) (key : List Float) where
+  abbrev sortedNumbers : ℕ → List ℕ
+  sortedNumbers n = sortedBy (keysBefore before key) (numbersFrom 0 n)
+
+  length-sortedNumbers : (n : ℕ) → length (sortedNumbers n) ≡ n
+  length-sortedNumbers n = length-sorted (keysBefore before key) (numbersFrom 0 n) ∙ length-numbers 0 n
+
+  -- the first n are sorted
+  take-order : (n : ℕ) → take n (orderOf before key n) ≡ sortedNumbers n
+  unfolding orderOf
+  take-order n = take-at (sortedNumbers n) (numbersFrom n (4 - n)) n (length-sortedNumbers n)
+
+  -- those behind the first n are where they are
+  drop-order : (n k : ℕ) → drop (n + k) (orderOf before key n) ≡ drop k (numbersFrom n (4 - n))
+  unfolding orderOf
+  drop-order n k =
+      ap (λ (m : ℕ). drop (m + k) (orderOf before key n)) (sym (length-sortedNumbers n)) ∙ drop-append-add (sortedNumbers n) (numbersFrom n (4 - n)) k
+
+  sorted-next : (i : ℕ) → i < 4 → insertedBy (keysBefore before key) i (sortedNumbers i) ≡ sortedNumbers (i + 1)
+  unfolding sortedBy insertedAll
+  sorted-next zero h = refl
+  sorted-next (suc zero) h = refl
+  sorted-next (suc (suc zero)) h = refl
+  sorted-next (suc (suc (suc zero))) h = refl
+  sorted-next (suc (suc (suc (suc i)))) h = absurd (omega (arith, h))
+
+  -- at the start no number is sorted, and each turn sorts one more
+  pub order-none : orderOf before key 0 ≡ 0 ∷ 1 ∷ 2 ∷ 3 ∷ []
+  unfolding orderOf sortedBy insertedAll
+  order-none = refl
+
+  pub order-turn : (i : ℕ) → i < 4 → insertedBy (keysBefore before key) i (take i (orderOf before key i)) ++ drop (i + 1) (orderOf before key i) ≡ orderOf before key (i + 1)
+  unfolding orderOf
+  order-turn i h =
+      let left : 4 - i ≡ suc (4 - (i + 1)) = omega arith in
+      rw (take-order i, drop-order i 1, left, sorted-next i h)
+
+  -- each entry is one of four, and each of the first n is below n
+  pub order-places : (n : ℕ) → n ≤ 4 → Places (orderOf before key n)
+  unfolding orderOf
+  order-places n h =
+      all-at (λ (j : ℕ). j < 4) (orderOf before key n) 0 (omega arith)
+      (all-append (λ (j : ℕ). j < 4) (sortedNumbers n) (numbersFrom n (4 - n))
+      (all-sorted (keysBefore before key) (λ (j : ℕ). j < 4) (numbersFrom 0 n) (all-numbers 4 0 n (omega arith)))
+      (all-numbers 4 n (4 - n) (omega arith)))
+
+  pub order-below : (n k : ℕ) → k < n → getD (orderOf before key n) k 0 < n
+  order-below n k h =
+      rw (sym (getD-take n (orderOf before key n) k 0 h), take-order n)
+      (all-at (λ (j : ℕ). j < n) (sortedNumbers n) 0 (omega arith) (all-sorted (keysBefore before key) (λ (j : ℕ). j < n) (numbersFrom 0 n) (all-numbers n 0 n (omega arith))) k)
+
+-- ---- reading through the order
+module _ {A : Type 0} (P : A → Type 0) (f g : A → A → Bool) (same : (x y : A) → P x → P y → f x y ≡ g x y) where
+  inserted-same : (x : A) (l : List A) → P x → AllOf P l → (insertedBy f x l ≡ insertedBy g x l) × AllOf P (insertedBy g x l)
+  unfolding insertedBy
+  inserted-same x [] p h = (refl, (p, tt))
+  inserted-same x (y ∷ l) p h =
+      let i = inserted-same x l p (h .1) in
+      (rw (same y x (h .0) p, i .0), either-way (AllOf P) (g y x) (h .0, i .1) (p, h))
+
+  all-same : (s l : List A) → AllOf P s → AllOf P l → insertedAll f s l ≡ insertedAll g s l
+  unfolding insertedAll
+  all-same s [] a b = refl
+  all-same s (x ∷ l) a b =
+      let i = inserted-same x s (b .0) a in
+      ap (λ (m : List A). insertedAll f m l) (i .0) ∙ all-same (insertedBy g x s) l (i .1) (b .1)
+
+  -- a sort goes by what the test says of the items
+  sorted-same : (l : List A) → AllOf P l → sortedBy f l ≡ sortedBy g l
+  unfolding sortedBy
+  sorted-same l h = all-same [] l tt h
+
+module _ {A : Type 0} (a : List A) (d : A) where
+  read-numbers : (i k : ℕ) → i + k ≤ length a → map (λ (j : ℕ). getD a j d) (numbersFrom i k) ≡ take k (drop i a)
+  read-numbers i zero h = refl
+  read-numbers i (suc k) h = rw (drop-cons a i d (omega arith), sym (add-one i)) (ap (λ (l : List A). getD a i d ∷ l) (read-numbers (i + 1) k (omega arith)))
+
+-- the first n of an array, read in the order of their keys, are the first n sorted by key
+pub read-sorted : {A : Type 0} (before : Float → Float → Bool) (key : A → Float) (keys : List Float) (a : List A) (d : A) (n : ℕ) → n ≤ length a
+    → ((i : ℕ) → i < n → getD keys i nan ≡ key (getD a i d))
+    → map (λ (i : ℕ). getD a i d) (take n (orderOf before keys n)) ≡ sortedBy (λ x y. before (key x) (key y)) (take n a)
+read-sorted {A} before key keys a d n h k =
+    ap (map (λ (i : ℕ). getD a i d)) (take-order before keys n ∙ sorted-same (λ (j : ℕ). j < n) (keysBefore before keys) (λ i j. before (key (getD a i d)) (key (getD a j d))) same (numbersFrom 0 n) (all-numbers n 0 n (omega arith)))
+    ∙ map-sorted (λ (x y : A). before (key x) (key y)) (λ (i : ℕ). getD a i d) (numbersFrom 0 n)
+    ∙ ap (sortedBy (λ (x y : A). before (key x) (key y))) (read-numbers a d 0 n (omega arith))
+  where
+    same : (x y : ℕ) → x < n → y < n → keysBefore before keys x y ≡ before (key (getD a x d)) (key (getD a y d))
+    same x y p q = rw (k x p, k y q)
+
+-- ---- a turn of a loop that reads so
+module _ {A : Type 0} (f : ℕ → A) where
+  read-at : (l : List ℕ) (k d : ℕ) → getD (map f l) k (f d) ≡ f (getD l k d)
+  read-at [] k d = refl
+  read-at (x ∷ l) zero d = refl
+  read-at (x ∷ l) (suc k) d = read-at l k d
+
+  pub read-cons : (at : List ℕ) (n k : ℕ) → n ≤ length at → k < n → drop k (map f (take n at)) ≡ f (getD at k 0) ∷ drop (k + 1) (map f (take n at))
+  read-cons at n k h t =
+      let e = length-map (take n at) f ∙ length-take-le n at h in
+      rw (add-one k, drop-cons (map f (take n at)) k (f 0) (omega (arith, e)), read-at (take n at) k 0, getD-take n at k 0 t)

@@ -1,0 +1,76 @@
+-- `order::place` meets its contract: each turn passes one number that stands before i. Assumes nothing.
+use borrow.Author.Needs.{needs}
+use mathlib.Core.Path.{_≡_, sym, _∙_}
+use native.Mathlib.Nat.{sub-zero}
+use Prim.Native.Nat.{_-_, _≤_}
+use lib.ListN.{getD}
+use Rattle.order.specs.Order.{keysBefore, beforeOf, firstFrom, placeOf}
+use Rattle.order.proofs.Laws.{first-go, first-stop, first-end}
+use Rattle.order.proofs.place.Statement.{statement}
+use Rattle.order.proofs.place.Tie as tie
+
+abbrev Inv-loop : tie.InvT-loop
+Inv-loop falling i key at p₀ p = (p ≤ i) × (firstFrom (λ q. keysBefore (beforeOf falling) key (getD at q 0) i) p (i - p) ≡ placeOf (beforeOf falling) key at i)
+
+abbrev μ-loop : tie.MeasureT-loop
+μ-loop falling i key at p₀ p = i - p
+
+loop-holds : tie.Need-loop-holds Inv-loop μ-loop
+unfolding placeOf
+loop-holds c = (search needs, simp sub-zero)
+
+mul-j : tie.Need-mul-j Inv-loop μ-loop
+mul-j c = search needs
+
+array-read-j : tie.Need-array-read-j Inv-loop μ-loop
+array-read-j c = search needs
+
+mul-is-before : tie.Need-mul-is-before Inv-loop μ-loop
+mul-is-before c = let h = c .before .before .pre .1 (c .before .loop .p) in search needs
+
+array-read-is-before : tie.Need-array-read-is-before Inv-loop μ-loop
+array-read-is-before c = let h = c .before .before .pre .1 (c .before .loop .p) in search needs
+
+mul-is-before-2 : tie.Need-mul-is-before-2 Inv-loop μ-loop
+mul-is-before-2 c = search needs
+
+array-read-is-before-2 : tie.Need-array-read-is-before-2 Inv-loop μ-loop
+array-read-is-before-2 c = search needs
+
+is-before-requires : tie.Need-is-before-requires Inv-loop μ-loop
+is-before-requires c κs = search needs
+
+add-p : tie.Need-add-p Inv-loop μ-loop
+add-p c = search needs
+
+loop-less : tie.Need-loop-less Inv-loop μ-loop
+loop-less c = search needs
+
+loop-again : tie.Need-loop-again Inv-loop μ-loop
+loop-again c = (search needs, sym (first-go _ _ _ (search needs) (sym (c .before .is-before .ensures) ∙ c .if1 .taken)) ∙ c .before .before .before .loop .inv .1)
+
+returns : tie.Need-returns Inv-loop μ-loop
+returns c = sym (first-stop _ _ _ (search needs) (sym (c .before .is-before .ensures) ∙ c .if1 .left)) ∙ c .before .before .before .loop .inv .1
+
+returns-2 : tie.Need-returns-2 Inv-loop μ-loop
+returns-2 c = sym (first-end _ _ _ (search needs)) ∙ c .before .loop .inv .1
+
+pub place-spec : {M : Type 1} → statement M
+place-spec =
+    tie.close
+    (tie.spec
+    Inv-loop
+    μ-loop
+    loop-holds
+    mul-j
+    array-read-j
+    mul-is-before
+    array-read-is-before
+    mul-is-before-2
+    array-read-is-before-2
+    is-before-requires
+    add-p
+    loop-less
+    loop-again
+    returns
+    returns-2)

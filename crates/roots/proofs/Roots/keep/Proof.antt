@@ -1,0 +1,24 @@
+-- `roots::Roots::keep` meets its contract: by whether the place is finite. Assumes nothing.
+use mathlib.Core.Path.{sym, _∙_}
+use Rattle.facts.specs.Cond.{if-taken}
+use Rattle.roots.specs.Roots.{keptIn}
+use borrow.Author.Needs.{needs}
+use Rattle.roots.proofs.Roots.keep.Statement.{statement}
+use Rattle.roots.proofs.Roots.keep.Tie as tie
+
+is-finite-requires : tie.Need-is-finite-requires
+is-finite-requires c κs = search needs
+
+push-requires : tie.Need-push-requires
+push-requires c κs = search needs
+
+returns : tie.Need-returns
+unfolding keptIn
+returns c = if-taken _ _ (sym (c .before .before .is-finite .ensures) ∙ c .before .if1 .taken) (c .push .ensures)
+
+returns-2 : tie.Need-returns-2
+unfolding keptIn
+returns-2 c = simp (sym (c .before .is-finite .ensures) ∙ c .if1 .left)
+
+pub keep-spec : {M : Type 1} → statement M
+keep-spec = tie.close (tie.spec is-finite-requires push-requires returns returns-2)
