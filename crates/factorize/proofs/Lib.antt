@@ -1,0 +1,6 @@
+pub mod Degree
+pub mod Sizes
+pub mod Ways
+pub mod Room
+pub mod Rescaled
+pub mod Vectors

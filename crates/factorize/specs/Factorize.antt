@@ -1,0 +1,76 @@
+-- factorize of poly.rs: 'Degree 3 splits into a line and a quadratic, degree 4 into two quadratics, or line and cubic where three roots are tight. [..] A gap
+-- strictly above 8 bits between root sizes starts a second scaling, the topmost gap first; never at depth 3 or degree 2 and below.' Definitions only.
+use mathlib.Core.Bool.{Bool, cond, _&&_}
+use mathlib.Core.List.{List}
+use Prim.Native.Nat.{ℕ, zero, suc, _-_}
+use lib.Dec.{leb, eqb}
+use lib.ListN.{getD}
+use lib.Ieee.{Float, nan, neg}
+use Rattle.factor.specs.declared.QuarticFactor.{QuarticFactor}
+use Rattle.factor.specs.declared.LoneRoot.{LoneRoot}
+use Rattle.factor.specs.declared.LoneRoot.the-variants.{At, None}
+use Rattle.factor.specs.Cubic.{cubicFactorOf}
+use Rattle.factor.specs.Quartic.{quarticFactorOf}
+use Rattle.factor.specs.Isolated.{isolatedRootOf, peelRootOf}
+use Rattle.scaled.specs.declared.Scaled.{Scaled}
+use Rattle.scaled.specs.Scaled.{scaledOf}
+use Rattle.split.specs.Gap.{magnitudeSplitOf}
+use Rattle.factors.specs.declared.Factors.{Factors}
+use Rattle.factors.specs.Factors.{noFactors, pushLinOf, pushQuadOf, degreeOf}
+use Rattle.factors.specs.Large.{largeOf}
+use Rattle.factors.specs.Quotient.{productOf, quotientOf, usableOf, mergedOf}
+
+-- the arm `3`
+unfoldable pub cubicFactorsOf : Float → Float → Float → Factors
+cubicFactorsOf b c d = let k = cubicFactorOf b c d in pushQuadOf (pushLinOf noFactors (k .r)) (k .e) (k .f)
+
+-- the arm `_`: 'A tight cluster of three roots cannot sit in one quadratic: peel off the far root, solve the cluster as a cubic.'
+unfoldable pub pairedOf : Float → Float → Float → Float → QuarticFactor → LoneRoot → Factors
+pairedOf b c d e quads (At r) =
+    let p = peelRootOf b c d e r in
+    let k = cubicFactorOf (p .h2) (p .h1) (p .h0) in
+    pushQuadOf (pushLinOf (pushLinOf noFactors (p .r)) (k .r)) (k .e) (k .f)
+pairedOf b c d e quads None = pushQuadOf (pushQuadOf noFactors (quads .al) (quads .be)) (quads .ga) (quads .de)
+
+unfoldable pub quarticFactorsOf : Float → Float → Float → Float → Factors
+quarticFactorsOf b c d e = let quads = quarticFactorOf b c d e in pairedOf b c d e quads (isolatedRootOf quads)
+
+-- `out`, the factors at this scale: `match sc.d`
+unfoldable pub outOf : List Float → ℕ → Factors
+outOf g d =
+    let g0 = getD g 0 nan in
+    let g1 = getD g 1 nan in
+    let g2 = getD g 2 nan in
+    let g3 = getD g 3 nan in
+    cond (eqb d 0) noFactors
+    (cond (eqb d 1) (pushLinOf noFactors (neg g0))
+    (cond (eqb d 2) (pushQuadOf noFactors g1 g0)
+    (cond (eqb d 3) (cubicFactorsOf g2 g1 g0) (quarticFactorsOf g3 g2 g1 g0))))
+
+-- A second scaling: whether there is one, the large factors, which it keeps, and the polynomial of the small roots at their own scale.
+pub record Second : Type 0 where
+  pub found : Bool
+  pub large : Factors
+  pub sub : Scaled
+
+-- There is none without a gap, nor where the large factors have another degree than d - small, nor where the quotient is not finite or has a zero at an end.
+unfoldable pub secondOf : Scaled → Factors → Second
+secondOf sc out =
+    let gap = magnitudeSplitOf (sc .lg) (sc .d) in
+    let small = gap .small in
+    let large = largeOf out (sc .d - small) (gap .threshold) in
+    let s = quotientOf (sc .g) (productOf large) small in
+    record { found = gap .found && (eqb (degreeOf large) (sc .d - small) && usableOf s small); large = large; sub = scaledOf s small }
+
+-- with `left` more scalings: `depth >= 3 || sc.d <= 2` has none
+unfoldable pub factorsFrom : ℕ → Scaled → Factors
+factorsFrom zero sc = outOf (sc .g) (sc .d)
+factorsFrom (suc left) sc =
+    let out = outOf (sc .g) (sc .d) in
+    let second = secondOf sc out in
+    let merged = mergedOf (second .large) (factorsFrom left (second .sub)) (second .sub .e) in
+    cond (leb (sc .d) 2) out (cond (second .found) merged out)
+
+-- factorize
+unfoldable pub factorizeOf : Scaled → ℕ → Factors
+factorizeOf sc depth = factorsFrom (3 - depth) sc
