@@ -1,0 +1,70 @@
+-- The last way out of `within_band`, one turn of `critical_point` by what its tests found, and what a quadratic factor is by what `push_quadratic` found.
+-- Assumes nothing.
+use mathlib.Core.Path.{_≡_, sym}
+use mathlib.Core.Bool.{Bool, true, false}
+use mathlib.Core.List.{List}
+use mathlib.Core.Option.{none, some}
+use Prim.Native.Nat.{ℕ}
+use lib.ListN.{getD}
+use lib.Ieee.{Float, nan, binary64, add, sub, mul, div, neg, lt, le}
+use Rattle.float.specs.Literals.{zero64, half64}
+use Rattle.float.specs.Methods.{absOf, powiOf}
+use Rattle.sqrt.specs.Root.{sqrtOf}
+use Rattle.horner.specs.Product.{discriminantOf}
+use Rattle.horner.specs.Taylor.{derivs12Of}
+use Rattle.horner.specs.declared.Derivs.{Derivs}
+use Rattle.refine.specs.Newton.{flatOf, noGainOf}
+use Rattle.factor.specs.Isolated.{farRootOf}
+use Rattle.scaled.specs.declared.Scaled.{Scaled}
+use Rattle.roots.specs.Roots.{pair}
+use Rattle.band.specs.Band.{budgetOf, noiseWithin, noiseOf, baseOf, bandOf, withinBandOf}
+use Rattle.band.specs.Critical.{isBetweenOf, criticalNext, criticalPointOf}
+use Rattle.band.specs.Quadratic.{double, apart, complex, quadraticOf}
+
+-- ---- the band: beyond the caller's, and not beyond the crude bound: the noise decides
+pub noise-decides : (poly : Scaled) (half y tol : Float) {base budget power lead noise : Float} → base ≡ baseOf (poly .unit) y tol → budget ≡ budgetOf (poly .f) (poly .d) y
+    → power ≡ powiOf (sub binary64 half base) (poly .d) → lead ≡ absOf (getD (poly .f) (poly .d) nan) → noise ≡ noiseWithin (poly .f) (poly .d) y budget
+    → le half base ≡ false → lt budget (mul binary64 power lead) ≡ false → le half (add binary64 base noise) ≡ withinBandOf poly half y tol
+unfolding withinBandOf noiseOf
+noise-decides poly half y tol b m p l n beyond close = simp (sym b, sym m, beyond, sym p, sym l, close, sym n)
+
+-- ---- the next place on f'
+module _ (f : List Float) (d : ℕ) (lo hi y : Float) {v : Derivs} (here : v ≡ derivs12Of f d y) where
+  pub critical-flat : flatOf (v .d1) (v .d2) ≡ true → criticalNext f d lo hi y ≡ none
+  unfolding criticalNext
+  critical-flat t = simp (rw here at t)
+
+  module _ (steep : flatOf (v .d1) (v .d2) ≡ false) where
+    abbrev next : Float
+    next = sub binary64 y (div binary64 (v .d1) (v .d2))
+
+    pub critical-outside : isBetweenOf lo next hi ≡ false → criticalNext f d lo hi y ≡ none
+    unfolding criticalNext
+    critical-outside t = simp (sym here, steep, t)
+
+    module _ {u : Derivs} (inside : isBetweenOf lo next hi ≡ true) (there : u ≡ derivs12Of f d next) where
+      pub critical-held : noGainOf (v .d1) (u .d1) ≡ true → criticalNext f d lo hi y ≡ none
+      unfolding criticalNext
+      critical-held t = simp (sym here, steep, inside, sym there, t)
+
+      pub critical-moved : noGainOf (v .d1) (u .d1) ≡ false → criticalNext f d lo hi y ≡ some next
+      unfolding criticalNext
+      critical-moved t = simp (sym here, steep, inside, sym there, t)
+
+-- ---- what a quadratic factor is
+module _ (poly : Scaled) (al be tol : Float) {disc size root : Float} {near : Bool} (d : disc ≡ discriminantOf al be) (s : size ≡ absOf disc) (r : root ≡ sqrtOf size)
+    (w : near ≡ withinBandOf poly (mul binary64 half64 root) (mul binary64 (neg half64) al) tol) where
+  abbrev mid : Float
+  mid = mul binary64 (neg half64) al
+
+  pub is-double : {band y : Float} → near ≡ true → band ≡ bandOf poly mid tol → y ≡ criticalPointOf poly mid (sub binary64 mid band) (add binary64 mid band) → quadraticOf poly al be tol ≡ double y
+  unfolding quadraticOf
+  is-double within b p = simp (sym d, sym s, sym r, sym w, within, sym b, sym p)
+
+  pub is-apart : {q : Float} → near ≡ false → lt zero64 disc ≡ true → q ≡ farRootOf al disc → quadraticOf poly al be tol ≡ apart q (div binary64 be q)
+  unfolding quadraticOf
+  is-apart beyond above q = simp (sym d, sym s, sym r, sym w, beyond, above, sym q)
+
+  pub is-complex : near ≡ false → lt zero64 disc ≡ false → quadraticOf poly al be tol ≡ complex (pair mid (mul binary64 half64 root))
+  unfolding quadraticOf
+  is-complex beyond below = simp (sym d, sym s, sym r, sym w, beyond, below)

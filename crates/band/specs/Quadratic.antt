@@ -1,0 +1,58 @@
+-- `push_quadratic` of Scaled in poly.rs: what a quadratic factor is, and where it goes. Definitions only.
+use mathlib.Core.Bool.{cond}
+use mathlib.Core.List.{List}
+use lib.Ieee.{Float, binary64, add, sub, mul, div, neg, lt}
+use Rattle.float.specs.Literals.{zero64, half64}
+use Rattle.float.specs.Methods.{absOf}
+use Rattle.sqrt.specs.Root.{sqrtOf}
+use Rattle.horner.specs.Product.{discriminantOf}
+use Rattle.factor.specs.Isolated.{farRootOf}
+use Rattle.scaled.specs.declared.Scaled.{Scaled}
+use Rattle.roots.specs.declared.RealRoot.{RealRoot}
+use Rattle.roots.specs.declared.Roots.{Roots}
+use Rattle.roots.specs.declared.Pair.{Pair}
+use Rattle.roots.specs.declared.Pairs.{Pairs}
+use Rattle.roots.specs.Roots.{root, rootsOf, kept, keptIn, pair, pairsOf, paired, pairedIn}
+use Rattle.band.specs.Band.{bandOf, withinBandOf}
+use Rattle.band.specs.Critical.{criticalPointOf}
+use Rattle.band.specs.declared.Found.{Found}
+
+-- what the factor y^2 + al*y + be is found to be: a double root at y, two simple roots, or a complex pair
+pub data Factor : Type 0 where
+  double : Float → Factor
+  apart : Float → Float → Factor
+  complex : Pair → Factor
+
+-- A double root where half the distance of its two roots, real or complex, is within the band about their middle: where Newton's
+-- method on f' leads from there within that band. Else two roots where disc > 0, q and be / q; else a pair, also where disc is a NaN.
+unfoldable pub quadraticOf : Scaled → Float → Float → Float → Factor
+quadraticOf poly al be tol =
+    let disc = discriminantOf al be in
+    let mid = mul binary64 (neg half64) al in
+    let half = mul binary64 half64 (sqrtOf (absOf disc)) in
+    let band = bandOf poly mid tol in
+    let y = criticalPointOf poly mid (sub binary64 mid band) (add binary64 mid band) in
+    let q = farRootOf al disc in
+    cond (withinBandOf poly half mid tol) (double y) (cond (lt zero64 disc) (apart q (div binary64 be q)) (complex (pair mid half)))
+
+-- what each adds to the candidates and the pairs found so far
+unfoldable pub pushFactor : List RealRoot × List Pair → Factor → List RealRoot × List Pair
+pushFactor (out, pairs) (double y) = (kept out (root y 2), pairs)
+pushFactor (out, pairs) (apart y z) = (kept (kept out (root y 1)) (root z 1), pairs)
+pushFactor (out, pairs) (complex p) = (out, paired pairs p)
+
+-- `push_quadratic`
+unfoldable pub pushQuadraticOf : Scaled → Float → Float → Float → List RealRoot → List Pair → List RealRoot × List Pair
+pushQuadraticOf poly al be tol out pairs = pushFactor (out, pairs) (quadraticOf poly al be tol)
+
+-- ---- the same in the arrays
+abbrev pub foundOf : List RealRoot × List Pair → Found
+foundOf s = record { roots = rootsOf (s .0); pairs = pairsOf (s .1) }
+
+unfoldable pub pushFactorIn : Found → Factor → Found
+pushFactorIn s (double y) = record { roots = keptIn (s .roots) (root y 2); pairs = s .pairs }
+pushFactorIn s (apart y z) = record { roots = keptIn (keptIn (s .roots) (root y 1)) (root z 1); pairs = s .pairs }
+pushFactorIn s (complex p) = record { roots = s .roots; pairs = pairedIn (s .pairs) p }
+
+unfoldable pub pushQuadraticIn : Scaled → Float → Float → Float → Roots → Pairs → Found
+pushQuadraticIn poly al be tol out pairs = pushFactorIn (record { roots = out; pairs = pairs }) (quadraticOf poly al be tol)
