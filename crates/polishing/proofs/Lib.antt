@@ -1,4 +1,4 @@
--- In the order of the argument; the claims of specs/ are `accurate` and `no-worse`.
+-- In the order of the argument; the claims of specs/ are `accurate`, `no-worse` and `polishing`.
 pub mod Sizes
 pub mod Terms
 pub mod Units
@@ -9,3 +9,4 @@ pub mod Horner
 pub mod Evaluated
 pub mod Accurate
 pub mod NoWorse
+pub mod Polishing

@@ -1,0 +1,4 @@
+-- What the functions' proofs share, and what is shown of the finished roots.
+pub mod Laws
+pub mod Runs
+pub mod Simple

@@ -1,0 +1,47 @@
+-- `polish` of poly.rs: Newton's method on a simple root. f holds the coefficients, ascending, d is the degree, and gap the distance to the nearest neighbour.
+-- Definitions only.
+use mathlib.Core.Bool.{Bool, false, cond, _||_}
+use mathlib.Core.List.{List}
+use mathlib.Core.Option.{Option, none, some}
+use Prim.Native.Nat.{ℕ}
+use lib.Ieee.{Float, binary64, sub, mul, div, lt, le, eq, isNan}
+use Rattle.facts.specs.Turns.{turnsOf}
+use Rattle.float.specs.Literals.{epsilon64, quarter64}
+use Rattle.float.specs.Methods.{absOf}
+use Rattle.horner.specs.Horner.{valueSlopeCompensatedOf}
+use Rattle.refine.specs.Newton.{flatOf, noGainOf}
+
+-- step.abs() > 0.25 * gap || step.is_nan()
+unfoldable pub isLongOf : Float → Float → Bool
+isLongOf step gap = lt (mul binary64 quarter64 gap) (absOf step) || isNan step
+
+-- step.abs() <= f64::EPSILON * y.abs()
+unfoldable pub isSmallOf : Float → Float → Bool
+isSmallOf step y = le (absOf step) (mul binary64 epsilon64 (absOf y))
+
+-- a place, and whether polishing ends there
+pub record Place : Type 0 where
+  pub y : Float
+  pub done : Bool
+
+-- the place after a step: polishing ends there where the step is within rounding of it
+abbrev pub arrived : Float → Float → Place
+arrived step next = record { y = next; done = isSmallOf step next }
+
+-- one turn: the next place, or none where the loop breaks before it
+unfoldable pub polishNext : List Float → ℕ → Float → Place → Option Place
+polishNext f d gap s =
+    let v = valueSlopeCompensatedOf f d (s .y) in
+    let step = div binary64 (v .value) (v .slope) in
+    let next = sub binary64 (s .y) step in
+    let u = valueSlopeCompensatedOf f d next in
+    cond (s .done) none
+    (cond (flatOf (v .value) (v .slope)) none
+    (cond (isLongOf step gap) none
+    (cond (eq next (s .y)) none
+    (cond (noGainOf (v .value) (u .value)) none
+    (some (arrived step next))))))
+
+-- `polish`: at most n turns, four in the Rust
+unfoldable pub polishOf : ℕ → List Float → ℕ → Float → Float → Float
+polishOf n f d gap y = turnsOf (polishNext f d gap) n (record { y = y; done = false }) .y
