@@ -1,0 +1,7 @@
+pub mod Coefficients
+pub mod Arrays
+pub mod Joined
+pub mod Sums
+pub mod Steps
+pub mod Refusals
+pub mod Small

@@ -1,0 +1,54 @@
+-- `poly::with_quads` meets its contract: each turn pushes one quadratic factor. Assumes nothing.
+use mathlib.Core.Path.{_≡_, sym, _∙_}
+use Prim.Native.Nat.{_-_, _≤_}
+use borrow.Author.Needs.{needs}
+use native.Mathlib.Nat.{sub-zero}
+use Rattle.facts.specs.Count.{countUp, up-turn, up-end}
+use Rattle.poly.specs.Found.{withQuadIn}
+use Rattle.poly.proofs.with_quads.Statement.{statement}
+use Rattle.poly.proofs.with_quads.Tie as tie
+
+abbrev Inv-loop : tie.InvT-loop
+Inv-loop poly tol f s₀ i₀ s i = (i ≤ f .nquad) × (countUp (f .nquad) (withQuadIn poly f tol) (f .nquad - i) s ≡ countUp (f .nquad) (withQuadIn poly f tol) (f .nquad) s₀)
+
+abbrev μ-loop : tie.MeasureT-loop
+μ-loop poly tol f s₀ i₀ s i = f .nquad - i
+
+loop-holds : tie.Need-loop-holds Inv-loop μ-loop
+loop-holds c = (search needs, simp sub-zero)
+
+mul-q : tie.Need-mul-q Inv-loop μ-loop
+mul-q c = search needs
+
+element-copy-out-q : tie.Need-element-copy-out-q Inv-loop μ-loop
+element-copy-out-q c = search needs
+
+push-quadratic-requires : tie.Need-push-quadratic-requires Inv-loop μ-loop
+push-quadratic-requires c κs = search needs
+
+add-i : tie.Need-add-i Inv-loop μ-loop
+add-i c = search needs
+
+loop-less : tie.Need-loop-less Inv-loop μ-loop
+loop-less c = search needs
+
+loop-again : tie.Need-loop-again Inv-loop μ-loop
+loop-again c = (search needs, rw (c .push-quadratic .ensures) (sym (up-turn _ _ _ _ (search needs)) ∙ c .before .before .before .loop .inv .1))
+
+returns : tie.Need-returns Inv-loop μ-loop
+returns c = sym (up-end _ _ _ _ (search needs)) ∙ c .before .loop .inv .1
+
+pub with-quads-spec : {M : Type 1} → statement M
+with-quads-spec =
+    tie.close
+    (tie.spec
+    Inv-loop
+    μ-loop
+    loop-holds
+    mul-q
+    element-copy-out-q
+    push-quadratic-requires
+    add-i
+    loop-less
+    loop-again
+    returns)

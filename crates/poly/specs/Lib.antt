@@ -1,0 +1,5 @@
+pub mod Coefficients
+pub mod Solve
+pub mod Found
+pub mod RealRoots
+pub mod Conditions

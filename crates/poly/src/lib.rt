@@ -1,0 +1,245 @@
+// real_roots of poly.rs: a list of coefficients of any length and any bits gives at most four roots, or the number of a refusal.
+// It rests on scaling, factoring, the band and finishing; the inquiry and the programs rest on it.
+ghost use mathlib.Core.Path.{_≡_};
+ghost use Prim.Native.Nat.{_≤_, _<_, _+_};
+ghost use lib.ListN.{length};
+ghost use Rattle.facts.specs.Count.{countUp};
+ghost use Rattle.factorize.specs.Factorize.{factorizeOf};
+ghost use Rattle.roots.specs.Roots.{rootsOf, listOf};
+ghost use Rattle.band.specs.Quadratic.{foundOf};
+ghost use Rattle.poly.specs.Coefficients.{allFiniteOf, trimmedOf, zerosOf, refusalBy, middleAt, middleOf};
+ghost use Rattle.poly.specs.Solve.{zeroRootsOf, candidatesOf, finishedOf, refusedBy, solveOf};
+ghost use Rattle.poly.specs.Found.{withLinIn, withQuadIn};
+ghost use Rattle.poly.specs.RealRoots.{unscaledAll, realRootsOf};
+
+// What Scaled::solve and finish give: the scaled polynomial, the tolerance, its finished roots and its complex pairs. On a refusal the number alone, and zeros.
+pub struct Solved {
+    pub number: u32,
+    pub poly: scaled::Scaled,
+    pub tol: f64,
+    pub roots: roots::Roots,
+    pub pairs: roots::Pairs,
+}
+
+// The roots in x, and 0; or the number of the refusal, and no root.
+pub struct Answer {
+    pub number: u32,
+    pub roots: roots::Roots,
+}
+
+fn all_finite(coeffs: &[f64]) -> bool
+    ensures { λ r. ⌜ r ≡ allFiniteOf (now (coeffs .entry)) ⌝ }
+{
+    let mut i = 0;
+    while i < coeffs.len() {
+        if !float::is_finite(coeffs[i]) {
+            return false;
+        }
+        i += 1;
+    }
+    true
+}
+
+// How many are left once trailing zeros are dropped.
+fn trimmed(coeffs: &[f64]) -> usize
+    ensures { λ r. ⌜ (r ≡ trimmedOf (now (coeffs .entry))) × (r ≤ length (now (coeffs .entry))) ⌝ }
+{
+    let mut n = coeffs.len();
+    while n > 0 {
+        if coeffs[n - 1] == 0.0 {
+            n -= 1;
+        } else {
+            return n;
+        }
+    }
+    0
+}
+
+// How many zeros come first.
+fn leading_zeros(coeffs: &[f64]) -> usize
+    ensures { λ r. ⌜ r ≡ zerosOf (now (coeffs .entry)) ⌝ }
+{
+    let mut i = 0;
+    while i < coeffs.len() {
+        if coeffs[i] == 0.0 {
+            i += 1;
+        } else {
+            return i;
+        }
+    }
+    i
+}
+
+// The number of the refusal, and 0 where there is none.
+fn refusal(finite: bool, n: usize) -> u32
+    ensures { λ r. ⌜ r ≡ refusalBy finite n ⌝ }
+{
+    if finite {
+        if n <= 1 {
+            return 2;
+        }
+        if n <= 5 {
+            return 0;
+        }
+        return 3;
+    }
+    1
+}
+
+fn middle_at(coeffs: &[f64], from: usize, to: usize, i: usize) -> f64
+    requires { ⌜ (from ≤ to) × (to ≤ length (now coeffs)) ⌝ }
+    ensures { λ r. ⌜ r ≡ middleAt (now (coeffs .entry)) from to i ⌝ }
+{
+    if i < to - from {
+        return coeffs[from + i];
+    }
+    0.0
+}
+
+// The coefficients in from..to, zeros after them.
+fn middle(coeffs: &[f64], from: usize, to: usize) -> [f64; 5]
+    requires { ⌜ (from ≤ to) × (to ≤ length (now coeffs)) ⌝ }
+    ensures { λ r. ⌜ r ≡ middleOf (now (coeffs .entry)) from to ⌝ }
+{
+    [
+        middle_at(coeffs, from, to, 0),
+        middle_at(coeffs, from, to, 1),
+        middle_at(coeffs, from, to, 2),
+        middle_at(coeffs, from, to, 3),
+        middle_at(coeffs, from, to, 4),
+    ]
+}
+
+// The leading zeros are one root.
+fn zero_roots(zeros: usize) -> roots::Roots
+    requires { ⌜ zeros ≤ 4 ⌝ }
+    ensures { λ r. ⌜ r ≡ rootsOf (zeroRootsOf zeros) ⌝ }
+{
+    let none = roots::Roots::none();
+    if zeros > 0 {
+        return none.keep(0.0, zeros as u32);
+    }
+    none
+}
+
+// The candidates with the roots of the linear factors.
+fn with_lins(f: factors::Factors, start: roots::Roots) -> roots::Roots
+    requires { ⌜ f .nlin ≤ 4 ⌝ }
+    ensures { λ r. ⌜ r ≡ countUp (f .nlin) (withLinIn f) (f .nlin) start ⌝ }
+{
+    let mut out = start;
+    let mut i = 0;
+    while i < f.nlin {
+        out = out.keep(f.lin[i], 1);
+        i += 1;
+    }
+    out
+}
+
+// The same of the quadratic ones, and the pairs.
+fn with_quads(
+    poly: scaled::Scaled,
+    f: factors::Factors,
+    tol: f64,
+    start: band::Found,
+) -> band::Found
+    requires { ⌜ poly .d ≤ 4 ⌝ ∗ ⌜ f .nquad ≤ 2 ⌝ }
+    ensures { λ r. ⌜ r ≡ countUp (f .nquad) (withQuadIn poly f tol) (f .nquad) start ⌝ }
+{
+    let mut s = start;
+    let mut i = 0;
+    while i < f.nquad {
+        let q = f.quad[i];
+        s = band::push_quadratic(poly, q.al, q.be, tol, s.roots, s.pairs);
+        i += 1;
+    }
+    s
+}
+
+fn candidates(poly: scaled::Scaled, zeros: usize, tol: f64) -> band::Found
+    requires { ⌜ poly .d ≤ 4 ⌝ ∗ ⌜ zeros ≤ 4 ⌝ }
+    ensures { λ r. ⌜ r ≡ foundOf (candidatesOf poly zeros (factorizeOf poly 0) tol) ⌝ }
+{
+    let f = factorize::factorize(poly, 0);
+    let roots = with_lins(f, zero_roots(zeros));
+    let pairs = roots::Pairs::none();
+    with_quads(poly, f, tol, band::Found { roots, pairs })
+}
+
+fn finished(poly: scaled::Scaled, zeros: usize, tol: f64) -> Solved
+    requires { ⌜ poly .d + zeros ≤ 4 ⌝ }
+    ensures { λ r. ⌜ r ≡ finishedOf poly zeros tol ⌝ }
+{
+    let found = candidates(poly, zeros, tol);
+    let roots = finish::finish(poly, found.roots, tol);
+    let pairs = found.pairs;
+    Solved {
+        number: 0,
+        poly,
+        tol,
+        roots,
+        pairs,
+    }
+}
+
+fn refused(number: u32) -> Solved
+    ensures { λ r. ⌜ r ≡ refusedBy number ⌝ }
+{
+    let poly = scaled::Scaled {
+        f: [0.0; 5],
+        g: [0.0; 5],
+        lg: [0.0; 5],
+        d: 0,
+        e: 0,
+        unit: 0.0,
+    };
+    let roots = roots::Roots::none();
+    let pairs = roots::Pairs::none();
+    Solved {
+        number,
+        poly,
+        tol: 0.0,
+        roots,
+        pairs,
+    }
+}
+
+pub fn solve(coeffs: &[f64], tol: f64) -> Solved
+    ensures { λ r. ⌜ r ≡ solveOf (now (coeffs .entry)) tol ⌝ }
+{
+    let n = trimmed(coeffs);
+    let number = refusal(all_finite(coeffs), n);
+    if number != 0 {
+        return refused(number);
+    }
+    let zeros = leading_zeros(coeffs);
+    let a = middle(coeffs, zeros, n);
+    let poly = scaled::Scaled::new(a, n - zeros - 1);
+    finished(poly, zeros, float::max(tol, 0.0))
+}
+
+// The roots in x = y * 2^e, where they are finite.
+fn unscaled_all(s: roots::Roots, e: i32) -> roots::Roots
+    requires { ⌜ s .len ≤ 4 ⌝ }
+    ensures { λ r. ⌜ r ≡ rootsOf (unscaledAll e (listOf s)) ⌝ }
+{
+    let mut out = roots::Roots::none();
+    let mut i = 0;
+    while i < s.len {
+        let r = s.root[i];
+        out = out.keep(scale::ldexp(r.value, e), r.multiplicity);
+        i += 1;
+    }
+    out
+}
+
+pub fn real_roots(coeffs: &[f64], tol: f64) -> Answer
+    ensures { λ r. ⌜ r ≡ realRootsOf (now (coeffs .entry)) tol ⌝ }
+{
+    let s = solve(coeffs, tol);
+    let poly = s.poly;
+    Answer {
+        number: s.number,
+        roots: unscaled_all(s.roots, poly.e),
+    }
+}
