@@ -1,0 +1,39 @@
+-- `ask` is its definition: by whether the inquiry is sound. Assumes nothing.
+use mathlib.Core.Path.{sym, _∙_}
+use Rattle.facts.specs.Cond.{if-taken, if-left}
+use Rattle.roots.proofs.Arrays.{length-mapped}
+use Rattle.inquiry.specs.Inquiry.{askedOf}
+use Rattle.inquiry.proofs.Sound.{sound-held}
+use borrow.Author.Needs.{needs}
+use Rattle.inquiry.proofs.Inquiry.ask.Statement.{statement}
+use Rattle.inquiry.proofs.Inquiry.ask.Tie as tie
+
+is-sound-requires : tie.Need-is-sound-requires
+is-sound-requires c κs = search needs
+
+walk-all-requires : tie.Need-walk-all-requires
+walk-all-requires c κs =
+    let at = c .before .before .before .before in
+    let s = at .before .before in
+    sound-held (s .args .self) (sym (at .before .is-sound .ensures) ∙ at .if1 .taken)
+    (let h = s .good .0 .1 .1 .1 .1 .1 .1 .0 in search (needs, length-mapped))
+    (let h = s .good .0 .1 .1 .1 .1 .0 in search (needs, length-mapped))
+    (let h = s .good .0 .1 .1 .1 .1 .1 .0 in search (needs, length-mapped))
+
+returns : tie.Need-returns
+unfolding askedOf
+returns c =
+    let at = c .before .before .before .before .before in
+    if-taken _ _ (sym (at .before .is-sound .ensures) ∙ at .if1 .taken) (c .walk-all .ensures)
+
+nothing-requires : tie.Need-nothing-requires
+nothing-requires c κs = search needs
+
+returns-2 : tie.Need-returns-2
+unfolding askedOf
+returns-2 c = if-left _ _ (sym (c .before .before .is-sound .ensures) ∙ c .before .if1 .left) (c .nothing .ensures)
+
+pub ask-spec : {M : Type 1} → statement M
+ask-spec =
+    tie.close
+    (tie.spec is-sound-requires walk-all-requires returns nothing-requires returns-2)

@@ -1,0 +1,7 @@
+pub mod Lists
+pub mod Steps
+pub mod Sound
+pub mod Bound
+pub mod Questions
+pub mod Fresh
+pub mod Theorem

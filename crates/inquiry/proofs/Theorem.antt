@@ -1,0 +1,166 @@
+-- Every claim about inquiries. An inquiry that was fed n replies has what it began with and those replies, and so shows the place number n of the Rust, or its list.
+-- Assumes nothing.
+use mathlib.Core.Path.{_≡_, refl, sym, ap, _∙_, subst}
+use mathlib.Core.Bool.{Bool, true}
+use mathlib.Core.List.{List, [], _∷_, _++_, map}
+use Prim.Native.Nat.{ℕ, zero, suc, _+_, _*_, _-_, _≤_, _<_}
+use native.Mathlib.Numerals.{add-one}
+use native.Mathlib.Omega.{arith}
+use lib.ListN.{length, take, getD, set, length-set, length-map}
+use lib.Seq.{length-take-le, take-suc, take-suc-set, take-length}
+use lib.Ieee.{Float, nan}
+use Rattle.facts.specs.Cond.{if-taken}
+use Rattle.roots.specs.declared.RealRoot.{RealRoot}
+use Rattle.roots.specs.Roots.{listOf, pairListOf}
+use Rattle.roots.specs.Listed.{multiplicities}
+use Rattle.roots.specs.Listed as roots
+use Rattle.roots.proofs.Arrays.{length-snoc}
+use Rattle.roots.proofs.Laws.{length-pairList}
+use Rattle.roots.proofs.Sums.{counted, length-counted}
+use Rattle.poly.specs.Coefficients.{degreeLeft}
+use Rattle.poly.specs.Solve.{solveOf}
+use Rattle.poly.proofs.Sums.{solved-shared, solved-fits}
+use Rattle.asking.specs.Asking.{Asking, answered, placesAsked, walked, asks}
+use Rattle.asking.specs.Within.{Within}
+use Rattle.asking.proofs.Feeding.{question, finish}
+use Rattle.asking.proofs.Within.{answered-within, places-within}
+use Rattle.inquiry.specs.declared.Inquiry.{Inquiry}
+use Rattle.inquiry.specs.declared.Asked.{Asked}
+use Rattle.inquiry.specs.Inquiry.{repliesOf, soundOf, asking, shown, nothing, askedOf, withReply, repliedOf}
+use Rattle.inquiry.specs.Start.{realRootsTouching, startOf, fed}
+use Rattle.inquiry.specs.Claims.{Fed}
+use Rattle.inquiry.proofs.Sound.{Sound, sound-is, sound-holds}
+use Rattle.inquiry.proofs.Bound.{ListedIn, touching-within}
+use Rattle.inquiry.proofs.Questions.{reply-taken, reply-refused}
+use Rattle.inquiry.proofs.Fresh.{start-sound, start-asks}
+
+-- ---- an inquiry with some replies
+-- p asks what t asks, has these replies, and is sound
+record Has (t : Asking (List RealRoot)) (rs : List Bool) (p : Inquiry) : Type 0 where
+  asks-it : asking p ≡ t
+  has : repliesOf (p .replies) ≡ rs
+  array : length (p .replies .reply) ≡ 4
+  count : p .replies .count ≡ length rs
+  sound : soundOf p ≡ true
+
+has-asked : (t : Asking (List RealRoot)) (p : Inquiry) (rs : List Bool) → Has t rs p → askedOf p ≡ shown (walked rs t)
+unfolding askedOf
+has-asked t p rs h =
+    sym (if-taken (shown (walked (repliesOf (p .replies)) (asking p))) nothing (h .sound) refl)
+    ∙ ap (λ (u : Asking (List RealRoot)). shown (walked (repliesOf (p .replies)) u)) (h .asks-it)
+    ∙ ap (λ (l : List Bool). shown (walked l t)) (h .has)
+
+has-more : (t : Asking (List RealRoot)) (p : Inquiry) (rs : List Bool) (r : Bool) → length rs < 4 → Has t rs p → Has t (rs ++ r ∷ []) (withReply p r)
+has-more t p rs r room h =
+    let s = sound-is p (h .sound) in
+    let n = h .count in
+    record {
+      asks-it = h .asks-it;
+      has =
+          ap (λ (k : ℕ). take k (set (p .replies .reply) (p .replies .count) r)) (add-one (p .replies .count))
+          ∙ take-suc-set (p .replies .reply) (p .replies .count) r (omega (arith, h .array, n, room))
+          ∙ ap (λ (l : List Bool). l ++ r ∷ []) (h .has);
+      array = length-set (p .replies .reply) (p .replies .count) r ∙ h .array;
+      count = ap (λ (k : ℕ). k + 1) n ∙ sym (length-snoc rs r);
+      sound = sound-holds (withReply p r) (record { degree = s .degree; replies = omega (arith, n, room); roots = s .roots; pairs = s .pairs; counted = s .counted; total = s .total });
+    }
+
+has-reply : (t : Asking (List RealRoot)) (p : Inquiry) (rs : List Bool) (x : Float) (touches : Float → Bool) → length rs < 4 → Has t rs p → walked rs t ≡ asks x
+    → Has t (rs ++ touches x ∷ []) (repliedOf p (touches (askedOf p .place)) .inquiry)
+unfolding shown
+has-reply t p rs x touches room h e =
+    let s = has-asked t p rs h ∙ ap shown e in
+    let place : askedOf p .place ≡ x = ap (λ (a : Asked). a .place) s in
+    let on : askedOf p .asking ≡ true = ap (λ (a : Asked). a .asking) s in
+    rw (place, ← (reply-taken p (touches x) on)) (has-more t p rs (touches x) room h)
+
+-- ---- the first replies of a function
+map-take : (f : Float → Bool) (l : List Float) (n : ℕ) → n < length l → map f (take (suc n) l) ≡ map f (take n l) ++ f (getD l n nan) ∷ []
+map-take f l n h = ap (map f) (take-suc l n nan h) ∙ join (take n l) (getD l n nan)
+  where
+    join : (l : List Float) (x : Float) → map f (l ++ x ∷ []) ≡ map f l ++ f x ∷ []
+    join [] x = refl
+    join (y ∷ l) x = ap (λ (t : List Bool). f y ∷ t) (join l x)
+
+length-map-take : (f : Float → Bool) (l : List Float) (n : ℕ) → n ≤ length l → length (map f (take n l)) ≡ n
+length-map-take f l n h = length-map (take n l) f ∙ length-take-le n l h
+
+-- ---- feeding, where at most three questions are asked
+module _ (touches : Float → Bool) (t : Asking (List RealRoot)) (q : Inquiry) (begin : Has t [] q) (few : length (placesAsked touches t) ≤ 3) where
+  abbrev xs : List Float
+  xs = placesAsked touches t
+
+  has-fed : (n : ℕ) → n ≤ length xs → Has t (map touches (take n xs)) (fed touches n q)
+  unfolding fed
+  has-fed zero h = begin
+  has-fed (suc n) h =
+      let l = length-map-take touches xs n (omega arith) in
+      rw (map-take touches xs n (omega arith))
+      (has-reply t (fed touches n q) (map touches (take n xs)) (getD xs n nan) touches (omega (arith, l, few, h)) (has-fed n (omega arith)) (question touches t n (omega arith)))
+
+  asks-at : (n : ℕ) → n < length xs → askedOf (fed touches n q) ≡ shown (asks (getD xs n nan))
+  asks-at n h = has-asked t (fed touches n q) (map touches (take n xs)) (has-fed n (omega arith)) ∙ ap shown (question touches t n h)
+
+  ends-with : askedOf (fed touches (length xs) q) ≡ shown (walked (map touches xs) t)
+  ends-with =
+      has-asked t (fed touches (length xs) q) (map touches (take (length xs) xs)) (has-fed (length xs) (omega arith))
+      ∙ ap (λ (l : List Float). shown (walked (map touches l) t)) (take-length xs)
+
+-- ---- the bounds
+module _ (touches : Float → Bool) (coeffs : List Float) (tol : Float) where
+  abbrev most : ℕ
+  most = (length (listOf (solveOf coeffs tol .roots)) + 2 * length (pairListOf (solveOf coeffs tol .pairs))) - 1
+
+  abbrev total : ℕ
+  total = multiplicities (listOf (solveOf coeffs tol .roots)) + 2 * length (pairListOf (solveOf coeffs tol .pairs))
+
+  bounds : Within most (realRootsTouching coeffs tol) (λ m l. ListedIn total l)
+  unfolding startOf
+  bounds =
+      subst (λ (t : Asking (List RealRoot)). Within most t (λ m l. ListedIn total l)) (start-asks coeffs tol)
+      (touching-within (solveOf coeffs tol .poly) (solveOf coeffs tol .tol) (listOf (solveOf coeffs tol .roots)) (pairListOf (solveOf coeffs tol .pairs)))
+
+  sound : Sound (startOf coeffs tol .inquiry)
+  sound = sound-is (startOf coeffs tol .inquiry) (start-sound coeffs tol)
+
+  -- at most R roots and P pairs, R + 2 P at most 4, and at most the degree
+  sizes : (most ≤ 3) × (most ≤ degreeLeft coeffs - 1) × (total ≤ 4) × (total ≤ degreeLeft coeffs)
+  unfolding startOf
+  sizes =
+      let s = solved-shared coeffs tol in
+      let each = length-counted (listOf (solveOf coeffs tol .roots)) (counted (listOf (solveOf coeffs tol .roots)) (s .listed)) in
+      let pairs = length-pairList (solveOf coeffs tol .pairs) (solved-fits coeffs tol .1) in
+      let four = sound .total in
+      let degree = s .sum in
+      (omega (arith, each, pairs, four), omega (arith, each, degree), omega (arith, pairs, four), omega (arith, degree))
+
+  asked-most : length (placesAsked touches (realRootsTouching coeffs tol)) ≤ most
+  asked-most = places-within (λ m l. ListedIn total l) touches most (realRootsTouching coeffs tol) bounds
+
+  start-has : Has (realRootsTouching coeffs tol) [] (startOf coeffs tol .inquiry)
+  unfolding startOf
+  start-has = record { asks-it = start-asks coeffs tol; has = refl; array = refl; count = refl; sound = start-sound coeffs tol }
+
+  pub start-fed : Fed touches (startOf coeffs tol .inquiry) coeffs tol
+  unfolding shown
+  start-fed =
+      let t = realRootsTouching coeffs tol in
+      let q = startOf coeffs tol .inquiry in
+      let few : length (placesAsked touches t) ≤ 3 = omega (arith, asked-most, sizes .0) in
+      let end = ends-with touches t q start-has few ∙ ap shown (finish touches t) in
+      record {
+        question = asks-at touches t q start-has few;
+        finished = end;
+        over = λ r. sym (reply-refused (fed touches (length (placesAsked touches t)) q) r (ap (λ (a : Asked). a .asking) end));
+      }
+
+  pub start-list : roots.Within (degreeLeft coeffs) (answered touches (realRootsTouching coeffs tol))
+  start-list =
+      let l = answered touches (realRootsTouching coeffs tol) in
+      let h = answered-within (ListedIn total) touches most (realRootsTouching coeffs tol) bounds in
+      let each = length-counted l (counted l (h .0)) in
+      record { four = omega (arith, each, h .1, sizes .2); listed = h .0; sum = omega (arith, h .1, sizes .3) }
+
+  -- at most degree - 1 questions
+  pub start-most : length (placesAsked touches (realRootsTouching coeffs tol)) ≤ degreeLeft coeffs - 1
+  start-most = omega (arith, asked-most, sizes .1)

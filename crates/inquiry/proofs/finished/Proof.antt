@@ -1,0 +1,29 @@
+-- `finished` meets its contract: a question, or the list with the last chain's root. Assumes nothing.
+use mathlib.Core.Path.{ap, _∙_}
+use mir.Facts.{toZ-ofZ}
+use mir.Syntax.{w32}
+use mir.Val.{SFits}
+use Rattle.roots.specs.Roots.{rootsOf}
+use Rattle.inquiry.proofs.Steps.{finish-asks, finish-ends}
+use borrow.Author.Needs.{needs}
+use Rattle.inquiry.proofs.finished.Statement.{statement}
+use Rattle.inquiry.proofs.finished.Tie as tie
+
+chains-requires : tie.Need-chains-requires
+chains-requires c κs = c .pre
+
+question-requires : tie.Need-question-requires
+question-requires c κs = search needs
+
+returns : tie.Need-returns
+returns c = c .question .ensures ∙ finish-asks _ _ _ _ _ _ _ _ (c .before .before .chains .ensures .0) (c .before .if1 .taken)
+
+emit-requires : tie.Need-emit-requires
+emit-requires c κs = let walk = c .before .before .before .before .chains .ensures in (walk .1, walk .2)
+
+returns-2 : tie.Need-returns-2
+returns-2 c = let s = c .before .before .before .before .before .before in let fits : SFits w32 (s .args .poly .e) = (let h = s .good .0 .1 .1 .1 .1 .1 .1 .0 in search needs) in let fit = toZ-ofZ fits in let out = rw fit at (c .emit .ensures) in finish-ends _ _ _ _ _ _ _ _ (c .before .before .before .before .before .chains .ensures .0) _ (c .before .before .before .before .if1 .left) (out .1 .0 ∙ ap rootsOf (out .0))
+
+pub finished-spec : {M : Type 1} → statement M
+finished-spec =
+    tie.close (tie.spec chains-requires question-requires returns emit-requires returns-2)

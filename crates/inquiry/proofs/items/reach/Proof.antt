@@ -1,0 +1,60 @@
+-- `reach` is its definition: what is left of the items, from the present value on, gives the result. Assumes nothing.
+use mathlib.Core.Path.{_≡_, refl, sym, _∙_}
+use Prim.Native.Nat.{_-_, _≤_}
+use lib.ListN.{drop}
+use borrow.Author.Needs.{needs}
+use Rattle.roots.specs.Roots.{listOf}
+use Rattle.roots.specs.Listed.{Fits}
+use Rattle.inquiry.specs.Touching.{reachOf}
+use Rattle.inquiry.proofs.Steps.{reach-turn, reach-end}
+use Rattle.inquiry.proofs.items.reach.Statement.{statement}
+use Rattle.inquiry.proofs.items.reach.Tie as tie
+
+abbrev Inv-loop : tie.InvT-loop
+Inv-loop m far items r₀ k₀ r k = (k ≤ items .len) × Fits items × (reachOf m r (drop k (listOf items)) ≡ reachOf m r₀ (listOf items))
+
+abbrev μ-loop : tie.MeasureT-loop
+μ-loop m far items r₀ k₀ r k = items .len - k
+
+loop-holds : tie.Need-loop-holds Inv-loop μ-loop
+loop-holds c = (search needs, c .pre, refl)
+
+mul-it : tie.Need-mul-it Inv-loop μ-loop
+mul-it c = search needs
+
+element-copy-out-it : tie.Need-element-copy-out-it Inv-loop μ-loop
+element-copy-out-it c = search needs
+
+abs-requires : tie.Need-abs-requires Inv-loop μ-loop
+abs-requires c κs = search needs
+
+min-requires : tie.Need-min-requires Inv-loop μ-loop
+min-requires c κs = search needs
+
+add-k : tie.Need-add-k Inv-loop μ-loop
+add-k c = search needs
+
+loop-less : tie.Need-loop-less Inv-loop μ-loop
+loop-less c = search needs
+
+loop-again : tie.Need-loop-again Inv-loop μ-loop
+loop-again c = let at = c .before .before .before .before .before in (search needs, at .loop .inv .1, rw (c .min .ensures, c .before .abs .ensures) (sym (reach-turn (at .before .args .t1) (at .loop .k) (at .loop .inv .1) _ _ (search needs)) ∙ at .loop .inv .2))
+
+returns : tie.Need-returns Inv-loop μ-loop
+returns c = let at = c .before in sym (reach-end (at .before .args .t1) (at .loop .k) (at .loop .inv .1) _ _ (search needs)) ∙ at .loop .inv .2
+
+pub reach-spec : {M : Type 1} → statement M
+reach-spec =
+    tie.close
+    (tie.spec
+    Inv-loop
+    μ-loop
+    loop-holds
+    mul-it
+    element-copy-out-it
+    abs-requires
+    min-requires
+    add-k
+    loop-less
+    loop-again
+    returns)

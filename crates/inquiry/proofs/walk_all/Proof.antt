@@ -1,0 +1,66 @@
+-- `walk_all` meets its contract: the walk over the pairs, and from there over the items, sorted where there is a pair. Assumes nothing.
+use mathlib.Core.Path.{_∙_, ap}
+use native.Mathlib.Omega.{arith}
+use Rattle.roots.specs.Roots.{listOf, pairListOf}
+use Rattle.roots.specs.Listed.{multiplicities}
+use Rattle.roots.proofs.Arrays.{length-mapped}
+use Rattle.inquiry.proofs.Lists.{pairs-none, pairs-some, multiplicities-byValue}
+use Rattle.inquiry.proofs.Steps.{ask-asks, ask-ends, ordered-none, ordered-some}
+use borrow.Author.Needs.{needs}
+use Rattle.inquiry.proofs.walk_all.Statement.{statement}
+use Rattle.inquiry.proofs.walk_all.Tie as tie
+
+pairs-requires : tie.Need-pairs-requires
+pairs-requires c κs = c .pre
+
+question-requires : tie.Need-question-requires
+question-requires c κs = search needs
+
+returns : tie.Need-returns
+returns c = c .question .ensures ∙ ask-asks _ _ _ _ _ _ _ _ _ (c .before .before .pairs .ensures .0) (c .before .if1 .taken)
+
+finished-requires : tie.Need-finished-requires
+finished-requires c κs =
+    let walk = c .before .before .before .before .pairs .ensures in
+    let pre = c .before .before .before .before .before .pre in
+    (pre .0, pre .1, walk .1, walk .2)
+
+returns-2 : tie.Need-returns-2
+returns-2 c =
+    let at = c .before .before .before .before .before in
+    let ps = at .before .args .ps in
+    c .finished .ensures
+    ∙ ask-ends _ _ _ _ _ _ _ _ _ (at .pairs .ensures .0) _ (c .before .before .before .before .if1 .left) (ordered-none (pairListOf ps) _ (pairs-none ps (c .before .if2 .taken)))
+
+ordered-requires : tie.Need-ordered-requires
+ordered-requires c κs = c .before .before .before .before .pairs .ensures .1 .1
+
+finished-requires-2 : tie.Need-finished-requires-2
+finished-requires-2 c κs =
+    let walk = c .before .before .before .before .before .pairs .ensures in
+    let pre = c .before .before .before .before .before .before .pre in
+    let its = c .ordered .ensures in
+    let same = ap multiplicities (its .0) ∙ multiplicities-byValue (listOf (c .before .before .before .before .before .pairs .result .items)) in
+    (pre .0, pre .1, ((let h = c .ordered .ok in search (needs, length-mapped)), omega (arith, its .1, walk .1 .1)), omega (arith, same, walk .2))
+
+returns-3 : tie.Need-returns-3
+returns-3 c =
+    let at = c .before .before .before .before .before .before in
+    let s = at .before in
+    let ps = s .args .ps in
+    c .finished2 .ensures
+    ∙ ask-ends _ _ _ _ _ _ _ _ _ (at .pairs .ensures .0) _ (c .before .before .before .before .before .if1 .left)
+    (c .before .ordered .ensures .0 ∙ ordered-some (pairListOf ps) _ _ _ (pairs-some ps (s .pre .3) (c .before .before .if2 .left)))
+
+pub walk-all-spec : {M : Type 1} → statement M
+walk-all-spec =
+    tie.close
+    (tie.spec
+    pairs-requires
+    question-requires
+    returns
+    finished-requires
+    returns-2
+    ordered-requires
+    finished-requires-2
+    returns-3)

@@ -1,0 +1,67 @@
+-- An inquiry: what `solve` and `finish` gave, and the replies so far. It shows a question about a place, or the finished list. Definitions only.
+use mathlib.Core.Bool.{Bool, true, false, cond, _&&_}
+use mathlib.Core.List.{List, [], _∷_}
+use Prim.Native.Nat.{ℕ, _+_, _-_, _*_}
+use lib.Dec.{ltb, leb}
+use lib.ListN.{take, set}
+use Rattle.float.specs.Literals.{zero64}
+use Rattle.roots.specs.declared.RealRoot.{RealRoot}
+use Rattle.roots.specs.Roots.{listOf, rootsOf, noRoots, pairListOf}
+use Rattle.asking.specs.Asking.{Asking, Stage, asks, ended, walked}
+use Rattle.inquiry.specs.declared.Replies.{Replies}
+use Rattle.inquiry.specs.declared.Inquiry.{Inquiry}
+use Rattle.inquiry.specs.declared.Asked.{Asked}
+use Rattle.inquiry.specs.declared.Replied.{Replied}
+use Rattle.inquiry.specs.Touching.{touching}
+
+-- the replies that count
+abbrev pub repliesOf : Replies → List Bool
+repliesOf s = take (s .count) (s .reply)
+
+-- ---- which values ask
+-- each root counts at least once, and together they count at most n times
+unfoldable pub countedIn : ℕ → List RealRoot → Bool
+countedIn n [] = true
+countedIn n (r ∷ l) = ltb 0 (r .multiplicity) && (leb (r .multiplicity) n && countedIn (n - r .multiplicity) l)
+
+-- a degree, replies, roots and pairs that their arrays hold
+abbrev pub sizesFit : ℕ → ℕ → ℕ → ℕ → Bool
+sizesFit d replies roots pairs = leb d 4 && (leb replies 4 && (leb roots 4 && leb pairs 2))
+
+-- what every inquiry has that `start` makes and `reply` keeps: roots, and pairs as two each, of at most the degree 4. By sizes alone, whatever the floats are.
+unfoldable pub soundOf : Inquiry → Bool
+unfolding countedIn
+soundOf q =
+    sizesFit (q .poly .d) (q .replies .count) (q .roots .len) (q .pairs .len) && countedIn (4 - 2 * q .pairs .len) (listOf (q .roots))
+
+-- ---- what an inquiry shows
+-- the computation that its replies are read by
+abbrev pub asking : Inquiry → Asking (List RealRoot)
+asking q = touching (q .poly) (q .tol) (listOf (q .roots)) (pairListOf (q .pairs))
+
+-- a question, or the list
+unfoldable pub shown : Stage (List RealRoot) → Asked
+shown (asks x) = record { asking = true; place = x; list = noRoots }
+shown (ended l rs) = record { asking = false; place = zero64; list = rootsOf l }
+
+-- no question, and no root
+abbrev pub nothing : Asked
+nothing = record { asking = false; place = zero64; list = noRoots }
+
+-- `ask`; a value that is not sound asks nothing
+unfoldable pub askedOf : Inquiry → Asked
+unfolding soundOf shown
+askedOf q = cond (soundOf q) (shown (walked (repliesOf (q .replies)) (asking q))) nothing
+
+-- ---- a reply
+-- one reply more
+abbrev pub repliedBy : Replies → Bool → Replies
+repliedBy s r = record { reply = set (s .reply) (s .count) r; count = s .count + 1 }
+
+abbrev pub withReply : Inquiry → Bool → Inquiry
+withReply q r = record { poly = q .poly; tol = q .tol; roots = q .roots; pairs = q .pairs; replies = repliedBy (q .replies) r }
+
+-- `reply`: refusal 4, the inquiry unaltered, where nothing is being asked
+unfoldable pub repliedOf : Inquiry → Bool → Replied
+unfolding askedOf
+repliedOf q r = cond (askedOf q .asking) (record { number = 0; inquiry = withReply q r }) (record { number = 4; inquiry = q })

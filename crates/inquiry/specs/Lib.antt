@@ -1,0 +1,5 @@
+pub mod Touching
+pub mod Inquiry
+pub mod Walk
+pub mod Start
+pub mod Claims

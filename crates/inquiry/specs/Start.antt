@@ -1,0 +1,45 @@
+-- real_roots_touching of poly.rs, `touches` an argument; the inquiry that starts it; and an inquiry that is fed. Definitions only.
+use mathlib.Core.Bool.{Bool, false, cond}
+use mathlib.Core.List.{List, []}
+use Prim.Native.Nat.{ℕ, zero, suc}
+use lib.Dec.{eqb}
+use lib.ListN.{replicate}
+use lib.Ieee.{Float}
+use Rattle.roots.specs.declared.RealRoot.{RealRoot}
+use Rattle.roots.specs.Roots.{listOf, pairListOf}
+use Rattle.poly.specs.declared.Solved.{Solved}
+use Rattle.poly.specs.Coefficients.{refusalOf}
+use Rattle.poly.specs.Solve.{solveOf}
+use Rattle.asking.specs.Asking.{Asking, done, answered, placesAsked}
+use Rattle.inquiry.specs.declared.Inquiry.{Inquiry}
+use Rattle.inquiry.specs.declared.Started.{Started}
+use Rattle.inquiry.specs.Touching.{touching}
+use Rattle.inquiry.specs.Inquiry.{askedOf, repliedOf}
+
+-- ---- the Rust's function
+-- `let Some((poly, cands, pairs)) = Scaled::solve(coeffs, tol) else { return out }`, finish, and the rest
+unfoldable pub realRootsTouching : List Float → Float → Asking (List RealRoot)
+realRootsTouching coeffs tol =
+    let s = solveOf coeffs tol in
+    cond (eqb (refusalOf coeffs) 0) (touching (s .poly) (s .tol) (listOf (s .roots)) (pairListOf (s .pairs))) (done [])
+
+-- its list
+abbrev pub realRootsTouchingOf : (Float → Bool) → List Float → Float → List RealRoot
+realRootsTouchingOf touches coeffs tol = answered touches (realRootsTouching coeffs tol)
+
+-- the places at which it calls touches, in order
+abbrev pub placesTouchingOf : (Float → Bool) → List Float → Float → List Float
+placesTouchingOf touches coeffs tol = placesAsked touches (realRootsTouching coeffs tol)
+
+-- ---- the inquiry
+-- what was solved, and no reply
+abbrev pub freshBy : Solved → Inquiry
+freshBy s = record { poly = s .poly; tol = s .tol; roots = s .roots; pairs = s .pairs; replies = record { reply = replicate 4 false; count = 0 } }
+
+unfoldable pub startOf : List Float → Float → Started
+startOf coeffs tol = let s = solveOf coeffs tol in record { number = s .number; inquiry = freshBy s }
+
+-- n questions, each given the reply of touches
+unfoldable pub fed : (Float → Bool) → ℕ → Inquiry → Inquiry
+fed touches zero q = q
+fed touches (suc n) q = let p = fed touches n q in repliedOf p (touches (askedOf p .place)) .inquiry

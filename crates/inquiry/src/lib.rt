@@ -1,0 +1,281 @@
+// real_roots_touching of poly.rs as an inquiry: a value that shows a question about a place, or the finished list.
+// Nothing is suspended in it: `ask` walks anew, with the replies at hand. It rests on `poly` (solve), `finish`, `band` (extremum), `scale` and `asking`, which says what
+// a computation that asks is.
+ghost use mathlib.Core.Path.{_≡_};
+ghost use Prim.Native.Nat.{_≤_, _<_};
+ghost use mathlib.Core.Bool.{true};
+ghost use Rattle.roots.specs.Roots.{listOf, pairListOf};
+ghost use Rattle.roots.specs.Listed.{multiplicities, Fits};
+ghost use Rattle.asking.specs.Asking.{asks, walked};
+ghost use Rattle.inquiry.specs.Touching.{chained, touching};
+ghost use Rattle.inquiry.specs.Inquiry.{repliesOf, countedIn, sizesFit, soundOf, shown, nothing, askedOf, repliedBy, repliedOf};
+ghost use Rattle.inquiry.specs.Start.{startOf};
+ghost use Rattle.inquiry.specs.Walk.{leftOf, RepliesFit, Held};
+
+mod chains;
+mod items;
+
+use crate::chains::chains;
+use crate::chains::emit;
+use crate::items::pairs;
+
+// The replies so far: at most degree - 1.
+pub struct Replies {
+    pub reply: [bool; 4],
+    pub count: usize,
+}
+
+// What `solve` and `finish` gave, in the scaled variable, the tolerance, and the replies.
+pub struct Inquiry {
+    pub poly: scaled::Scaled,
+    pub tol: f64,
+    pub roots: roots::Roots,
+    pub pairs: roots::Pairs,
+    pub replies: Replies,
+}
+
+// An inquiry, and 0; or the number of the refusal, and an inquiry that asks nothing and lists nothing.
+pub struct Started {
+    pub number: u32,
+    pub inquiry: Inquiry,
+}
+
+// A question about a place, or the finished list.
+pub struct Asked {
+    pub asking: bool,
+    pub place: f64,
+    pub list: roots::Roots,
+}
+
+// The inquiry after a reply; number is 0, or 4 where nothing was being asked.
+pub struct Replied {
+    pub number: u32,
+    pub inquiry: Inquiry,
+}
+
+// Roots linked by touching critical points between them; none where mult is 0.
+pub struct Chain {
+    pub first: f64,
+    pub last: f64,
+    pub at: f64,
+    pub touching: u32,
+    pub mult: u32,
+}
+
+// What touches_at came to: a reply, or a place that has none yet. `used` replies are behind it.
+pub struct Heard {
+    pub yes: bool,
+    pub used: usize,
+    pub asking: bool,
+    pub place: f64,
+}
+
+// The items so far, likewise.
+pub struct Walk {
+    pub items: roots::Roots,
+    pub used: usize,
+    pub asking: bool,
+    pub place: f64,
+}
+
+// The chain at hand and the list so far, likewise.
+pub struct Links {
+    pub chain: Chain,
+    pub out: roots::Roots,
+    pub used: usize,
+    pub asking: bool,
+    pub place: f64,
+}
+
+fn nothing() -> Asked
+    ensures { λ r. ⌜ r ≡ nothing ⌝ }
+{
+    let none = roots::Roots::none();
+    Asked {
+        asking: false,
+        place: 0.0,
+        list: none,
+    }
+}
+
+fn question(place: f64) -> Asked
+    ensures { λ r. ⌜ r ≡ shown (asks place) ⌝ }
+{
+    let none = roots::Roots::none();
+    Asked {
+        asking: true,
+        place,
+        list: none,
+    }
+}
+
+fn finished(
+    poly: scaled::Scaled,
+    tol: f64,
+    replies: Replies,
+    its: roots::Roots,
+    used: usize,
+) -> Asked
+    requires { ⌜ (poly .d ≤ 4) × RepliesFit replies × Fits its × (multiplicities (listOf its) ≤ 4) ⌝ }
+    ensures { λ r. ⌜ r ≡ shown (walked (leftOf replies used) (chained poly tol (listOf its))) ⌝ }
+{
+    let w = chains(poly, tol, replies, its, used);
+    if w.asking {
+        return question(w.place);
+    }
+    let out = w.out;
+    let chain = w.chain;
+    let list = emit(poly.e, out, chain);
+    Asked {
+        asking: false,
+        place: 0.0,
+        list,
+    }
+}
+
+// Each root counts at least once, and together they count at most `most` times.
+fn counted_in(most: usize, roots: roots::Roots) -> bool
+    requires { ⌜ Fits roots ⌝ }
+    ensures { λ r. ⌜ r ≡ countedIn most (listOf roots) ⌝ }
+{
+    let mut left = most;
+    let mut k = 0;
+    while k < roots.len {
+        let r = roots.root[k];
+        let m = r.multiplicity as usize;
+        if m == 0 {
+            return false;
+        }
+        if left < m {
+            return false;
+        }
+        left -= m;
+        k += 1;
+    }
+    true
+}
+
+fn sizes_fit(d: usize, replies: usize, roots: usize, pairs: usize) -> bool
+    ensures { λ r. ⌜ (r ≡ sizesFit d replies roots pairs) × (r ≡ true → (roots ≤ 4) × (pairs ≤ 2)) ⌝ }
+{
+    if d > 4 {
+        return false;
+    }
+    if replies > 4 {
+        return false;
+    }
+    if roots > 4 {
+        return false;
+    }
+    pairs <= 2
+}
+
+// The question, or the finished list.
+fn walk_all(
+    poly: scaled::Scaled,
+    tol: f64,
+    replies: Replies,
+    items: roots::Roots,
+    ps: roots::Pairs,
+) -> Asked
+    requires { ⌜ Held (poly .d) replies items ps ⌝ }
+    ensures { λ r. ⌜ r ≡ shown (walked (repliesOf replies) (touching poly tol (listOf items) (pairListOf ps))) ⌝ }
+{
+    let w = pairs(poly, tol, replies, items, ps);
+    if w.asking {
+        return question(w.place);
+    }
+    let found = w.items;
+    if ps.len == 0 {
+        return finished(poly, tol, replies, found, w.used);
+    }
+    let its = finish::ordered(found);
+    finished(poly, tol, replies, its, w.used)
+}
+
+// 1, 2 and 3 are refused as for a list.
+pub fn start(coeffs: &[f64], tol: f64) -> Started
+    ensures { λ r. ⌜ r ≡ startOf (now (coeffs .entry)) tol ⌝ }
+{
+    let s = poly::solve(coeffs, tol);
+    let poly = s.poly;
+    let roots = s.roots;
+    let pairs = s.pairs;
+    let replies = Replies {
+        reply: [false; 4],
+        count: 0,
+    };
+    let inquiry = Inquiry {
+        poly,
+        tol: s.tol,
+        roots,
+        pairs,
+        replies,
+    };
+    Started {
+        number: s.number,
+        inquiry,
+    }
+}
+
+impl Replies {
+    // One reply more.
+    fn with(self, yes: bool) -> Replies
+        requires { ⌜ self .count < 4 ⌝ }
+        ensures { λ r. ⌜ r ≡ repliedBy self yes ⌝ }
+    {
+        let at = self.count;
+        let mut out = self;
+        out.reply[at] = yes;
+        out.count = at + 1;
+        out
+    }
+}
+
+impl Inquiry {
+    // Whether `start` and `reply` can have made it, by its sizes.
+    pub fn is_sound(self) -> bool
+        ensures { λ r. ⌜ r ≡ soundOf self ⌝ }
+    {
+        let poly = self.poly;
+        let replies = self.replies;
+        let roots = self.roots;
+        let pairs = self.pairs;
+        if sizes_fit(poly.d, replies.count, roots.len, pairs.len) {
+            return counted_in(4 - 2 * pairs.len, roots);
+        }
+        false
+    }
+
+    // The question, or the finished list; neither for a value that is not sound.
+    pub fn ask(self) -> Asked
+        ensures { λ r. ⌜ r ≡ askedOf self ⌝ }
+    {
+        if self.is_sound() {
+            let poly = self.poly;
+            let replies = self.replies;
+            let items = self.roots;
+            let ps = self.pairs;
+            return walk_all(poly, self.tol, replies, items, ps);
+        }
+        nothing()
+    }
+
+    // Where nothing is being asked the inquiry is returned as it was.
+    pub fn reply(self, yes: bool) -> Replied
+        ensures { λ r. ⌜ r ≡ repliedOf self yes ⌝ }
+    {
+        let a = self.ask();
+        if a.asking {
+            let replies = self.replies;
+            let more = replies.with(yes);
+            let mut inquiry = self;
+            inquiry.replies = more;
+            return Replied { number: 0, inquiry };
+        }
+        Replied {
+            number: 4,
+            inquiry: self,
+        }
+    }
+}
