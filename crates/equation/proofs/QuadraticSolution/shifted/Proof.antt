@@ -1,0 +1,55 @@
+-- `equation::QuadraticSolution::shifted` meets its contract: by its cases. Assumes nothing.
+use Rattle.equation.specs.Quadratic.{shiftedOf}
+use borrow.Author.Needs.{needs}
+use Rattle.equation.proofs.QuadraticSolution.shifted.Statement.{statement}
+use Rattle.equation.proofs.QuadraticSolution.shifted.Tie as tie
+
+enum-known-self : tie.Need-enum-known-self
+enum-known-self c = search needs
+
+enum-known-self-2 : tie.Need-enum-known-self-2
+enum-known-self-2 c = search needs
+
+enum-known-self-3 : tie.Need-enum-known-self-3
+enum-known-self-3 c = search needs
+
+enum-told : tie.Need-enum-told
+enum-told c = search needs
+
+enum-told-2 : tie.Need-enum-told-2
+enum-told-2 c = search needs
+
+returns : tie.Need-returns
+unfolding shiftedOf
+returns c = rw (c .before .self .given .1)
+
+returns-2 : tie.Need-returns-2
+unfolding shiftedOf
+returns-2 c = rw (c .before .self2 .given .1)
+
+returns-3 : tie.Need-returns-3
+unfolding shiftedOf
+returns-3 c = rw (c .before .self3 .given .1)
+
+returns-4 : tie.Need-returns-4
+unfolding shiftedOf
+returns-4 c = search needs
+
+returns-5 : tie.Need-returns-5
+unfolding shiftedOf
+returns-5 c = search needs
+
+pub shifted-spec : {M : Type 1} → statement M
+shifted-spec =
+    tie.close
+    (tie.spec
+    enum-known-self
+    enum-known-self-2
+    enum-known-self-3
+    enum-told
+    enum-told-2
+    returns
+    returns-2
+    returns-3
+    returns-4
+    returns-5)

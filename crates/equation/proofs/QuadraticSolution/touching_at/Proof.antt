@@ -1,0 +1,78 @@
+-- `equation::QuadraticSolution::touching_at` meets its contract: by its cases, and by whether the vertex counts. Assumes nothing.
+use mathlib.Core.Path.{sym, _∙_}
+use Rattle.equation.specs.Quadratic.{touchingAtOf}
+use borrow.Author.Needs.{needs}
+use Rattle.equation.proofs.QuadraticSolution.touching_at.Statement.{statement}
+use Rattle.equation.proofs.QuadraticSolution.touching_at.Tie as tie
+
+touches-finite-requires : tie.Need-touches-finite-requires
+touches-finite-requires c κs = search needs
+
+enum-known-self : tie.Need-enum-known-self
+enum-known-self c = search needs
+
+returns : tie.Need-returns
+unfolding touchingAtOf
+returns c =
+    let arm = c .before .before in
+    simp (arm .self .given .1, sym (arm .before .before .touches-finite .ensures) ∙ c .if1 .taken)
+
+enum-known-self-2 : tie.Need-enum-known-self-2
+enum-known-self-2 c = search needs
+
+enum-known-self-3 : tie.Need-enum-known-self-3
+enum-known-self-3 c = search needs
+
+enum-told : tie.Need-enum-told
+enum-told c = search needs
+
+enum-told-2 : tie.Need-enum-told-2
+enum-told-2 c = search needs
+
+returns-2 : tie.Need-returns-2
+unfolding touchingAtOf
+returns-2 c =
+    let arm = c .before in
+    simp (arm .enum-told2 .given .1, sym (arm .before .before .touches-finite .ensures) ∙ c .if2 .taken)
+
+returns-3 : tie.Need-returns-3
+unfolding touchingAtOf
+returns-3 c =
+    let arm = c .before .before in
+    simp (arm .self .given .1, sym (arm .before .before .touches-finite .ensures) ∙ c .if1 .left)
+
+returns-4 : tie.Need-returns-4
+unfolding touchingAtOf
+returns-4 c = rw (c .before .self2 .given .1)
+
+returns-5 : tie.Need-returns-5
+unfolding touchingAtOf
+returns-5 c = rw (c .before .self3 .given .1)
+
+returns-6 : tie.Need-returns-6
+unfolding touchingAtOf
+returns-6 c = search needs
+
+returns-7 : tie.Need-returns-7
+unfolding touchingAtOf
+returns-7 c =
+    let arm = c .before in
+    simp (arm .enum-told2 .given .1, sym (arm .before .before .touches-finite .ensures) ∙ c .if2 .left)
+
+pub touching-at-spec : {M : Type 1} → statement M
+touching-at-spec =
+    tie.close
+    (tie.spec
+    touches-finite-requires
+    enum-known-self
+    returns
+    enum-known-self-2
+    enum-known-self-3
+    enum-told
+    enum-told-2
+    returns-2
+    returns-3
+    returns-4
+    returns-5
+    returns-6
+    returns-7)

@@ -1,0 +1,76 @@
+-- The ways out of `solve_quadratic` and of `quadratic`. Assumes nothing.
+use mathlib.Core.Path.{_≡_, refl, sym, ap, _∙_}
+use mathlib.Core.Bool.{Bool, true, false, true≢false}
+use mathlib.Core.List.{[], _∷_}
+use Prim.Native.Nat.{zero, suc, _+_, _*_, _≤_}
+use native.Mathlib.Nat.{suc-mul}
+use native.Mathlib.Omega.{arith}
+use borrow.Author.Tests.{ltb-false}
+use lib.Ieee.{Float, nan, inf, fin, up, down, lt, le, ofBits}
+use lib.Ieee.Fits.{up-pos}
+use Rattle.facts.specs.Cond.{if-taken, if-left}
+use Rattle.float.specs.Literals.{zero64}
+use Rattle.float.specs.Methods.{absOf, copysignOf}
+use Rattle.sqrt.specs.Root.{sqrtOf}
+use Rattle.equation.specs.declared.QuadraticSolution.{QuadraticSolution}
+use Rattle.equation.specs.declared.QuadraticSolution.the-variants.{One, Empty}
+use Rattle.equation.specs.declared.QuadraticAnswer.{QuadraticAnswer}
+use Rattle.equation.specs.Quadratic.{valuesOf, midOf, discOf, isGrazingOf, twoOf, solveQuadraticOf, areFinite, refusedBy, quadraticOf}
+
+-- a number not below 0 and its size have one root but for the sign of a zero
+signed-root : (x y : Float) → lt x zero64 ≡ false → copysignOf (sqrtOf (absOf x)) y ≡ copysignOf (sqrtOf x) y
+unfolding copysignOf sqrtOf absOf lt ofBits
+signed-root nan y h = refl
+signed-root (inf true) y h = absurd (true≢false h)
+signed-root (inf false) y h = refl
+signed-root (fin false m e) y h = refl
+signed-root (fin true zero e) y h = refl
+signed-root (fin true (suc m) e) y h =
+    let p : suc m * up e * 1 + 0 * 1 * down e ≤ 0 = ltb-false _ _ h in
+    absurd (omega (arith, suc-mul m (up e), up-pos e))
+
+-- where |a| is above `angular`: with the one root that the code takes, and its test
+module _ (a b c confusion angular : Float) {s size root : Float} {grazing : Bool} (is-s : s ≡ absOf a) (curved : le s angular ≡ false)
+    (is-size : size ≡ absOf (discOf a b c)) (is-root : root ≡ sqrtOf size) (is-grazing : grazing ≡ isGrazingOf a b c (midOf a b) root confusion) where
+  not-linear : le (absOf a) angular ≡ false
+  not-linear = rw is-s at curved
+
+  the-root : root ≡ sqrtOf (absOf (discOf a b c))
+  the-root = is-root ∙ ap sqrtOf is-size
+
+  the-test : grazing ≡ isGrazingOf a b c (midOf a b) (sqrtOf (absOf (discOf a b c))) confusion
+  the-test = is-grazing ∙ ap (λ (r : Float). isGrazingOf a b c (midOf a b) r confusion) the-root
+
+  pub solved-one : grazing ≡ true → One (midOf a b) ≡ solveQuadraticOf a b c confusion angular
+  unfolding solveQuadraticOf
+  solved-one h = if-left _ _ not-linear (if-taken _ _ (sym the-test ∙ h) refl)
+
+  pub solved-empty : grazing ≡ false → lt (discOf a b c) zero64 ≡ true → Empty ≡ solveQuadraticOf a b c confusion angular
+  unfolding solveQuadraticOf
+  solved-empty h k = if-left _ _ not-linear (if-left _ _ (sym the-test ∙ h) (if-taken _ _ k refl))
+
+  same-two : lt (discOf a b c) zero64 ≡ false → twoOf a b c root ≡ twoOf a b c (sqrtOf (discOf a b c))
+  unfolding twoOf
+  same-two k = rw (the-root, signed-root (discOf a b c) b k)
+
+  pub solved-two : {r : QuadraticSolution} → grazing ≡ false → lt (discOf a b c) zero64 ≡ false → r ≡ twoOf a b c root → r ≡ solveQuadraticOf a b c confusion angular
+  unfolding solveQuadraticOf
+  solved-two h k is = if-left _ _ not-linear (if-left _ _ (sym the-test ∙ h) (if-left _ _ k (is ∙ same-two k)))
+
+module _ (a b c confusion angular : Float) {finite : Bool} (is-finite : finite ≡ areFinite (a ∷ b ∷ c ∷ [])) where
+  pub not-finite : {r : QuadraticAnswer} → finite ≡ false → r ≡ refusedBy 1 → r ≡ quadraticOf a b c confusion angular
+  unfolding quadraticOf
+  not-finite h is = if-left _ _ (sym is-finite ∙ h) is
+
+  module _ (s : QuadraticSolution) {sound : Bool} (is-s : s ≡ solveQuadraticOf a b c confusion angular) (is-sound : sound ≡ areFinite (valuesOf s))
+      (h : finite ≡ true) where
+    the-places : sound ≡ areFinite (valuesOf (solveQuadraticOf a b c confusion angular))
+    the-places = is-sound ∙ ap (λ (t : QuadraticSolution). areFinite (valuesOf t)) is-s
+
+    pub answered : sound ≡ true → record { number = 0; solution = s } ≡ quadraticOf a b c confusion angular
+    unfolding quadraticOf
+    answered k = if-taken _ _ (sym is-finite ∙ h) (if-taken _ _ (sym the-places ∙ k) (ap (λ (t : QuadraticSolution). record { number = 0; solution = t }) is-s))
+
+    pub answer-not-finite : {r : QuadraticAnswer} → sound ≡ false → r ≡ refusedBy 5 → r ≡ quadraticOf a b c confusion angular
+    unfolding quadraticOf
+    answer-not-finite k is = if-taken _ _ (sym is-finite ∙ h) (if-left _ _ (sym the-places ∙ k) is)

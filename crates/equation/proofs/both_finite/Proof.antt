@@ -1,0 +1,27 @@
+-- `equation::both_finite` meets its contract: the second decides where the first is finite. Assumes nothing.
+use mathlib.Core.Path.{_∙_}
+use Rattle.equation.proofs.Finite.{one-finite, by-parts}
+use mathlib.Core.List.{[], _∷_}
+use borrow.Author.Needs.{needs}
+use Rattle.equation.proofs.both_finite.Statement.{statement}
+use Rattle.equation.proofs.both_finite.Tie as tie
+
+is-finite-requires : tie.Need-is-finite-requires
+is-finite-requires c κs = search needs
+
+is-finite-requires-2 : tie.Need-is-finite-requires-2
+is-finite-requires-2 c κs = search needs
+
+returns : tie.Need-returns
+returns c =
+    let first = c .before .before in
+    let a = first .before .args in
+    one-finite _ (c .is-finite2 .ensures) ∙ by-parts (a .x ∷ []) (a .y ∷ []) (one-finite _ (first .is-finite .ensures)) (c .before .if1 .taken)
+
+returns-2 : tie.Need-returns-2
+returns-2 c =
+    let a = c .before .before .args in
+    by-parts (a .x ∷ []) (a .y ∷ []) (one-finite _ (c .before .is-finite .ensures)) (c .if1 .left)
+
+pub both-finite-spec : {M : Type 1} → statement M
+both-finite-spec = tie.close (tie.spec is-finite-requires is-finite-requires-2 returns returns-2)

@@ -1,0 +1,81 @@
+-- `equation::sample` meets its contract: the samples that are left, taken from (k, largest), give the k that all give. Assumes nothing.
+use mathlib.Core.Path.{_≡_, sym, _∙_}
+use Rattle.equation.proofs.Samples.{chosen, first-sample, next-sample, last-sample}
+use mathlib.Core.Logic.{⊎-elim}
+use Prim.Native.Nat.{_<_, _≤_, _-_}
+use Rattle.equation.specs.Crank.{sampleOf}
+use borrow.Author.Needs.{needs}
+use Rattle.equation.proofs.sample.Statement.{statement}
+use Rattle.equation.proofs.sample.Tie as tie
+
+abbrev Inv-loop : tie.InvT-loop
+Inv-loop a2 b2 c1 d1 e k₀ largest₀ j₀ k largest j = (k < 8) × (j ≤ 8) × (chosen a2 b2 c1 d1 e j (k, largest) ≡ sampleOf a2 b2 c1 d1 e)
+
+abbrev μ-loop : tie.MeasureT-loop
+μ-loop a2 b2 c1 d1 e k₀ largest₀ j₀ k largest j = 8 - j
+
+f-at-requires : tie.Need-f-at-requires Inv-loop μ-loop
+f-at-requires c κs = search needs
+
+abs-requires : tie.Need-abs-requires Inv-loop μ-loop
+abs-requires c κs = search needs
+
+loop-holds : tie.Need-loop-holds Inv-loop μ-loop
+loop-holds c = (search needs, search needs, first-sample _ _ _ _ _ (c .before .f-at .ensures) (c .abs .ensures))
+
+add-f-at : tie.Need-add-f-at Inv-loop μ-loop
+add-f-at c = search needs
+
+f-at-requires-2 : tie.Need-f-at-requires-2 Inv-loop μ-loop
+f-at-requires-2 c κs = search needs
+
+abs-requires-2 : tie.Need-abs-requires-2 Inv-loop μ-loop
+abs-requires-2 c κs = search needs
+
+total-le-requires : tie.Need-total-le-requires Inv-loop μ-loop
+total-le-requires c κs = search needs
+
+add-j : tie.Need-add-j Inv-loop μ-loop
+add-j c = search needs
+
+loop-less : tie.Need-loop-less Inv-loop μ-loop
+loop-less c = search needs
+
+loop-again : tie.Need-loop-again Inv-loop μ-loop
+loop-again c =
+    let size = c .before .before in
+    let at = size .before in
+    let before = at .before .before .loop .inv .2 in
+    ⊎-elim
+    (λ w. (
+      search needs,
+      search needs,
+      rw (w .1, w .2) (next-sample _ _ _ _ _ _ _ _ (search needs) (at .f-at2 .ensures) (size .abs2 .ensures) (c .before .total-le .ensures) (w .0 .taken) ∙ before),
+    ))
+    (λ w. (
+      search needs,
+      search needs,
+      rw (w .1, w .2) (next-sample _ _ _ _ _ _ _ _ (search needs) (at .f-at2 .ensures) (size .abs2 .ensures) (c .before .total-le .ensures) (w .0 .left) ∙ before),
+    ))
+    (c .if1 .came)
+
+returns : tie.Need-returns Inv-loop μ-loop
+returns c = (sym (last-sample _ _ _ _ _ _ _ _ (c .loop-test .left)) ∙ c .before .loop .inv .2, c .before .loop .inv .0)
+
+pub sample-spec : {M : Type 1} → statement M
+sample-spec =
+    tie.close
+    (tie.spec
+    Inv-loop
+    μ-loop
+    f-at-requires
+    abs-requires
+    loop-holds
+    add-f-at
+    f-at-requires-2
+    abs-requires-2
+    total-le-requires
+    add-j
+    loop-less
+    loop-again
+    returns)
