@@ -4,7 +4,7 @@
 #[path = "build/patches.rs"]
 mod patches;
 
-use patches::{CUT, FILES, LIST_STARTS, LIST_USES, OPENED, PUT_IN, Patch};
+use patches::{COUNTED, CUT, FILES, LIST_STARTS, LIST_USES, OPENED, PUT_IN, Patch};
 use std::path::{Path, PathBuf};
 use std::{env, fs};
 
@@ -60,14 +60,16 @@ fn geomcore(here: &Path) -> Result<PathBuf, String> {
 
 fn write_rust(folder: &Path, out: &Path) {
     let mut modules = String::new();
-    for (tree, put_in) in [("untouched", &[][..]), ("patched", PUT_IN)] {
+    let untouched = [OPENED, CUT];
+    let reference = [OPENED, CUT, PUT_IN, COUNTED];
+    for (tree, lists) in [("untouched", &untouched[..]), ("patched", &reference)] {
         fs::create_dir_all(out.join(tree)).unwrap();
         modules += &format!("#[allow(clippy::all)]\npub mod {tree} {{\n");
         for (file, copy) in FILES {
             let source = folder.join(file);
             println!("cargo::rerun-if-changed={}", source.display());
             let text = source_text(&source, copy);
-            let text = patched(text, copy, &[OPENED, CUT, put_in]);
+            let text = patched(text, copy, lists);
             let path = out.join(tree).join(copy);
             fs::write(&path, text).unwrap();
             let name = copy.trim_end_matches(".rs");

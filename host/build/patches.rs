@@ -170,3 +170,73 @@ pub const PUT_IN: &[Patch] = &[
     // sorts that keep ties in their earlier order
     ("poly.rs", "sort_unstable_by(", "sort_by(", 3),
 ];
+
+/// In the reference build, after that: the ways that it goes are counted.
+pub const COUNTED: &[Patch] = &[
+    (
+        "poly.rs",
+        "(hi - lo > SPLIT_BITS).then(",
+        "(hi - lo > SPLIT_BITS && crate::met::way(k)).then(",
+        1,
+    ),
+    (
+        "poly.rs",
+        "magnitude_split(&sc.lg, sc.d) else {\n",
+        "magnitude_split(&sc.lg, sc.d) else {\n        crate::met::way(3);\n",
+        1,
+    ),
+    (
+        "poly.rs",
+        "if large.degree() != sc.d - small {\n",
+        "if large.degree() != sc.d - small {\n        crate::met::way(4);\n",
+        1,
+    ),
+    (
+        "poly.rs",
+        "&& s[0] != 0.0 && s[small] != 0.0) {\n",
+        "&& s[0] != 0.0 && s[small] != 0.0) {\n        crate::met::way(5);\n",
+        1,
+    ),
+    (
+        "poly.rs",
+        "    let inner = factorize(&sub, depth + 1);\n",
+        "    crate::met::way(6 + depth as usize);\n    let inner = factorize(&sub, depth + 1);\n",
+        1,
+    ),
+    (
+        "poly.rs",
+        "                Some(r) => {\n",
+        "                Some(r) => {\n                    crate::met::way(9);\n",
+        1,
+    ),
+    (
+        "poly.rs",
+        "value[k] = self.polish(vals[k], crate::methods::min(below, above));\n",
+        "value[k] = self.polish(vals[k], crate::methods::min(below, above));\n                crate::met::polished(value[k]);\n",
+        1,
+    ),
+    (
+        "poly.rs",
+        "            let band = self.band(mid, tol);\n",
+        "            crate::met::way(12);\n            let band = self.band(mid, tol);\n",
+        1,
+    ),
+    (
+        "poly.rs",
+        "            pairs.centre[pairs.len] = mid;\n",
+        "            crate::met::way(13);\n            pairs.centre[pairs.len] = mid;\n",
+        1,
+    ),
+    (
+        "poly.rs",
+        "                let total = m + mult[k];\n",
+        "                crate::met::way(14);\n                let total = m + mult[k];\n",
+        1,
+    ),
+    (
+        "poly.rs",
+        "value.is_finite().then_some(RealRoot {",
+        "(value.is_finite() || crate::met::left()).then_some(RealRoot {",
+        1,
+    ),
+];

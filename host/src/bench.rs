@@ -167,6 +167,82 @@ fn factors(_: &mut Random) -> Vec<Row> {
     Vec::new()
 }
 
+/// Whole lists of degree 2, 3 and 4, at the tolerance 2^-30: with coefficients from -1 to 1, with
+/// whole ones from -6 to 6, and with real roots alone, from -2 to 2.
+#[cfg(geomcore)]
+fn lists(r: &mut Random) -> Vec<Row> {
+    use crate::polynomials::polynomial;
+    use reference::untouched::poly::real_roots;
+    const NAMES: [[&str; 3]; 3] = [
+        ["list 2, uniform", "list 2, whole", "list 2, real roots"],
+        ["list 3, uniform", "list 3, whole", "list 3, real roots"],
+        ["list 4, uniform", "list 4, whole", "list 4, real roots"],
+    ];
+    let tol = 1.0 / (1u64 << 30) as f64;
+    let make = |r: &mut Random, mix, d: usize| -> [f64; 5] {
+        let mut p = match mix {
+            0 => std::array::from_fn(|_| 2.0 * r.unit() - 1.0),
+            1 => std::array::from_fn(|_| r.below(13) as f64 - 6.0),
+            _ => polynomial(r, 1, d).0,
+        };
+        p[d] = if p[d] == 0.0 { 1.0 } else { p[d] };
+        p
+    };
+    let mut rows = Vec::new();
+    for (d, names) in (2..).zip(NAMES) {
+        for (mix, name) in names.into_iter().enumerate() {
+            let inputs: Vec<_> = (0..FACTORED).map(|_| make(r, mix, d)).collect();
+            let inputs: Vec<_> = inputs.into_iter().map(|p| (p, port::forty(p))).collect();
+            let port = |(_, bytes): ([f64; 5], [u8; 40])| {
+                let mut out = [0; 72];
+                port::real_roots_bytes(&bytes[..8 * d + 8], tol, &mut out);
+                port::double(&out, 1)
+            };
+            let rust = |(p, _): ([f64; 5], [u8; 40])| {
+                real_roots(&p[..=d], tol).first().map_or(0.0, |root| root.value)
+            };
+            rows.push(row((name, "geomcore's"), Aim::Times(2.0), &inputs, port, rust));
+        }
+    }
+    rows
+}
+
+#[cfg(not(geomcore))]
+fn lists(_: &mut Random) -> Vec<Row> {
+    println!("lists beside geomcore's: {}", reference::SKIPPED);
+    Vec::new()
+}
+
+/// Quadratics with two roots, one or none, from the coefficients to the first place.
+#[cfg(geomcore)]
+fn quadratics(r: &mut Random) -> Vec<Row> {
+    use crate::port::quadratics::{quadratic_centre, solve_quadratic_first};
+    use crate::quadratics::{TOL, quadratic};
+    use reference::untouched::{Tolerance, equation};
+    let tol = Tolerance { confusion: TOL, angular: TOL, parametric: TOL };
+    let inputs: Vec<_> = (0..VALUES).map(|i| quadratic(r, [1, 3, 5][i % 3]).0).collect();
+    let first = |[a, b, c]: [f64; 3]| solve_quadratic_first(a, b, c, TOL, TOL);
+    let solved = |[a, b, c]: [f64; 3]| match equation::solve_quadratic(a, b, c, tol) {
+        equation::QuadraticSolution::Two(x, _)
+        | equation::QuadraticSolution::One(x)
+        | equation::QuadraticSolution::Linear(x) => x,
+        _ => f64::NAN,
+    };
+    let centre = |[a, b, _]: [f64; 3]| quadratic_centre(a, b, TOL);
+    let centred = |[a, b, _]: [f64; 3]| equation::quadratic_centre(a, b, tol);
+    let beside = "geomcore's";
+    vec![
+        row(("solve_quadratic", beside), Aim::Open, &inputs, first, solved),
+        row(("quadratic_centre", beside), Aim::Open, &inputs, centre, centred),
+    ]
+}
+
+#[cfg(not(geomcore))]
+fn quadratics(_: &mut Random) -> Vec<Row> {
+    println!("quadratics beside geomcore's: {}", reference::SKIPPED);
+    Vec::new()
+}
+
 fn verdict(row: &Row) -> String {
     let (value, most, unit) = match row.aim {
         Aim::Open => return String::new(),
@@ -180,16 +256,17 @@ fn verdict(row: &Row) -> String {
 /// Measures all of them and prints the table.
 pub fn run() {
     let mut r = Random::new(1);
-    let parts = [roots, angles, logarithms, scales, factors].map(|part| part(&mut r));
+    let parts =
+        [roots, angles, logarithms, scales, factors, lists, quadratics].map(|part| part(&mut r));
     println!("ns a value, best of {PASSES} passes over {VALUES} values, both in turns");
     println!(
-        "{:16}{:>8}   {:18}{:>8}{:>8}   at most",
+        "{:20}{:>8}   {:18}{:>8}{:>8}   at most",
         "function", "port", "beside", "Rust", "ratio"
     );
     for row in parts.iter().flatten() {
         let Row { name, port, beside, rust, .. } = row;
         let line = format!(
-            "{name:16}{port:>8.1}   {beside:18}{rust:>8.1}{:>8.1}   {}",
+            "{name:20}{port:>8.1}   {beside:18}{rust:>8.1}{:>8.1}   {}",
             port / rust,
             verdict(row)
         );

@@ -1,5 +1,6 @@
 //! Comparing two answers over many inputs: NaNs count as one value, everything else is compared bit
 //! for bit, signs of zeros included.
+use crate::random::Random;
 use std::io::Write;
 
 /// Inputs of one kind.
@@ -90,6 +91,12 @@ impl Same for i32 {
     }
 }
 
+impl Same for u32 {
+    fn same(&self, other: &u32) -> bool {
+        self == other
+    }
+}
+
 impl Same for u64 {
     fn same(&self, other: &u64) -> bool {
         self == other
@@ -142,6 +149,33 @@ pub fn compare<T: Copy + Shown, R: Same + Shown>(
     let counts = kinds.iter().map(|k| format!("{} {}", k.inputs.len(), k.name));
     let counts = counts.collect::<Vec<_>>().join(", ");
     say(&format!("{name}: {all} inputs, seed {seed}, all equal ({counts})"));
+}
+
+/// The same over `each` inputs of every kind, made one at a time.
+pub fn compare_made<T: Copy + Shown, R: Same + Shown>(
+    name: &str,
+    seed: u64,
+    (kinds, each): (&'static [&'static str], u64),
+    make: impl Fn(&mut Random, usize, u64) -> T,
+    port: impl Fn(T) -> R,
+    exact: impl Fn(T) -> R,
+) {
+    let mut r = Random::new(seed);
+    for (which, kind) in kinds.iter().enumerate() {
+        for n in 0..each {
+            let x = make(&mut r, which, n);
+            let (p, e) = (port(x), exact(x));
+            if !p.same(&e) {
+                let (x, p, e) = (x.shown(), p.shown(), e.shown());
+                panic!("{name}({x}), {kind}, the {n}th: port {p}, exact {e}");
+            }
+        }
+    }
+    let all = each * kinds.len() as u64;
+    say(&format!(
+        "{name}: {all} inputs, seed {seed}, all equal ({each} each {})",
+        kinds.join(", ")
+    ));
 }
 
 /// A line that a test's output keeps even where the test passes.

@@ -6,16 +6,35 @@
 #[cfg(target_feature = "fma")]
 compile_error!("the reference build has no fma: compile for a target without it");
 
+pub mod answer;
 pub mod bench;
 pub mod big;
+#[cfg(geomcore)]
+pub mod clustering;
 pub mod compare;
+#[cfg(geomcore)]
+pub mod differ;
+pub mod doubt;
 pub mod exact;
+pub mod format;
+pub mod halls;
 pub mod hard;
 pub mod inputs;
+pub mod lister;
+pub mod lists;
+pub mod met;
 pub mod methods;
+pub mod people;
 pub mod plain;
 pub mod polynomials;
 pub mod port;
+pub mod quadratics;
 pub mod random;
 pub mod reference;
+#[cfg(geomcore)]
+pub mod roots;
+pub mod show;
 pub mod stored;
+#[cfg(geomcore)]
+pub mod stored_files;
+pub mod tally;

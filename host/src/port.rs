@@ -1,8 +1,12 @@
-//! The proved functions, called through plain C calls. This file has the only `unsafe` of the host.
-//! The declarations are not checked against crates/exports: keep both lists side by side. A Rattle
-//! `&[u8]` or `&mut [u8]` is a pointer and a length, a number is itself, and no exported function
-//! requires anything of its arguments.
+//! The proved functions, called through plain C calls. This file and port/ have the only `unsafe` of
+//! the host. The declarations are not checked against crates/exports: keep both lists side by side.
+//! A Rattle `&[u8]` or `&mut [u8]` is a pointer and a length, a number is itself, and no exported
+//! function requires anything of its arguments.
 #![allow(unsafe_code)]
+use crate::answer::Answer;
+
+pub mod clustering;
+pub mod quadratics;
 
 unsafe extern "C" {
     pub safe fn leaf_ldexp(x: f64, k: i32) -> f64;
@@ -198,6 +202,29 @@ mod slices {
     unsafe extern "C" {
         pub fn leaf_third_angle(v: f64, out: *mut u8, out_len: usize) -> u64;
         pub fn leaf_log2_five(a: *const u8, a_len: usize, out: *mut u8, out_len: usize) -> u64;
+        pub fn scaled_new(a: *const u8, a_len: usize, d: u64, out: *mut u8, out_len: usize) -> u64;
+        pub fn magnitude_split(
+            lg: *const u8,
+            lg_len: usize,
+            d: u64,
+            out: *mut u8,
+            out_len: usize,
+        ) -> u64;
+        pub fn factorize(
+            a: *const u8,
+            a_len: usize,
+            d: u64,
+            depth: u32,
+            out: *mut u8,
+            out_len: usize,
+        ) -> u64;
+        pub fn real_roots(
+            coeffs: *const u8,
+            coeffs_len: usize,
+            tol: f64,
+            out: *mut u8,
+            out_len: usize,
+        ) -> u64;
     }
 }
 
@@ -212,6 +239,69 @@ pub fn leaf_third_angle(v: f64, out: &mut [u8]) -> u64 {
 pub fn leaf_log2_five(a: &[u8], out: &mut [u8]) -> u64 {
     // SAFETY: pointers and lengths are those of slices lent for the call, which do not overlap.
     unsafe { slices::leaf_log2_five(a.as_ptr(), a.len(), out.as_mut_ptr(), out.len()) }
+}
+
+/// f, g, lg, d, e and unit of `Scaled::new` for five doubles in 40 bytes and a degree, 18 doubles in
+/// all, and 144; 0 and nothing written where a slice is shorter or the degree above 4.
+pub fn scaled_new_bytes(a: &[u8], d: u64, out: &mut [u8]) -> u64 {
+    // SAFETY: pointers and lengths are those of slices lent for the call, which do not overlap.
+    unsafe { slices::scaled_new(a.as_ptr(), a.len(), d, out.as_mut_ptr(), out.len()) }
+}
+
+/// found, as 1 or 0, small and threshold of `magnitude_split`, three doubles, and 24; 0 and nothing
+/// written as above.
+pub fn magnitude_split_bytes(lg: &[u8], d: u64, out: &mut [u8]) -> u64 {
+    // SAFETY: pointers and lengths are those of slices lent for the call, which do not overlap.
+    unsafe { slices::magnitude_split(lg.as_ptr(), lg.len(), d, out.as_mut_ptr(), out.len()) }
+}
+
+/// nlin, lin, nquad and the al and be of quad of `factorize` at a depth for the polynomial that
+/// `Scaled::new` makes of five doubles in 40 bytes and a degree, ten doubles, and 80; 0 and nothing
+/// written as above.
+pub fn factorize_bytes(a: &[u8], d: u64, depth: u32, out: &mut [u8]) -> u64 {
+    let (from, to) = ((a.as_ptr(), a.len()), (out.as_mut_ptr(), out.len()));
+    // SAFETY: pointers and lengths are those of slices lent for the call, which do not overlap.
+    unsafe { slices::factorize(from.0, from.1, d, depth, to.0, to.1) }
+}
+
+/// How many roots the list of the doubles in `coeffs` has, and four places with their
+/// multiplicities, nine doubles in all, and 72. Or the number of the refusal, or 0 where `coeffs`
+/// holds no doubles, or more than 32, or `out` is shorter: nothing is written then.
+pub fn real_roots_bytes(coeffs: &[u8], tol: f64, out: &mut [u8]) -> u64 {
+    let (from, to) = ((coeffs.as_ptr(), coeffs.len()), (out.as_mut_ptr(), out.len()));
+    // SAFETY: pointers and lengths are those of slices lent for the call, which do not overlap.
+    unsafe { slices::real_roots(from.0, from.1, tol, to.0, to.1) }
+}
+
+/// Five doubles as bytes, lowest first.
+pub fn forty(a: [f64; 5]) -> [u8; 40] {
+    let mut out = [0; 40];
+    for (to, x) in out.chunks_exact_mut(8).zip(a) {
+        to.copy_from_slice(&x.to_le_bytes());
+    }
+    out
+}
+
+/// The N doubles that `fill` stores, which says how many bytes they have.
+fn numbers<const N: usize>(fill: impl FnOnce(&mut [u8]) -> u64) -> [f64; N] {
+    let mut out = [0; 256];
+    assert_eq!(fill(&mut out[..8 * N]), 8 * N as u64, "bytes stored");
+    std::array::from_fn(|i| double(&out, i))
+}
+
+/// `Scaled::new`'s answer.
+pub fn scaled_new(a: [f64; 5], d: u64) -> [f64; 18] {
+    numbers(|out| scaled_new_bytes(&forty(a), d, out))
+}
+
+/// `magnitude_split`'s answer.
+pub fn magnitude_split(lg: [f64; 5], d: u64) -> [f64; 3] {
+    numbers(|out| magnitude_split_bytes(&forty(lg), d, out))
+}
+
+/// `factorize`'s answer.
+pub fn factorize(a: [f64; 5], d: u64, depth: u32) -> [f64; 10] {
+    numbers(|out| factorize_bytes(&forty(a), d, depth, out))
 }
 
 /// Doubles as bytes, lowest first.
@@ -324,4 +414,39 @@ pub fn isolated_root([al, be, ga, de]: [f64; 4]) -> (bool, f64) {
 /// `peel_root`'s answer: r, h2, h1 and h0.
 pub fn peel_root([b, c, d, e]: [f64; 4], y: f64) -> [f64; 4] {
     [peel_root_r, peel_root_h2, peel_root_h1, peel_root_h0].map(|f| f(b, c, d, e, y))
+}
+
+/// `real_roots`'s answer for at most 32 coefficients.
+pub fn real_roots(coeffs: &[f64], tol: f64) -> Answer {
+    const LENT: u8 = 0xA5;
+    let mut from = [0; 256];
+    for (to, x) in from.chunks_exact_mut(8).zip(coeffs) {
+        to.copy_from_slice(&x.to_le_bytes());
+    }
+    let mut out = [LENT; 72];
+    match real_roots_bytes(&from[..8 * coeffs.len()], tol, &mut out) {
+        72 => {
+            let len = double(&out, 0) as usize;
+            let root =
+                std::array::from_fn(|k| (double(&out, 2 * k + 1), double(&out, 2 * k + 2) as u32));
+            assert!(root[len..].iter().all(|r| r.0.to_bits() == 0 && r.1 == 0), "after the last");
+            Answer { refusal: 0, len, root }
+        }
+        refusal => {
+            assert!(refusal > 0 && out == [LENT; 72], "refused {refusal}, bytes {out:?}");
+            Answer::new(refusal, &[])
+        }
+    }
+}
+
+/// Stores the listing of a hall file from the start of `out` on, as far as it reaches, and says how
+/// long the listing is.
+pub fn list_file(s: &[u8], out: &mut [u8]) -> usize {
+    // TEMPORARY: until `hall_list_file` is exported the host's own lister stands in, and says so.
+    static SAID: std::sync::Once = std::sync::Once::new();
+    SAID.call_once(|| eprintln!("port: no hall_list_file yet, the reference lister stands in"));
+    let listing = crate::lister::listing(s, &crate::lister::Reference);
+    let kept = listing.len().min(out.len());
+    out[..kept].copy_from_slice(&listing[..kept]);
+    listing.len()
 }

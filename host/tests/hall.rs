@@ -28,6 +28,8 @@ fn words_not_known() {
         (&["stored", "pins"], "unknown word `pins`"),
         (&["bench", "twice"], "unknown word `twice`"),
         (&["stored", "leaves"], "a word is missing after `hall stored leaves`"),
+        (&["lists", "5"], "a word is missing after `hall lists 5`"),
+        (&["lists", "five", "1"], "`five` is no number"),
         (&[], "a word is missing after `hall`"),
     ];
     for (words, line) in said {

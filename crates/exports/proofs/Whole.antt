@@ -1,13 +1,15 @@
 -- Bytes that are stored whole, or not at all.
 -- Assumes nothing.
-use mathlib.Core.Path.{_≡_, refl}
-use mathlib.Core.List.{List, []}
-use Prim.Native.Nat.{ℕ, _<_, _≤_}
+use mathlib.Core.Path.{_≡_, refl, sym, ap, subst, _∙_}
+use mathlib.Core.List.{List, [], _∷_, flatMap}
+use Prim.Native.Nat.{ℕ, suc, _+_, _*_, _/_, _<_, _≤_}
 use native.Mathlib.Omega.{arith}
-use lib.ListN.{length}
+use lib.ListN.{length, length-append}
 use lib.Seq.{sets}
+use lib.Ieee.{Float, binary64, toBits}
 use borrow.Author.Tests.{lt-ltb, le-ltb}
-use Rattle.exports.specs.Bytes.{whole}
+use Rattle.float.proofs.Bytes.{length-bytes}
+use Rattle.exports.specs.Bytes.{doubleBytes, doublesBytes, whole}
 
 -- what a function that stores t whole says of its answer n and of the bytes m that it leaves where l were
 abbrev pub Stored : List ℕ → List ℕ → ℕ → List ℕ → Type 0
@@ -24,3 +26,12 @@ nothing t l e = rw e (simp (le-ltb (length l) 0 (omega arith)) (refl, refl))
 pub stored : (t l m : List ℕ) (n : ℕ) → length t ≤ length l → n ≡ length t → m ≡ sets l 0 t → Stored t l n m
 unfolding whole
 stored t l m n h e p = simp (le-ltb _ _ h) (e, p)
+
+pub stored-as : {s t : List ℕ} (l m : List ℕ) (n : ℕ) → s ≡ t → Stored s l n m → Stored t l n m
+stored-as l m n e h = subst (λ (t : List ℕ). Stored t l n m) e h
+
+-- eight bytes for each double
+pub length-doubles : (xs : List Float) → length (doublesBytes xs) ≡ 8 * length xs
+unfolding flatMap
+length-doubles [] = refl
+length-doubles (x ∷ xs) = omega (arith, length-append (doubleBytes x) (doublesBytes xs), length-bytes (toBits binary64 x), length-doubles xs)

@@ -1,7 +1,7 @@
 -- What exports store in lent bytes. Definitions only.
 use mathlib.Core.Bool.{cond}
 use mathlib.Core.List.{List, [], _∷_, flatMap}
-use Prim.Native.Nat.{ℕ}
+use Prim.Native.Nat.{ℕ, zero, suc, _+_}
 use lib.Dec.{ltb}
 use lib.ListN.{length}
 use lib.Ieee.{Float, binary64, toBits}
@@ -17,6 +17,15 @@ doubleBytes x = bytesOf (toBits binary64 x)
 abbrev pub doublesBytes : List Float → List ℕ
 doublesBytes xs = flatMap doubleBytes xs
 
+-- the five doubles in the first 40 bytes
+unfoldable pub fiveAt : List ℕ → List Float
+fiveAt a = f64At a 0 ∷ f64At a 8 ∷ f64At a 16 ∷ f64At a 24 ∷ f64At a 32 ∷ []
+
+-- the k doubles from at on
+unfoldable pub f64sAt : ℕ → List ℕ → ℕ → List Float
+f64sAt zero s at = []
+f64sAt (suc k) s at = f64At s at ∷ f64sAt k s (at + 8)
+
 -- t where n bytes have room for all of it, and nothing where not
 unfoldable pub whole : List ℕ → ℕ → List ℕ
 whole t n = cond (ltb n (length t)) [] t
@@ -27,4 +36,4 @@ thirdAngleBytes v = doublesBytes (thirdAngleOf v .cos ∷ thirdAngleOf v .sin �
 
 -- L of the five doubles in the first 40 bytes, and nothing where there are fewer bytes
 unfoldable pub log2FiveBytes : List ℕ → List ℕ
-log2FiveBytes a = cond (ltb (length a) 40) [] (doublesBytes (log2FiveOf (f64At a 0 ∷ f64At a 8 ∷ f64At a 16 ∷ f64At a 24 ∷ f64At a 32 ∷ [])))
+log2FiveBytes a = cond (ltb (length a) 40) [] (doublesBytes (log2FiveOf (fiveAt a)))

@@ -3,7 +3,7 @@ ghost use mathlib.Core.Path.{_≡_};
 ghost use Prim.Native.Nat.{_*_, _≤_};
 ghost use lib.ListN.{length};
 ghost use lib.Seq.{sets};
-ghost use Rattle.exports.specs.Bytes.{doublesBytes};
+ghost use Rattle.exports.specs.Bytes.{doublesBytes, whole, fiveAt};
 
 // All of xs from the start of out on.
 pub fn put_all(out: &mut [u8], xs: &[f64])
@@ -15,4 +15,30 @@ pub fn put_all(out: &mut [u8], xs: &[f64])
         float::put_f64(out, 8 * i, xs[i]);
         i += 1;
     }
+}
+
+// The same where there is room for all of them, and nothing where not; how many bytes are stored.
+pub fn store(out: &mut [u8], xs: &[f64]) -> u64
+    ensures { λ r. ⌜ r ≡ length (whole (doublesBytes (now (xs .entry))) (length (now (out .entry)))) ⌝ }
+    ensures { λ _. ⌜ now (out .exit) ≡ sets (now (out .entry)) 0 (whole (doublesBytes (now (xs .entry))) (length (now (out .entry)))) ⌝ }
+{
+    if out.len() / 8 < xs.len() {
+        return 0;
+    }
+    put_all(out, xs);
+    8 * xs.len() as u64
+}
+
+// The five doubles in the first 40 bytes.
+pub fn five_at(a: &[u8]) -> [f64; 5]
+    requires { ⌜ 40 ≤ length (now a) ⌝ }
+    ensures { λ r. ⌜ r ≡ fiveAt (now (a .entry)) ⌝ }
+{
+    [
+        float::f64_at(a, 0),
+        float::f64_at(a, 8),
+        float::f64_at(a, 16),
+        float::f64_at(a, 24),
+        float::f64_at(a, 32),
+    ]
 }

@@ -10,7 +10,8 @@ ghost use Rattle.cbrt.specs.Root.{cbrtOf};
 ghost use Rattle.angle.specs.Third.{thirdAngleOf};
 ghost use Rattle.exports.specs.Bytes.{whole, thirdAngleBytes, log2FiveBytes};
 ghost use Rattle.exports.specs.Total.{pow2OrNan};
-use crate::bytes::put_all;
+use crate::bytes::five_at;
+use crate::bytes::store;
 
 #[no_mangle]
 pub extern "C" fn leaf_ldexp(x: f64, k: i32) -> f64
@@ -82,12 +83,8 @@ pub extern "C" fn leaf_third_angle(v: f64, out: &mut [u8]) -> u64
     ensures { λ r. ⌜ r ≡ length (whole (thirdAngleBytes v) (length (now (out .entry)))) ⌝ }
     ensures { λ _. ⌜ now (out .exit) ≡ sets (now (out .entry)) 0 (whole (thirdAngleBytes v) (length (now (out .entry)))) ⌝ }
 {
-    if out.len() < 16 {
-        return 0;
-    }
     let t = angle::third_angle(v);
-    put_all(out, &[t.cos, t.sin]);
-    16
+    store(out, &[t.cos, t.sin])
 }
 
 // L of five doubles in 40 bytes, into 40 bytes; how many bytes are stored.
@@ -99,15 +96,5 @@ pub extern "C" fn leaf_log2_five(a: &[u8], out: &mut [u8]) -> u64
     if a.len() < 40 {
         return 0;
     }
-    if out.len() < 40 {
-        return 0;
-    }
-    let x0 = float::f64_at(a, 0);
-    let x1 = float::f64_at(a, 8);
-    let x2 = float::f64_at(a, 16);
-    let x3 = float::f64_at(a, 24);
-    let x4 = float::f64_at(a, 32);
-    let logs = log2::log2_five([x0, x1, x2, x3, x4]);
-    put_all(out, &logs);
-    40
+    store(out, &log2::log2_five(five_at(a)))
 }

@@ -2,8 +2,12 @@
 // them what the test host links. No function here requires anything. One file for each layer.
 // It rests on every crate whose functions it hands out; `leafcases` rests on it.
 mod bytes;
+pub mod clustering;
 pub mod evaluation;
-pub mod factors;
+pub mod factoring;
 pub mod floats;
 pub mod leaves;
+pub mod lists;
+pub mod quadratics;
+pub mod scaling;
 pub mod systems;

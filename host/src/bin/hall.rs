@@ -1,10 +1,11 @@
 //! The test host's program for people.
-use host::{bench, stored};
+use host::{bench, people, stored};
 use std::path::Path;
 use std::process::ExitCode;
 
 const HELP: &str = "\
 hall bench                how long a call of each proved function takes, beside Rust's
+hall lists COUNT SEED     compare COUNT made lists with geomcore's Rust, on two threads
 hall stored leaves DIR    write inputs of the leaves to DIR/data/leaves, and the exact
                           answers to DIR/stdout: what the crate leafcases reads and prints
 hall --help               this page
@@ -14,12 +15,37 @@ fn main() -> ExitCode {
     let words: Vec<String> = std::env::args().skip(1).collect();
     let words: Vec<&str> = words.iter().map(String::as_str).collect();
     match words[..] {
-        ["--help" | "-h" | "help"] => print!("{HELP}"),
+        ["--help" | "-h" | "help"] => print!("{}{HELP}", people::HELP),
         ["bench"] => bench::run(),
+        ["lists", count, seed] => return compare_lists(count, seed),
         ["stored", "leaves", dir] => return store_leaves(Path::new(dir)),
-        _ => return refuse(&words),
+        _ => return people::run(&words).unwrap_or_else(|| refuse(&words)),
     }
     ExitCode::SUCCESS
+}
+
+/// Status 1 where port and reference build differ.
+fn compare_lists(count: &str, seed: &str) -> ExitCode {
+    let numbers = [count, seed].map(|word| (word, word.parse::<u64>()));
+    for (word, number) in &numbers {
+        if number.is_err() {
+            eprintln!("hall: `{word}` is no number");
+            return ExitCode::from(2);
+        }
+    }
+    let [count, seed] = numbers.map(|n| n.1.unwrap_or(0));
+    if long_run(count, seed) { ExitCode::SUCCESS } else { ExitCode::FAILURE }
+}
+
+#[cfg(geomcore)]
+fn long_run(count: u64, seed: u64) -> bool {
+    host::roots::run(count, seed)
+}
+
+#[cfg(not(geomcore))]
+fn long_run(_: u64, _: u64) -> bool {
+    println!("lists: {}", host::reference::SKIPPED);
+    true
 }
 
 fn store_leaves(dir: &Path) -> ExitCode {
@@ -38,16 +64,21 @@ fn store_leaves(dir: &Path) -> ExitCode {
 /// Names the first word that was not understood.
 fn refuse(words: &[&str]) -> ExitCode {
     let fits = |form: &[&str]| {
-        let same = |(word, wanted): &(&&str, &&str)| word == wanted || **wanted == "DIR";
+        let same = |(word, wanted): &(&&str, &&str)| {
+            word == wanted || ["DIR", "FILE", "COUNT", "N", "SEED"].contains(wanted)
+        };
         words.iter().zip(form).take_while(same).count()
     };
-    let understood = fits(&["bench"]).max(fits(&["stored", "leaves", "DIR"]));
+    let forms: [&[&str]; 3] =
+        [&["bench"], &["lists", "COUNT", "SEED"], &["stored", "leaves", "DIR"]];
+    let forms = forms.into_iter().chain(people::FORMS);
+    let understood = forms.map(fits).max().unwrap_or(0);
     match words.get(understood) {
         Some(word) => eprintln!("hall: unknown word `{word}`"),
         None => {
             eprintln!("hall: a word is missing after `{}`", [&["hall"], words].concat().join(" "))
         }
     }
-    eprint!("{HELP}");
+    eprint!("{}{HELP}", people::HELP);
     ExitCode::from(2)
 }

@@ -1,0 +1,114 @@
+-- What the exports below the list answer, by what their tests found; and that counts and multiplicities stay within theirs.
+-- Assumes nothing.
+use mathlib.Core.Path.{_≡_, refl, sym, ap, _∙_}
+use mathlib.Core.Bool.{Bool, true, false, _||_, false≢true}
+use mathlib.Core.List.{List, [], _∷_}
+use Prim.Native.Nat.{ℕ, zero, suc, _^_, _≤_, _<_}
+use native.Mathlib.Omega.{arith}
+use borrow.Author.Tests.{ltb-false}
+use lib.Dec.{ltb}
+use lib.ListN.{length, take}
+use lib.Ieee.{Float}
+use Rattle.facts.specs.Cond.{if-taken, if-left, either-way}
+use Rattle.scaled.specs.declared.Scaled.{Scaled}
+use Rattle.scaled.specs.Scaled.{scaledOf}
+use Rattle.roots.specs.declared.RealRoot.{RealRoot}
+use Rattle.roots.specs.declared.Roots.{Roots}
+use Rattle.roots.specs.declared.Pairs.{Pairs}
+use Rattle.roots.specs.Listed.{multiplicities, Fits, PairsFit}
+use Rattle.roots.proofs.Laws.{kept-fits, paired-fits}
+use Rattle.roots.proofs.Sums.{length-kept}
+use Rattle.band.specs.declared.Found.{Found}
+use Rattle.band.specs.Quadratic.{Factor, double, apart, complex, quadraticOf, pushFactorIn, pushQuadraticIn}
+use Rattle.finish.specs.Finish.{isNearOf, joinedFrom, joinedOf, polishedOf, orderedOf, finishOf}
+use Rattle.exports.specs.Bytes.{doublesBytes, fiveAt}
+use Rattle.exports.specs.Clustering.{polyOr, candidateAt, candidatesAt, pairsAt, lacksOf, polyBytes}
+
+-- ---- the polynomial
+none-fails : (p q : Bool) → (p || q) ≡ false → (p ≡ false) × (q ≡ false)
+none-fails true q h = absurd (false≢true (sym h))
+none-fails false q h = (refl, h)
+
+pub accepted : {n d : ℕ} {b : Bool} → b ≡ (ltb n 40 || ltb 4 d) → b ≡ false → (40 ≤ n) × (d ≤ 4)
+accepted {n} {d} e t = let h = none-fails (ltb n 40) (ltb 4 d) (sym e ∙ t) in (ltb-false n 40 (h .0), ltb-false 4 d (h .1))
+
+module _ {A : Type 0} (other : A) (f : Scaled → A) (a : List ℕ) (d : ℕ) {b : Bool} (e : b ≡ (ltb (length a) 40 || ltb 4 d)) where
+  pub is-other : b ≡ true → other ≡ polyOr other f a d
+  unfolding polyOr
+  is-other t = if-taken other _ (sym e ∙ t) refl
+
+  pub is-of : {s : Scaled} {r : A} → b ≡ false → s ≡ scaledOf (fiveAt a) d → r ≡ f s → r ≡ polyOr other f a d
+  unfolding polyOr
+  is-of t h k = if-left other _ (sym e ∙ t) (k ∙ ap f h)
+
+-- ---- the bytes
+pub holding : (c : List ℕ) (size n m : ℕ) {b : Bool} → b ≡ lacksOf c size n m → b ≡ false → (size ≤ length c) × ((n ≤ 4) × (m ≤ 2))
+unfolding lacksOf
+holding c size n m e t =
+    let h = none-fails (ltb (length c) size) (ltb 4 n || ltb 2 m) (sym e ∙ t) in
+    let k = none-fails (ltb 4 n) (ltb 2 m) (h .1) in
+    (ltb-false (length c) size (h .0), (ltb-false 4 n (k .0), ltb-false 2 m (k .1)))
+
+module _ (f : Scaled → List Float) (a : List ℕ) (d : ℕ) (l : Bool) {b : Bool} (e : b ≡ (ltb (length a) 40 || ltb 4 d)) where
+  pub refused-bytes : b ≡ true → polyBytes f a d l ≡ []
+  unfolding polyBytes
+  refused-bytes t = sym (is-other [] _ a d e t)
+
+  pub lacking-bytes : {k : Bool} → b ≡ false → k ≡ l → k ≡ true → polyBytes f a d l ≡ []
+  unfolding polyBytes
+  lacking-bytes t w h = sym (is-of [] _ a d e t refl (if-taken [] _ (sym w ∙ h) refl))
+
+  pub held-bytes : {k : Bool} {s : Scaled} {xs : List Float} → b ≡ false → k ≡ l → k ≡ false → s ≡ scaledOf (fiveAt a) d → xs ≡ f s → doublesBytes xs ≡ polyBytes f a d l
+  unfolding polyBytes
+  held-bytes t w h p x = is-of [] _ a d e t p (if-left [] _ (sym w ∙ h) (ap doublesBytes x))
+
+-- ---- candidates
+pub four-candidates : (c : List ℕ) (n : ℕ) {p q r s : RealRoot} → p ≡ candidateAt c 0 → q ≡ candidateAt c 1 → r ≡ candidateAt c 2 → s ≡ candidateAt c 3
+    → _≡_ {A = Roots} (record { root = p ∷ q ∷ r ∷ s ∷ []; len = n }) (candidatesAt c n)
+unfolding candidatesAt
+four-candidates c n e f g h = λ i. record { root = e i ∷ f i ∷ g i ∷ h i ∷ []; len = n }
+
+sum-taken : (n : ℕ) (l : List RealRoot) → multiplicities (take n l) ≤ multiplicities l
+sum-taken zero l = omega arith
+sum-taken (suc n) [] = omega arith
+sum-taken (suc n) (r ∷ l) = let h = sum-taken n l in omega arith
+
+pub four-bytes : (n : ℕ) (p q r s : RealRoot) → p .multiplicity < 256 → q .multiplicity < 256 → r .multiplicity < 256 → s .multiplicity < 256
+    → multiplicities (take n (p ∷ q ∷ r ∷ s ∷ [])) < 2 ^ 32
+four-bytes n p q r s e f g h = let t = sum-taken n (p ∷ q ∷ r ∷ s ∷ []) in omega arith
+
+-- ---- counts
+candidates-fit : (c : List ℕ) (n : ℕ) → n ≤ 4 → Fits (candidatesAt c n)
+unfolding candidatesAt
+candidates-fit c n h = (refl, h)
+
+pairs-fit : (c : List ℕ) (m : ℕ) → m ≤ 2 → PairsFit (pairsAt c m)
+unfolding pairsAt
+pairs-fit c m h = (refl, h)
+
+factor-fits : (s : Found) (f : Factor) → Fits (s .roots) → PairsFit (s .pairs) → Fits (pushFactorIn s f .roots) × PairsFit (pushFactorIn s f .pairs)
+unfolding pushFactorIn
+factor-fits s (double y) h k = (kept-fits _ _ h, k)
+factor-fits s (apart y z) h k = (kept-fits _ _ (kept-fits _ _ h), k)
+factor-fits s (complex p) h k = (h, paired-fits _ _ k)
+
+pub quadratic-counts : (poly : Scaled) (al be tol : Float) (c : List ℕ) (n m : ℕ) {out : Roots} {pairs : Pairs} {s : Found} → n ≤ 4 → m ≤ 2 → out ≡ candidatesAt c n → pairs ≡ pairsAt c m
+    → s ≡ pushQuadraticIn poly al be tol out pairs → (s .roots .len ≤ 4) × (s .pairs .len ≤ 2)
+unfolding pushQuadraticIn
+quadratic-counts poly al be tol c n m h k o p e =
+    let fit = factor-fits (record { roots = candidatesAt c n; pairs = pairsAt c m }) (quadraticOf poly al be tol) (candidates-fit c n h) (pairs-fit c m k) in
+    rw (e, o, p) (fit .0 .1, fit .1 .1)
+
+joined-counts : (poly : Scaled) (tol : Float) (l out : List RealRoot) (a : RealRoot) → length out ≤ 4 → length (joinedFrom poly tol out a l) ≤ 4
+unfolding joinedFrom
+joined-counts poly tol [] out a h = length-kept out a h
+joined-counts poly tol (b ∷ l) out a h =
+    joined-counts poly tol l _ _ (either-way (λ (m : List RealRoot). length m ≤ 4) (isNearOf poly (a .value) (b .value) tol) h (length-kept out a h))
+
+pub finish-counts : (poly : Scaled) (c : List RealRoot) (tol : Float) → length (finishOf poly c tol) ≤ 4
+unfolding finishOf joinedOf
+finish-counts poly c tol = go (polishedOf 4 poly (orderedOf c))
+  where
+    go : (l : List RealRoot) → length (joinedOf poly tol l) ≤ 4
+    go [] = omega arith
+    go (a ∷ l) = joined-counts poly tol l [] a (omega arith)

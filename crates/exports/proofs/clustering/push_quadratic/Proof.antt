@@ -1,0 +1,50 @@
+-- `exports::clustering::push_quadratic` meets its contract: all the numbers of the answer, or none.
+-- Assumes nothing.
+use mathlib.Core.Path.{_≡_, ap, _∙_}
+use Rattle.band.specs.Quadratic.{pushQuadraticIn}
+use Rattle.exports.specs.Clustering.{candidatesAt, pairsAt, foundNumbers}
+use Rattle.exports.proofs.Whole.{nothing, stored-as}
+use Rattle.exports.proofs.Polynomials.{accepted, holding, refused-bytes, lacking-bytes, held-bytes, quadratic-counts}
+use borrow.Author.Needs.{needs}
+use Rattle.exports.proofs.clustering.push_quadratic.Statement.{statement}
+use Rattle.exports.proofs.clustering.push_quadratic.Tie as tie
+
+returns : tie.Need-returns
+returns c = nothing _ _ (refused-bytes _ _ _ _ (c .before .refused .ensures) (c .if1 .taken))
+
+returns-2 : tie.Need-returns-2
+returns-2 c = nothing _ _ (lacking-bytes _ _ _ _ (c .before .before .before .refused .ensures) (c .before .before .if1 .left) (c .before .lacks .ensures) (c .if2 .taken))
+
+poly-at-requires : tie.Need-poly-at-requires
+poly-at-requires c κs = accepted (c .before .before .before .refused .ensures) (c .before .before .if1 .left)
+
+candidates-at-requires : tie.Need-candidates-at-requires
+candidates-at-requires c κs = let h = holding _ _ _ _ (c .before .before .lacks .ensures) (c .before .if2 .left) .0 in search needs
+
+pairs-at-requires : tie.Need-pairs-at-requires
+pairs-at-requires c κs = holding _ _ _ _ (c .before .before .before .lacks .ensures) (c .before .before .if2 .left) .0
+
+found-numbers-requires : tie.Need-found-numbers-requires
+found-numbers-requires c κs =
+    let pairs = c .before .before in
+    let handed = pairs .before in
+    let tested = handed .before .before in
+    let few = holding _ _ _ _ (tested .before .lacks .ensures) (tested .if2 .left) .1 in
+    quadratic-counts _ _ _ _ _ _ _ (few .0) (few .1) (handed .candidates-at .ensures .0) (pairs .pairs-at .ensures) (c .before .push-quadratic .ensures)
+
+returns-3 : tie.Need-returns-3
+returns-3 c =
+    let numbers = c .before .before .before .before in
+    let pushed = numbers .before .before in
+    let pairs = pushed .before in
+    let handed = pairs .before in
+    let poly = handed .before in
+    let tested = poly .before in
+    let a = tested .before .before .before .before .before .before .before .args in
+    let s = poly .poly-at .result in
+    let same : pushQuadraticIn s (a .al) (a .be) (a .tol) (handed .candidates-at .result) (pairs .pairs-at .result) ≡ pushQuadraticIn s (a .al) (a .be) (a .tol) (candidatesAt (a .c .now) (a .n)) (pairsAt (a .c .now) (a .m)) = λ i. pushQuadraticIn s (a .al) (a .be) (a .tol) (handed .candidates-at .ensures .0 i) (pairs .pairs-at .ensures i) in
+    let all = numbers .found-numbers .ensures ∙ ap foundNumbers (pushed .push-quadratic .ensures ∙ same) in
+    stored-as (a .out .now) _ _ (held-bytes _ _ _ _ (tested .before .before .before .refused .ensures) (tested .before .before .if1 .left) (tested .before .lacks .ensures) (tested .if2 .left) (poly .poly-at .ensures .0) all) (c .before .before .store .ensures)
+
+pub push-quadratic-spec : {M : Type 1} → statement M
+push-quadratic-spec = tie.close (tie.spec (λ c κs. search needs) returns (λ c κs. search needs) returns-2 poly-at-requires candidates-at-requires pairs-at-requires (λ c κs. search needs) found-numbers-requires (λ c. search needs) (λ c κs. search needs) (λ c. search needs) returns-3)

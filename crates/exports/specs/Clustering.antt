@@ -1,0 +1,76 @@
+-- What the exports below the list answer. Definitions only.
+use mathlib.Core.Bool.{Bool, cond, _||_}
+use mathlib.Core.List.{List, [], _∷_, _++_}
+use Prim.Native.Nat.{ℕ, _+_, _*_}
+use lib.Dec.{ltb}
+use lib.ListN.{length, getD}
+use lib.Ieee.{Float, nan}
+use Rattle.float.specs.Bytes.{f64At}
+use Rattle.scaled.specs.declared.Scaled.{Scaled}
+use Rattle.scaled.specs.Scaled.{scaledOf}
+use Rattle.roots.specs.declared.RealRoot.{RealRoot}
+use Rattle.roots.specs.declared.Roots.{Roots}
+use Rattle.roots.specs.declared.Pair.{Pair}
+use Rattle.roots.specs.declared.Pairs.{Pairs}
+use Rattle.roots.specs.Roots.{root, pair, listOf, rootsOf}
+use Rattle.roots.specs.Listed.{blank, blankPair}
+use Rattle.band.specs.declared.TurningPoint.{TurningPoint}
+use Rattle.band.specs.declared.TurningPoint.the-variants.{At, None}
+use Rattle.band.specs.declared.Found.{Found}
+use Rattle.band.specs.Quadratic.{pushQuadraticIn}
+use Rattle.finish.specs.Finish.{finishOf}
+use Rattle.exports.specs.Bytes.{doublesBytes, fiveAt}
+use Rattle.exports.specs.Scaling.{number}
+
+-- f of the polynomial with five doubles as coefficients and the degree d; `other` where the doubles have fewer than 40 bytes, or the degree is above 4
+unfoldable pub polyOr : {A : Type 0} → A → (Scaled → A) → List ℕ → ℕ → A
+polyOr other f a d = cond (ltb (length a) 40 || ltb 4 d) other (f (scaledOf (fiveAt a) d))
+
+-- the place of a turning point
+unfoldable pub turningOrNan : TurningPoint → Float
+turningOrNan (At x) = x
+turningOrNan None = nan
+
+-- ---- handed in: four doubles, four bytes, and two pairs of doubles
+-- a place, and its multiplicity
+unfoldable pub candidateAt : List ℕ → ℕ → RealRoot
+candidateAt c i = root (f64At c (8 * i)) (getD c (32 + i) 0)
+
+-- n candidates
+unfoldable pub candidatesAt : List ℕ → ℕ → Roots
+candidatesAt c n = record { root = candidateAt c 0 ∷ candidateAt c 1 ∷ candidateAt c 2 ∷ candidateAt c 3 ∷ []; len = n }
+
+-- n complex pairs
+unfoldable pub pairsAt : List ℕ → ℕ → Pairs
+pairsAt c n = record { pair = pair (f64At c 36) (f64At c 44) ∷ pair (f64At c 52) (f64At c 60) ∷ []; len = n }
+
+-- ---- handed out
+-- the count, the four places, their multiplicities
+unfoldable pub rootNumbers : Roots → List Float
+rootNumbers s =
+    let at : ℕ → RealRoot = λ i. getD (s .root) i blank in
+    number (s .len)
+    ∷ at 0 .value ∷ at 1 .value ∷ at 2 .value ∷ at 3 .value
+    ∷ number (at 0 .multiplicity) ∷ number (at 1 .multiplicity) ∷ number (at 2 .multiplicity) ∷ number (at 3 .multiplicity) ∷ []
+
+-- the same, and of the pairs the count, and each centre and half
+unfoldable pub foundNumbers : Found → List Float
+foundNumbers s =
+    let at : ℕ → Pair = λ i. getD (s .pairs .pair) i blankPair in
+    rootNumbers (s .roots) ++ (number (s .pairs .len) ∷ at 0 .centre ∷ at 0 .half ∷ at 1 .centre ∷ at 1 .half ∷ [])
+
+-- ---- the bytes of an answer: nothing where there is no polynomial, or where c lacks what is asked for
+-- fewer bytes than its size, more than four candidates, or more than two pairs
+unfoldable pub lacksOf : List ℕ → ℕ → ℕ → ℕ → Bool
+lacksOf c size n m = ltb (length c) size || (ltb 4 n || ltb 2 m)
+
+unfoldable pub polyBytes : (Scaled → List Float) → List ℕ → ℕ → Bool → List ℕ
+polyBytes f a d lacking = polyOr [] (λ p. cond lacking [] (doublesBytes (f p))) a d
+
+-- push_quadratic, on n candidates and m pairs
+abbrev pub quadraticBytes : List ℕ → ℕ → Float → Float → Float → List ℕ → ℕ → ℕ → List ℕ
+quadraticBytes a d al be tol c n m = polyBytes (λ p. foundNumbers (pushQuadraticIn p al be tol (candidatesAt c n) (pairsAt c m))) a d (lacksOf c 68 n m)
+
+-- finish, of n candidates
+abbrev pub finishBytes : List ℕ → ℕ → List ℕ → ℕ → Float → List ℕ
+finishBytes a d c n tol = polyBytes (λ p. rootNumbers (rootsOf (finishOf p (listOf (candidatesAt c n)) tol))) a d (lacksOf c 36 n 0)

@@ -1,0 +1,37 @@
+-- What the export for lists stores, and its answer. Definitions only.
+use mathlib.Core.Bool.{Bool, cond, _||_}
+use mathlib.Core.List.{List, [], _∷_, _++_}
+use Prim.Native.Nat.{ℕ, _*_, _/_}
+use lib.Dec.{ltb, eqb}
+use lib.ListN.{length, getD}
+use lib.Ieee.{Float}
+use Rattle.roots.specs.declared.Roots.{Roots}
+use Rattle.roots.specs.Listed.{blank}
+use Rattle.poly.specs.declared.Answer.{Answer}
+use Rattle.poly.specs.RealRoots.{realRootsOf}
+use Rattle.exports.specs.Bytes.{doublesBytes, f64sAt, whole}
+use Rattle.exports.specs.Scaling.{number}
+
+-- place and multiplicity of the root i
+abbrev pub rootAt : Roots → ℕ → List Float
+rootAt s i = let r = getD (s .root) i blank in r .value ∷ number (r .multiplicity) ∷ []
+
+-- how many roots there are, and the four places with their multiplicities
+unfoldable pub rootNumbers : Roots → List Float
+rootNumbers s = number (s .len) ∷ (rootAt s 0 ++ (rootAt s 1 ++ (rootAt s 2 ++ rootAt s 3)))
+
+-- the bytes are no doubles, or more than 32 of them
+unfoldable pub notDoubles : List ℕ → Bool
+notDoubles s = let n = length s / 8 in ltb (8 * n) (length s) || ltb 32 n
+
+-- the answer to the doubles in the bytes
+unfoldable pub answerAt : List ℕ → Float → Answer
+answerAt s tol = realRootsOf (f64sAt (length s / 8) s 0) tol
+
+-- the bytes to store: nothing on a refusal
+unfoldable pub listBytes : List ℕ → Float → List ℕ
+listBytes s tol = let a = answerAt s tol in cond (notDoubles s) [] (cond (eqb (a .number) 0) (doublesBytes (rootNumbers (a .roots))) [])
+
+-- the answer, where n bytes are lent: how many of them are stored, or the number of the refusal
+unfoldable pub listSays : List ℕ → Float → ℕ → ℕ
+listSays s tol n = let a = answerAt s tol in cond (notDoubles s) 0 (cond (eqb (a .number) 0) (length (whole (doublesBytes (rootNumbers (a .roots))) n)) (a .number))

@@ -1,0 +1,69 @@
+// Lists of roots in lent bytes: coefficients in, at most 32; the number of roots and four places with their multiplicities out, as doubles, zeros after
+// the last root. The answer is how many bytes are stored, 72, or the number of the refusal, or 0 where the bytes are no doubles, more than 32 of them, or
+// where those lent are too few: nothing is stored then.
+ghost use mathlib.Core.Path.{_≡_};
+ghost use Prim.Native.Nat.{_*_, _≤_};
+ghost use lib.ListN.{length, take};
+ghost use lib.Seq.{sets};
+ghost use Rattle.roots.specs.Listed.{Fits};
+ghost use Rattle.exports.specs.Bytes.{whole, f64sAt};
+ghost use Rattle.exports.specs.Lists.{rootNumbers, listBytes, listSays};
+use crate::bytes::store;
+use roots::Roots;
+
+// The first k doubles, at the start of an array of 32.
+fn f64s_at(s: &[u8], k: usize) -> [f64; 32]
+    requires { ⌜ (k ≤ 32) × (8 * k ≤ length (now s)) ⌝ }
+    ensures { λ r. ⌜ take k r ≡ f64sAt k (now (s .entry)) 0 ⌝ }
+{
+    let mut out = [0.0; 32];
+    let mut i = 0;
+    while i < k {
+        out[i] = float::f64_at(s, 8 * i);
+        i += 1;
+    }
+    out
+}
+
+fn root_numbers(s: Roots) -> [f64; 9]
+    requires { ⌜ Fits s ⌝ }
+    ensures { λ r. ⌜ r ≡ rootNumbers s ⌝ }
+{
+    let root = s.root;
+    let a = root[0];
+    let b = root[1];
+    let c = root[2];
+    let d = root[3];
+    [
+        s.len as f64,
+        a.value,
+        a.multiplicity as f64,
+        b.value,
+        b.multiplicity as f64,
+        c.value,
+        c.multiplicity as f64,
+        d.value,
+        d.multiplicity as f64,
+    ]
+}
+
+#[no_mangle]
+pub extern "C" fn real_roots(coeffs: &[u8], tol: f64, out: &mut [u8]) -> u64
+    ensures { λ r. ⌜ r ≡ listSays (now (coeffs .entry)) tol (length (now (out .entry))) ⌝ }
+    ensures { λ _. ⌜ now (out .exit) ≡ sets (now (out .entry)) 0 (whole (listBytes (now (coeffs .entry)) tol) (length (now (out .entry)))) ⌝ }
+{
+    let n = coeffs.len() / 8;
+    if 8 * n < coeffs.len() {
+        return 0;
+    }
+    if 32 < n {
+        return 0;
+    }
+    let list = f64s_at(coeffs, n);
+    let answer = poly::real_roots(&list[..n], tol);
+    let number = answer.number;
+    if number == 0 {
+        return store(out, &root_numbers(answer.roots));
+    }
+    number as u64
+}

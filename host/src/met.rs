@@ -1,0 +1,73 @@
+//! How often the reference build went the ways that a comparison is to meet, on this thread:
+//! build/patches.rs puts the calls into it. They count, and change no answer.
+use std::cell::Cell;
+
+pub const WAYS: [&str; 16] = [
+    "gap at edge 0",
+    "gap at edge 1",
+    "gap at edge 2",
+    "no gap",
+    "degree not reached",
+    "quotient not usable",
+    "second scaling at depth 0",
+    "second scaling at depth 1",
+    "second scaling at depth 2",
+    "root peeled off",
+    "place polished",
+    "place polished beyond 4",
+    "quadratic with a double root",
+    "quadratic with a complex pair",
+    "roots joined",
+    "root beyond the finite range",
+];
+
+pub type Counts = [u64; WAYS.len()];
+
+thread_local! {
+    static COUNTS: Cell<Counts> = const { Cell::new([0; WAYS.len()]) };
+}
+
+/// Counts the way with this number; true, so that a test can take it in.
+pub fn way(number: usize) -> bool {
+    COUNTS.with(|all| {
+        let mut counts = all.get();
+        counts[number] += 1;
+        all.set(counts);
+    });
+    true
+}
+
+/// A polished place.
+pub fn polished(y: f64) {
+    way(10);
+    if y.abs() > 4.0 {
+        way(11);
+    }
+}
+
+/// A root that left the finite range; false, as it is not listed.
+pub fn left() -> bool {
+    !way(15)
+}
+
+/// All counts of this thread.
+pub fn counts() -> Counts {
+    COUNTS.with(Cell::get)
+}
+
+/// Those counted since.
+pub fn since(before: &Counts) -> Counts {
+    let now = counts();
+    std::array::from_fn(|i| now[i] - before[i])
+}
+
+/// The counts of some ways by name.
+pub fn named<const N: usize>(
+    counts: &Counts,
+    names: [&'static str; N],
+) -> [(&'static str, u64); N] {
+    names.map(|name| {
+        let number = WAYS.iter().position(|way| *way == name);
+        (name, counts[number.unwrap_or_else(|| panic!("way {name}"))])
+    })
+}

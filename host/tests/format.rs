@@ -1,0 +1,285 @@
+//! The hall file both ways, and the host's own lister.
+use host::format::text::{self, TextError};
+use host::format::{Kind, Record, file, items};
+use host::halls::records;
+use host::random::Random;
+
+fn read(text: &str) -> Result<Vec<u8>, TextError> {
+    text::read(text.as_bytes()).map(|records| file(&records))
+}
+
+#[test]
+fn text_to_file() {
+    let text = "# lanes 1 to 4\n\nlist 2^-30 2 -3 1 # two roots\n\tquad 0.5 0x0000000000000001 1 -3 2\r\n\
+                crank -inf nan 0 1 -0 7#\nlist 1";
+    let mut wanted = Vec::new();
+    let mut add = |mark: &[u8], numbers: &[u64]| {
+        wanted.extend(mark);
+        wanted.extend(numbers.iter().flat_map(|n| n.to_le_bytes()));
+    };
+    let (one, minus_three, two) = (0x3FF0 << 48, 0xC008 << 48, 0x4000 << 48);
+    add(b"PL\x03", &[0x3E10 << 48, two, minus_three, one]);
+    add(b"QD", &[0x3FE0 << 48, 1, one, minus_three, two]);
+    add(b"TG", &[0xFFF0 << 48, 0x7FF8 << 48, 0, one, 1 << 63, 0x401C << 48]);
+    add(b"PL\0", &[one]);
+    assert_eq!(read(text).unwrap(), wanted);
+    assert_eq!(read("").unwrap(), b"");
+    assert_eq!(read("# nothing\n\n").unwrap(), b"");
+}
+
+#[test]
+fn file_to_text_and_back() {
+    let mut r = Random::new(11);
+    for _ in 0..2_000 {
+        let bytes = file(&records(&mut r, 10));
+        let whole = items(&bytes).into_iter().map(|item| item.record.unwrap());
+        let lines: Vec<String> = whole.map(|record| text::line(&record)).collect();
+        assert_eq!(read(&lines.join("\n")).unwrap(), bytes, "{lines:?}");
+    }
+}
+
+#[test]
+fn errors_name_line_and_word() {
+    let known = [
+        ("lst 1 2", 1, "lst", "no kind of record"),
+        ("list 1\n\nPL 1", 3, "PL", "no kind of record"),
+        ("list", 1, "list", "the tolerance is missing"),
+        ("list 1 2,5", 1, "2,5", "no number"),
+        ("# x\nlist 1 2 NaN", 2, "NaN", "no number"),
+        ("list 1 1e999", 1, "1e999", "beyond the largest double"),
+        ("list 2^1024", 1, "2^1024", "no double"),
+        ("list 0x3FF", 1, "0x3FF", "no bits"),
+        ("quad 1 2 3 4", 1, "4", "a number is missing behind it: quad CONFUSION"),
+        ("quad", 1, "quad", "a number is missing behind it"),
+        ("quad 1 2 3 4 5 6", 1, "6", "one number too many"),
+        ("crank 1 2 3 4 5 # 6", 1, "5", "a number is missing behind it: crank CONFUSION"),
+        ("crank 1 2 3 4 5 6 7 8", 1, "7", "one number too many"),
+    ];
+    for (text, line, word, why) in known {
+        let error = read(text).unwrap_err();
+        assert_eq!((error.line, &error.word[..]), (line, word), "{text}");
+        assert!(error.why.starts_with(why), "{text}: {error}");
+        assert!(error.to_string().starts_with(&format!("line {line}: `{word}`: ")), "{error}");
+    }
+    let error = text::read(b"list 1\nlist \xFF").unwrap_err();
+    assert_eq!((error.line, &error.why[..]), (2, "not UTF-8"));
+}
+
+#[test]
+fn lists_and_files_too_long() {
+    let list = |n: usize| format!("list 1{}\n", " 7".repeat(n));
+    assert_eq!(read(&list(32)).unwrap().len(), 267);
+    let error = read(&list(33)).unwrap_err();
+    assert!(error.to_string().contains("at most 32 coefficients, and here are 33"), "{error}");
+    // 245 lists of 267 bytes, and three with 11 coefficients in all: 65,536 bytes
+    let full = list(32).repeat(245) + &list(4) + &list(4) + &list(3);
+    assert_eq!(read(&full).unwrap().len(), 65_536);
+    let error = read(&(full + "# one more\nlist 1")).unwrap_err();
+    assert_eq!((error.line, &error.word[..]), (250, "list"));
+    assert!(error.why.contains("the file has 65547 bytes, and a hall file has at most 65,536"));
+}
+
+#[test]
+fn marks() {
+    assert_eq!(Kind::ALL.map(Kind::mark), ["PL", "QD", "TG"]);
+    for mark in [&b"PLX"[..], b"P", b"", b"pl", b"LP"] {
+        assert_eq!(Kind::of_mark(mark), None);
+    }
+}
+
+/// A NaN's bits pass through a record.
+#[test]
+fn nan_bits_are_kept() {
+    let odd = f64::from_bits(0xFFF0_0000_0000_0123);
+    let record = Record::Crank { confusion: odd, terms: [odd; 5] };
+    assert!(record.bytes()[2..].chunks(8).all(|b| b == odd.to_le_bytes()));
+    assert_eq!(text::line(&record), format!("crank{}", " 0xFFF0000000000123".repeat(6)));
+}
+
+#[cfg(geomcore)]
+mod listings {
+    use super::read;
+    use host::compare::say;
+    use host::halls::any_file;
+    use host::lister::{Reference, Untouched, lines, listing};
+    use host::random::Random;
+    use host::stored_files::{
+        DOCUMENT, DOCUMENT_LISTING, ENTRIES, FINE_POINTS, MISTAKES, REFUSED, files, of_size,
+    };
+
+    fn listed(bytes: &[u8]) -> String {
+        String::from_utf8(listing(bytes, &Reference)).unwrap()
+    }
+
+    fn listed_text(text: &str) -> Vec<String> {
+        listed(&read(text).unwrap()).lines().map(str::to_string).collect()
+    }
+
+    #[test]
+    fn document_01() {
+        let bytes = [&read(DOCUMENT).unwrap()[..], b"XX"].concat();
+        assert_eq!(listed(&bytes), DOCUMENT_LISTING);
+        assert_eq!(listing(&bytes, &Untouched), DOCUMENT_LISTING.as_bytes());
+    }
+
+    #[test]
+    fn every_refusal() {
+        let wanted = [
+            "1 PL refused 1",
+            "2 PL refused 1",
+            "3 PL refused 2",
+            "4 PL refused 3",
+            "5 QD refused 1",
+            "6 QD refused 5",
+            "7 TG refused 1",
+            "8 TG refused 5",
+            "9 TG refused 2",
+            "10 PL ok 2 3FF0000000000000 1 4000000000000000 1",
+        ];
+        assert_eq!(listed_text(REFUSED), wanted);
+        let known: [(&[u8], &str); 9] = [
+            (b"", ""),
+            (b"P", "1 -- refused 7\n"),
+            (b"PX", "1 -- refused 6\n"),
+            (b"PXPL", "1 -- refused 6\n"),
+            (b"PL", "1 PL refused 7\n"),
+            (b"PL\x20", "1 PL refused 7\n"),
+            (b"PL\x21", "1 PL refused 8\n"),
+            (b"QD", "1 QD refused 7\n"),
+            (b"TG\0", "1 TG refused 7\n"),
+        ];
+        for (bytes, lines) in known {
+            assert_eq!(listed(bytes), lines, "{bytes:?}");
+        }
+        // 1 before 2 and 3, 5 before 2
+        let order = "list 1 nan 0\nlist 1 0 0 0 0 0 1 inf\nquad 1 1 nan 0 0\ncrank 0 inf 0 0 0 0";
+        assert!(listed_text(order).iter().all(|line| line.ends_with("refused 1")));
+    }
+
+    #[test]
+    fn entries() {
+        let wanted = "refused 2|refused 2|refused 2|refused 1|refused 1|refused 3\
+            |ok 1 0000000000000000 2|ok 1 3FF0000000000000 1|ok 1 4008000000000000 1\
+            |ok 1 BFE5555555555555 1|ok 1 3FF0000000000000 2|ok 0|degenerate\
+            |linear 4000000000000000|one BFF0000000000000|empty|linear 8000000000000000\
+            |linear 8000000000000000|two C1CFFFFFFFFFFFFE 8000000000000000\
+            |two 8000000000000000 41CFFFFFFFFFFFFE";
+        let lines = listed_text(ENTRIES);
+        let answers = lines.iter().map(|line| line.splitn(3, ' ').nth(2).unwrap());
+        assert_eq!(answers.collect::<Vec<_>>(), wanted.split('|').collect::<Vec<_>>());
+    }
+
+    /// What the papers say of inputs that show a mistake.
+    #[test]
+    fn mistakes_and_fine_points() {
+        let lines = [listed_text(MISTAKES), listed_text(FINE_POINTS)];
+        let known = [
+            (0, "1 PL ok 1 0000000000000000 1"),
+            (0, "2 PL ok 1 8000000000000000 1"),
+            (0, "3 PL ok 0"),
+            (0, "6 PL ok 1 3FE0000000000000 1"),
+            (0, "7 PL ok 1 0000000000000000 2"),
+            (0, "8 QD linear 8000000000000000"),
+            (0, "15 PL ok 1 C0D5555555555555 3"),
+            (0, "16 TG ok 7 0"),
+            (0, "21 TG refused 2"),
+            (1, "1 PL ok 0"),
+            (1, "2 PL ok 0"),
+            (1, "3 PL ok 0"),
+            (1, "4 PL ok 0"),
+            (1, "5 PL ok 0"),
+            (1, "6 PL ok 1 0002000000000000 2"),
+            (1, "9 PL ok 2 0000000000000000 1 0000000000000000 1"),
+            (1, "10 QD two 8000000000000000 8000000000000000"),
+            (1, "11 QD refused 5"),
+            (1, "12 QD refused 5"),
+        ];
+        for (which, line) in known {
+            assert!(lines[which].iter().any(|l| l == line), "{line}: {:#?}", lines[which]);
+        }
+        assert!(lines[0][8].starts_with("9 PL ok 1 "));
+        assert!(lines[0][9].starts_with("10 PL ok 2 000000016DED3026 1 "), "{}", lines[0][9]);
+        assert!(lines[0][16].starts_with("17 TG ok 6 "));
+    }
+
+    /// Behind a whole record each kind is cut at every byte.
+    #[test]
+    fn truncation_at_every_byte() {
+        let first = read("list 2^-30 -6 2").unwrap();
+        for (mark, line) in
+            [("PL", "list 2^-30 7"), ("QD", "quad 0 0 1 2 1"), ("TG", "crank 0 0 0 1 0 0")]
+        {
+            let bytes = read(line).unwrap();
+            for cut in 1..bytes.len() {
+                let mark = if cut < 2 { "--" } else { mark };
+                let wanted = format!("1 PL ok 1 4008000000000000 1\n2 {mark} refused 7\n");
+                assert_eq!(listed(&[&first, &bytes[..cut]].concat()), wanted);
+            }
+        }
+    }
+
+    #[test]
+    fn counts() {
+        let with = |count: u8, numbers: usize| {
+            let mut bytes = vec![b'P', b'L', count];
+            bytes.extend([0; 8].repeat(1 + numbers));
+            listed(&bytes)
+        };
+        assert_eq!(with(0, 0), "1 PL refused 2\n");
+        assert_eq!(with(32, 32), "1 PL refused 2\n");
+        assert_eq!(with(32, 31), "1 PL refused 7\n");
+        assert_eq!(with(31, 32), "1 PL refused 2\n2 -- refused 6\n");
+        for count in 33..=255 {
+            assert_eq!(with(count, 33), "1 PL refused 8\n");
+        }
+    }
+
+    #[test]
+    fn lengths() {
+        let root = "ok 2 3FF0000000000000 1 4000000000000000 1";
+        for size in [65_535, 65_536] {
+            let lines = listed(&of_size(size));
+            assert!(lines.lines().all(|line| line.ends_with(root)), "{size}");
+            assert!(lines.lines().count() > 245);
+        }
+        for size in [65_537, 65_538, 200_000] {
+            assert_eq!(listed(&vec![b'P'; size]), "0 -- refused 9\n");
+        }
+        assert_eq!(listed(&of_size(65_537)), "0 -- refused 9\n");
+        let cut = listed(&of_size(65_536)[..65_535]);
+        assert!(cut.ends_with(" PL refused 7\n"));
+        // the most lines that a file can have
+        let short = b"PL\0\0\0\0\0\0\0\0\0".repeat(5957);
+        assert_eq!(short.len(), 65_527);
+        assert!(listed(&short).ends_with("\n5957 PL refused 2\n"));
+    }
+
+    /// Every line reads back, and is numbered from 1.
+    #[test]
+    fn made_files() {
+        let mut r = Random::new(12);
+        let mut refused = [0u64; 10];
+        for _ in 0..20_000 {
+            let bytes = any_file(&mut r);
+            let read = lines(&listing(&bytes, &Reference)).unwrap();
+            for (i, line) in read.iter().enumerate() {
+                assert_eq!(line.number, i + 1);
+                let text = line.answer.to_string();
+                let number = text.strip_prefix("refused ").map_or(0, |n| n.parse().unwrap());
+                refused[number] += 1;
+            }
+        }
+        say(&format!("made files: lines by refusal 0 to 9: {refused:?}"));
+        assert!([0, 1, 2, 3, 5, 6, 7, 8].iter().all(|&n| refused[n] > 100));
+    }
+
+    #[test]
+    fn stored_files() {
+        let files = files();
+        let lines: usize = files.iter().map(|(_, bytes)| listed(bytes).lines().count()).sum();
+        let bytes: usize = files.iter().map(|(_, bytes)| bytes.len()).sum();
+        say(&format!("stored files: {} files, {bytes} bytes, {lines} lines", files.len()));
+        let (_, document) = files.iter().find(|(name, _)| name == "document").unwrap();
+        assert_eq!(listed(document), DOCUMENT_LISTING);
+    }
+}

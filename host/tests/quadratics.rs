@@ -1,0 +1,194 @@
+//! Quadratics and the crank's quartic by the port against the reference build, and document 01's
+//! entries.
+#![cfg(geomcore)]
+use host::compare::{Kind, bits, compare, kind, say};
+use host::polynomials::every_kind;
+use host::port::quadratics::{self as port, Solution};
+use host::quadratics::{Quadratic, TOL, crank, quadratic, solution};
+use host::random::Random;
+use host::reference::patched::Tolerance;
+use host::reference::patched::equation::{self, QuadraticSolution};
+
+const EACH: usize = 340_000;
+
+fn tolerance([confusion, angular]: [f64; 2]) -> Tolerance {
+    Tolerance { confusion, angular, parametric: 0.0 }
+}
+
+/// The Rust's answer as the port gives it.
+fn told(s: QuadraticSolution) -> Solution {
+    match s {
+        QuadraticSolution::Two(x, y) => (0, [x, y]),
+        QuadraticSolution::One(x) => (1, [x, f64::NAN]),
+        QuadraticSolution::Linear(x) => (2, [x, f64::NAN]),
+        QuadraticSolution::Degenerate => (3, [f64::NAN; 2]),
+        QuadraticSolution::Empty => (4, [f64::NAN; 2]),
+    }
+}
+
+/// The answer that the port is handed.
+fn handed((n, [x, y]): Solution) -> QuadraticSolution {
+    match n {
+        0 => QuadraticSolution::Two(x, y),
+        1 => QuadraticSolution::One(x),
+        2 => QuadraticSolution::Linear(x),
+        3 => QuadraticSolution::Degenerate,
+        _ => QuadraticSolution::Empty,
+    }
+}
+
+fn rust([a, b, c]: [f64; 3], tol: [f64; 2]) -> Solution {
+    told(equation::solve_quadratic(a, b, c, tolerance(tol)))
+}
+
+/// What document 01 makes of the Rust's answer.
+fn refusing(abc: [f64; 3], tol: [f64; 2]) -> (u32, Solution) {
+    let empty = told(QuadraticSolution::Empty);
+    if abc.iter().any(|x| !x.is_finite()) {
+        return (1, empty);
+    }
+    let (n, places) = rust(abc, tol);
+    let count = [2, 1, 1, 0, 0][n as usize];
+    match places[..count].iter().all(|x| x.is_finite()) {
+        true => (0, (n, places)),
+        false => (5, empty),
+    }
+}
+
+/// How many inputs there are of each answer that has a word.
+fn tally(name: &str, words: &[&str], of: impl Iterator<Item = usize>) {
+    let mut counts = vec![0; words.len()];
+    of.for_each(|i| counts[i] += 1);
+    let named = words.iter().zip(counts).filter(|(word, _)| !word.is_empty());
+    let named = named.map(|(word, n)| format!("{n} {word}")).collect::<Vec<_>>();
+    say(&format!("{name}: {}", named.join(", ")));
+}
+
+fn all<T: Copy>(kinds: &[Kind<T>]) -> impl Iterator<Item = T> {
+    kinds.iter().flat_map(|k| k.inputs.iter().copied())
+}
+
+#[test]
+fn solved() {
+    let kinds: Vec<Kind<Quadratic>> = every_kind(&mut Random::new(501), EACH, quadratic);
+    compare(
+        "solve_quadratic",
+        501,
+        &kinds,
+        |(q, t)| port::solve_quadratic(q, t),
+        |(q, t)| rust(q, t),
+    );
+    let words = ["two", "one", "linear", "degenerate", "empty"];
+    tally("solve_quadratic", &words, all(&kinds).map(|(q, t)| rust(q, t).0 as usize));
+    compare("quadratic", 501, &kinds, |(q, t)| port::quadratic(q, t), |(q, t)| refusing(q, t));
+    let words = ["answered", "refused 1", "", "", "", "refused 5"];
+    tally("quadratic", &words, all(&kinds).map(|(q, t)| refusing(q, t).0 as usize));
+}
+
+#[test]
+fn centred() {
+    let kinds: Vec<Kind<Quadratic>> = every_kind(&mut Random::new(502), EACH, quadratic);
+    let port = |([a, b, _], [_, angular]): Quadratic| port::quadratic_centre(a, b, angular);
+    let rust = |([a, b, _], tol): Quadratic| equation::quadratic_centre(a, b, tolerance(tol));
+    compare("quadratic_centre", 502, &kinds, port, rust);
+    say(&format!("quadratic_centre: {} not 0", all(&kinds).filter(|&x| rust(x) != 0.0).count()));
+}
+
+#[test]
+fn shifted_and_touching() {
+    let mut r = Random::new(503);
+    let kinds = [kind("of any doubles", (0..9 * EACH).map(|_| solution(&mut r)).collect())];
+    let rust = |(s, t0): (Solution, f64)| told(handed(s).shifted(t0));
+    compare("shifted", 503, &kinds, |(s, t0)| port::shifted(s, t0), rust);
+    for reply in [false, true] {
+        let port = |(s, vertex)| port::touching_at(s, vertex, reply);
+        let rust = |(s, vertex): (Solution, f64)| told(handed(s).touching_at(vertex, |_| reply));
+        compare(&format!("touching_at, reply {reply}"), 503, &kinds, port, rust);
+    }
+}
+
+/// `solve_trig` up to its quartic, refused as document 01 says.
+fn trig([a2, b2, c1, d1, e]: [f64; 5]) -> (u32, (u64, [f64; 5])) {
+    if [a2, b2, c1, d1, e].iter().any(|x| !x.is_finite()) {
+        return (1, (0, [0.0; 5]));
+    }
+    let (k, q, _) = equation::solve_trig(a2, b2, c1, d1, e, tolerance([TOL; 2]), |_| false);
+    match q.iter().all(|x| x.is_finite()) {
+        true => (0, (k as u64, q)),
+        false => (5, (0, [0.0; 5])),
+    }
+}
+
+#[test]
+fn cranks() {
+    let kinds = every_kind(&mut Random::new(504), 150_000, crank);
+    compare("crank_front", 504, &kinds, port::crank_front, trig);
+    let words = ["with a quartic", "refused 1", "", "", "", "refused 5"];
+    tally("crank_front", &words, all(&kinds).map(|x| trig(x).0 as usize));
+    let words = [
+        "with k = 0",
+        "with k = 1",
+        "with k = 2",
+        "with k = 3",
+        "with k = 4",
+        "with k = 5",
+        "with k = 6",
+        "with k = 7",
+    ];
+    let finite = all(&kinds).map(trig).filter(|x| x.0 == 0);
+    tally("crank_front", &words, finite.map(|x| x.1.0 as usize));
+}
+
+const MINUS_ZERO: u64 = 1 << 63;
+
+/// The answer with both tolerances 2^-30, its places by their bits.
+fn entry(abc: [f64; 3]) -> (u32, (u32, [u64; 2])) {
+    with(abc, [TOL; 2])
+}
+
+fn with(abc: [f64; 3], tol: [f64; 2]) -> (u32, (u32, [u64; 2])) {
+    let (refusal, (n, places)) = port::quadratic(abc, tol);
+    (refusal, (n, places.map(bits)))
+}
+
+fn answer(n: u32, places: &[f64]) -> (u32, (u32, [u64; 2])) {
+    let at = |i| bits(places.get(i).copied().unwrap_or(f64::NAN));
+    (0, (n, [at(0), at(1)]))
+}
+
+#[test]
+fn entries() {
+    assert_eq!(entry([0.0, 0.0, 5.0]), answer(3, &[]));
+    assert_eq!(entry([0.0, 2.0, -4.0]), answer(2, &[2.0]));
+    assert_eq!(entry([1.0, 2.0, 1.0]), answer(1, &[-1.0]));
+    assert_eq!(entry([1.0, 0.0, 1.0]), answer(4, &[]));
+    assert_eq!(entry([1.0, -3.0, 2.0]), answer(0, &[1.0, 2.0]));
+    let above = f64::from_bits(TOL.to_bits() + 1);
+    for a in [TOL, -TOL] {
+        assert_eq!(entry([a, 1.0, 0.0]), answer(2, &[-0.0]));
+    }
+    for a in [above, -above] {
+        assert_eq!(entry([a, 1.0, 0.0]).1.0, 0);
+    }
+}
+
+#[test]
+fn inputs_that_show_a_mistake() {
+    assert_eq!(entry([0.0, 1.0, 0.0]), (0, (2, [MINUS_ZERO, bits(f64::NAN)])));
+    assert_eq!(with([1.0, 0.0, 0.0], [f64::NAN, TOL]), (0, (0, [MINUS_ZERO; 2])));
+    let refused = |n| (n, answer(4, &[]).1);
+    for angular in [f64::NAN, -1.0] {
+        assert_eq!(with([0.0, 1.0, 1.0], [TOL, angular]), refused(5));
+    }
+    for (i, x) in [f64::INFINITY, f64::NEG_INFINITY, f64::NAN].into_iter().enumerate() {
+        let mut abc = [1.0; 3];
+        abc[i] = x;
+        assert_eq!(entry(abc), refused(1));
+    }
+    assert_eq!(port::crank_front([0.0, 0.0, 0.0, 0.0, 1.0]).1.0, 7);
+    assert_eq!(port::crank_front([1.0, 0.0, 0.0, 0.0, 0.0]).1.0, 6);
+    assert_eq!(port::crank_front([0.0, 0.0, 1.0, 0.0, 0.0]).1.0, 4);
+    for i in [5, 6, 1 << 32, u64::MAX] {
+        assert_eq!(bits(port::crank_front_at(0.0, 0.0, 1.0, 0.0, 0.0, i)), bits(f64::NAN));
+    }
+}

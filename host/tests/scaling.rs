@@ -1,0 +1,246 @@
+//! Scaling and gaps by the port against the reference build.
+#![cfg(geomcore)]
+use host::compare::{compare_made, say};
+use host::lists::{KINDS, List, list, steps};
+use host::random::Random;
+use host::reference::patched::poly::{self, Scaled};
+use host::tally::Tally;
+use host::{met, port};
+use std::cell::Cell;
+
+const EACH: u64 = 150_000;
+
+/// All numbers of the Rust's answer. lg is read at degree 3 and 4 alone, and the port leaves it at
+/// minus infinity below.
+fn scaled((a, d): List) -> [f64; 18] {
+    let s = Scaled::new(&a[..=d as usize]);
+    let lg = if d < 3 { [f64::NEG_INFINITY; 5] } else { s.lg };
+    let last = [s.d as f64, s.e as f64, s.unit];
+    [&s.f[..], &s.g, &lg, &last].concat().try_into().unwrap()
+}
+
+fn split((lg, d): List) -> [f64; 3] {
+    match poly::magnitude_split(&lg, d as usize) {
+        Some((small, threshold)) => [1.0, small as f64, threshold],
+        None => [0.0, 0.0, 0.0],
+    }
+}
+
+#[test]
+fn scalings() {
+    let tally = Tally::new(&[
+        "with e above 0",
+        "with e 0",
+        "with e below 0",
+        "with e at most -1000 or at least 1000",
+        "with an f_i that went down to 0",
+        "with a subnormal f_i",
+        "with unit 0",
+        "with an infinite unit",
+        "with 2^-1074",
+        "with the largest double",
+        "of degree 0",
+        "of degree 1",
+        "of degree 2",
+        "of degree 3",
+        "of degree 4",
+    ]);
+    let rust = |(a, d): List| {
+        let x = scaled((a, d));
+        let (e, unit) = (x[16], x[17]);
+        let has = |size: f64| a.iter().any(|v| v.abs() == size);
+        tally.add(&[
+            e > 0.0,
+            e == 0.0,
+            e < 0.0,
+            e.abs() >= 1000.0,
+            (0..5).any(|i| a[i] != 0.0 && x[i] == 0.0),
+            (0..5).any(|i| x[i].is_subnormal()),
+            unit == 0.0,
+            unit.is_infinite(),
+            has(f64::from_bits(1)),
+            has(f64::MAX),
+            d == 0,
+            d == 1,
+            d == 2,
+            d == 3,
+            d == 4,
+        ]);
+        // 2^2098 lies between any two doubles: the Rust's bound of 4000 is never met
+        assert!(e.abs() <= 2098.0);
+        x
+    };
+    compare_made("Scaled::new", 601, (&KINDS, EACH), list, |(a, d)| port::scaled_new(a, d), rust);
+    tally.say("Scaled::new");
+}
+
+/// Says and asks for the gaps, by the number of small roots, and by the edge of the hull.
+fn gaps(name: &str, tally: &Tally) {
+    tally.say(name);
+    let edges = ["gap at edge 0", "gap at edge 1", "gap at edge 2"];
+    let edges = met::named(&met::counts(), edges);
+    say(&format!("{name}: {edges:?}"));
+    assert!(edges.iter().all(|e| e.1 > 0), "{name}: {edges:?}");
+}
+
+const SPLITS: [&str; 6] = [
+    "without a gap",
+    "with 1 small root of 3",
+    "with 2 small roots of 3",
+    "with 1 small root of 4",
+    "with 2 small roots of 4",
+    "with 3 small roots of 4",
+];
+
+fn add_split(tally: &Tally, d: u64, [found, small, _]: [f64; 3]) {
+    let ways = [(3, 1.0), (3, 2.0), (4, 1.0), (4, 2.0), (4, 3.0)].map(|way| (d, small) == way);
+    tally.add(&[&[found == 0.0], &ways[..]].concat());
+}
+
+#[test]
+fn splits() {
+    let tally = Tally::new(&SPLITS);
+    let logs = |r: &mut Random, which, n| {
+        let (a, d) = list(r, which, n);
+        (Scaled::new(&a[..=d as usize]).lg, d)
+    };
+    let rust = |(lg, d)| {
+        let x = split((lg, d));
+        add_split(&tally, d, x);
+        x
+    };
+    let port = |(lg, d)| port::magnitude_split(lg, d);
+    compare_made("magnitude_split", 602, (&KINDS, EACH), logs, port, rust);
+    gaps("magnitude_split", &tally);
+}
+
+/// Logarithms that no list has: off the grid, above the degree, and not finite.
+#[test]
+fn splits_of_made_logarithms() {
+    const MADE: [&str; 4] =
+        ["on the grid", "a little beside it", "of whole numbers", "of doubles up to 2^1000"];
+    let tally = Tally::new(&SPLITS);
+    let exact = Cell::new(0);
+    let make = |r: &mut Random, which, _| {
+        let d = r.below(5);
+        let mut lg =
+            steps(r, d as usize).map(|l| l.map_or(f64::NEG_INFINITY, |l| l as f64 / 256.0));
+        for l in &mut lg {
+            *l = match which {
+                0 => *l,
+                1 => f64::from_bits(l.to_bits().wrapping_add(r.below(3)).wrapping_sub(1)),
+                2 => r.below(60) as f64 - 30.0,
+                _ => r.any() / (1u64 << 24) as f64,
+            };
+            if r.below(16) == 0 {
+                *l = [f64::NAN, f64::INFINITY, f64::NEG_INFINITY, 0.0][r.below(4) as usize];
+            }
+        }
+        (lg, d)
+    };
+    let rust = |(lg, d): List| {
+        let x = split((lg, d));
+        add_split(&tally, d, x);
+        let slopes = (lg[0] - lg[1], lg[1] - lg[2]);
+        exact.set(exact.get() + (d >= 2 && slopes.1 - slopes.0 == 8.0) as u64);
+        x
+    };
+    let port = |(lg, d)| port::magnitude_split(lg, d);
+    compare_made("magnitude_split", 603, (&MADE, EACH), make, port, rust);
+    gaps("made logarithms", &tally);
+    say(&format!("made logarithms: {} with 8 bits from the first edge to the second", exact.get()));
+    assert!(exact.get() > 0);
+}
+
+fn factors(((a, d), depth): (List, u32)) -> [f64; 10] {
+    let f = poly::factorize(&Scaled::new(&a[..=d as usize]), depth);
+    let (lin, quad) = (f.lin, f.quad.map(|(al, be)| [al, be]));
+    [&[f.nlin as f64], &lin[..], &[f.nquad as f64], &quad[0], &quad[1]].concat().try_into().unwrap()
+}
+
+/// Compares over `each` lists of every kind, made at a depth, and says which ways the Rust went.
+fn factorizations(seed: u64, each: u64, depth: fn(&mut Random) -> u32) -> met::Counts {
+    let before = met::counts();
+    let tally = Tally::new(&[
+        "of degree 0",
+        "a line",
+        "a quadratic",
+        "line and quadratic",
+        "three lines",
+        "two quadratics",
+        "two lines and a quadratic",
+        "four lines",
+    ]);
+    let make = |r: &mut Random, which, n| {
+        let list = list(r, which, n);
+        (list, depth(r))
+    };
+    let rust = |x: (List, u32)| {
+        let f = factors(x);
+        let shapes = [(0, 0), (1, 0), (0, 1), (1, 1), (3, 0), (0, 2), (2, 1), (4, 0)];
+        tally.add(&shapes.map(|(lin, quad)| f[0] == lin as f64 && f[5] == quad as f64));
+        assert_eq!(f[0] + 2.0 * f[5], x.0.1 as f64, "the degrees add up");
+        f
+    };
+    let port = |((a, d), depth)| port::factorize(a, d, depth);
+    compare_made("factorize", seed, (&KINDS, each), make, port, rust);
+    tally.say("factorize");
+    met::since(&before)
+}
+
+#[test]
+fn factored() {
+    let ways = factorizations(604, EACH, |_| 0);
+    let ways = met::named(
+        &ways,
+        [
+            "no gap",
+            "degree not reached",
+            "quotient not usable",
+            "second scaling at depth 0",
+            "second scaling at depth 1",
+            "root peeled off",
+        ],
+    );
+    say(&format!("factorize: {ways:?}"));
+    assert!(ways.iter().all(|way| way.1 > 0), "factorize: {ways:?}");
+    let deepest = met::named(&met::counts(), ["second scaling at depth 2"]);
+    say(&format!("factorize: {deepest:?}, which nothing asks for"));
+}
+
+/// From a depth on that is not 0, up to the largest: from 3 on nothing is scaled again.
+#[test]
+fn factored_at_depths() {
+    let depth = |r: &mut Random| [1, 2, 3, 4, u32::MAX][r.below(5) as usize];
+    let ways = factorizations(605, EACH / 5, depth);
+    let ways = met::named(&ways, ["second scaling at depth 1", "second scaling at depth 2"]);
+    say(&format!("factorize at depths: {ways:?}"));
+    assert!(ways.iter().all(|way| way.1 > 0), "factorize at depths: {ways:?}");
+}
+
+type Export = fn(&[u8], u64, &mut [u8]) -> u64;
+
+/// Slices that are too short, and degrees above 4: nothing is written.
+#[test]
+fn refusals() {
+    let a = port::bytes(&[1.0, 2.0, -3.0, 4.0, 5.0, 6.0]);
+    let exports: [(Export, usize); 3] = [
+        (port::scaled_new_bytes, 144),
+        (port::magnitude_split_bytes, 24),
+        (|a, d, out| port::factorize_bytes(a, d, 0, out), 80),
+    ];
+    for (export, size) in exports {
+        let before: Vec<u8> = (0..200).map(|i| i as u8 ^ 0x5A).collect();
+        for (from, d, room) in (0..=48)
+            .flat_map(|n| [0, 4, 5, u64::MAX].map(|d| (n, d, 200)))
+            .chain((0..=200).map(|room| (40, 3, room)))
+        {
+            let mut out = before.clone();
+            let stored = export(&a[..from], d, &mut out[..room]);
+            let whole = from >= 40 && d <= 4 && room >= size;
+            assert_eq!(stored, if whole { size as u64 } else { 0 }, "{from} bytes, {d}, {room}");
+            let kept = if whole { size } else { 0 };
+            assert_eq!(out[kept..], before[kept..], "{from} bytes, degree {d}, room {room}");
+        }
+    }
+}
