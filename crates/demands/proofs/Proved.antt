@@ -1,17 +1,36 @@
 -- The proof of specs/Demands, from the laws beside it. Assumes nothing.
-use mathlib.Core.Path.{refl, ap}
+use mathlib.Core.Path.{refl, sym, ap, _∙_}
 use mathlib.Core.Logic.{⊎-elim}
+use mathlib.Core.List.{List}
+use Prim.Native.Nat.{ℕ, _-_, _≤_}
 use native.Mathlib.Omega.{arith}
 use lib.Dec.{lit≤}
-use lib.Ieee.{ofBits}
+use lib.ListN.{getD}
+use lib.Ieee.{Float, nan, ofBits}
 use Rattle.float.specs.Units.{unitsOf}
 use Rattle.decode.proofs.Class.{negative-view, regular-units}
 use Rattle.sqrt.specs.Root.{sqrtOf}
 use Rattle.cbrt.proofs.Cases.{root-special}
 use Rattle.angle.specs.Third.{cosOf, sinOf, thirdAngleOf}
 use Rattle.log2.specs.Log.{gridOf, log2GridOf}
+use Rattle.scaled.specs.Scaled.{scaledOf}
+use Rattle.scaled.proofs.Smallest.{exponent-holds, exponent-least, exponent-of-constant}
+use Rattle.scaled.proofs.Promise.{f-finite, f-held, f-leading}
+use Rattle.scaled.proofs.Digits as digits
+use Rattle.factorize.specs.Factorize.{factorizeOf}
+use Rattle.factorize.proofs.Degree.{degrees-add}
+use Rattle.polishing.proofs.Polishing.{polishing}
+use Rattle.finish.specs.Finish.{finishOf}
+use Rattle.finish.proofs.Simple.{simple-polished}
+use Rattle.poly.specs.Coefficients.{zerosOf}
+use Rattle.poly.specs.Solve.{candidatesOf, finishedOf, solveOf}
+use Rattle.poly.proofs.Refusals.{trimmed-is, number-most, no-root, stands-for, solved-number, solved-is}
+use Rattle.poly.proofs.Sums.{answer-within, answer-fits}
+use Rattle.poly.proofs.Small.{solved-small}
+use Rattle.inquiry.proofs.Fresh.{start-number}
+use Rattle.inquiry.proofs.Theorem.{start-fed, start-most, start-list}
 use Rattle.demands.specs.Table.{table}
-use Rattle.demands.specs.Demands.{Demands, SquareRoot, CubeRoot, Third, Logarithm}
+use Rattle.demands.specs.Demands.{Finite, Coefficients, Demands, SquareRoot, CubeRoot, Third, Logarithm, ScaledCoefficients, FactorDegrees, Lists, SimpleRoots}
 use Rattle.demands.proofs.Nearest.{signed, positive-units}
 use Rattle.demands.proofs.Doubles.{units-exact, only-one}
 use Rattle.demands.proofs.Roots.{square-nearest, cube-nearest, rest-nearest, scaled-most, scaled-least, sqrt-is, cbrt-is}
@@ -50,6 +69,51 @@ logarithm = record {
   zero = λ s. refl;
 }
 
+-- a finite double, in the words of crate `scaled`
+finite-in : (a : List Float) (d : ℕ) → Coefficients a d → (i : ℕ) → i ≤ d → digits.Finite (getD a i nan)
+finite-in a d C i l = let f = C .finite i l in record { held = f .held; finite = f .finite }
+
+finite-out : (x : Float) → digits.Finite x → Finite x
+finite-out x f = record { held = f .held; finite = f .finite }
+
+scaled-coefficients : ScaledCoefficients
+unfolding scaledOf
+scaled-coefficients = record {
+  bounds = λ a d C. exponent-holds a d (finite-in a d C) (C .last);
+  smallest = λ a d C z. exponent-least a d (finite-in a d C) (C .last) 0 z (C .first);
+  constant = exponent-of-constant;
+  finite = λ a d C i l. finite-out _ (f-finite a d (C .degree) (finite-in a d C) (C .last) i l);
+  most = λ a d C. f-held a d (C .degree) (finite-in a d C) (C .last);
+  leading = λ a d C. f-leading a d (C .degree) (finite-in a d C) (C .last);
+}
+
+factor-degrees : FactorDegrees
+unfolding factorizeOf
+factor-degrees = record { sum = λ sc h depth. degrees-add (3 - depth) sc h }
+
+lists : Lists
+lists = record {
+  trimmed = trimmed-is;
+  roots = answer-within;
+  array = answer-fits;
+  refused = no-root;
+  numbers = number-most;
+  zero = λ coeffs tol. stands-for coeffs tol 0 (lit≤ tt);
+  one = λ coeffs tol. stands-for coeffs tol 1 (lit≤ tt);
+  two = λ coeffs tol. stands-for coeffs tol 2 (lit≤ tt);
+  three = λ coeffs tol. stands-for coeffs tol 3 (lit≤ tt);
+}
+
+simple-roots : SimpleRoots
+unfolding finishedOf finishOf
+simple-roots = record {
+  found = λ coeffs tol e. rw (solved-is coeffs tol (sym (solved-number coeffs tol) ∙ e));
+  polished = λ coeffs tol H e n k.
+      let s = solveOf coeffs tol in
+      let small = solved-small coeffs tol H e in
+      simple-polished n (s .poly) (candidatesOf (s .poly) (zerosOf coeffs) (factorizeOf (s .poly) 0) (s .tol) .0) k (small .0) (small .1);
+}
+
 pub demands : Demands
 demands = record {
   doubles = record { exact = units-exact; one = only-one };
@@ -59,5 +123,11 @@ demands = record {
   logarithm = logarithm;
   exponent = record { exact = exponent-between };
   scale = record { exact = scale };
-  entries = record { every = agree given stated table all-rows };
+  scaled-coefficients = scaled-coefficients;
+  factor-degrees = factor-degrees;
+  lists = lists;
+  inquiries = record { refusal = start-number; fed = start-fed; questions = start-most; roots = start-list };
+  polishing = record { run = polishing };
+  simple-roots = simple-roots;
+  entries = record { every = λ tol. agree given stated (table tol) (all-rows tol) };
 }

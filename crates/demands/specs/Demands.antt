@@ -3,13 +3,15 @@
 use mathlib.Core.Path.{_≡_}
 use mathlib.Core.Logic.{_⊎_}
 use mathlib.Core.Bool.{Bool, true, false, cond}
-use mathlib.Core.List.{List·Memᴰ}
-use Prim.Native.Nat.{ℕ, suc, _+_, _*_, _^_, _≤_, _<_}
-use lib.IntN.{ℤ, pos, negsuc}
+use mathlib.Core.List.{List, List·Memᴰ}
+use Prim.Native.Nat.{ℕ, suc, _+_, _-_, _*_, _^_, _≤_, _<_}
+use lib.IntN.{ℤ, pos, negsuc, _*ℤ_}
+use lib.Signed.{_≤ℤ_}
+use lib.ListN.{length, getD}
 use lib.Ieee.{Float, nan, inf, fin, binary64, fits, up, down, lt}
 use lib.Ieee.Exact.{HasValue}
 use lib.Ieee.Positive.{positive}
-use Rattle.float.specs.Literals.{zero64}
+use Rattle.float.specs.Literals.{zero64, two64, four64}
 use Rattle.float.specs.Methods.{isFiniteOf, isSignNegativeOf}
 use Rattle.float.specs.Units.{unitsOf}
 use Rattle.decode.specs.Exponent.{exponentOf, regularOf}
@@ -18,6 +20,20 @@ use Rattle.sqrt.specs.Root.{sqrtOf}
 use Rattle.cbrt.specs.Root.{cbrtOf}
 use Rattle.angle.specs.Third.{thirdAngleOf}
 use Rattle.log2.specs.Log.{log2GridOf}
+use Rattle.scaled.specs.declared.Scaled.{Scaled}
+use Rattle.scaled.specs.Scaled.{scaledOf}
+use Rattle.factorize.specs.Factorize.{factorizeOf}
+use Rattle.roots.specs.Roots.{listOf, rootsOf, noRoots}
+use Rattle.roots.specs.Listed.{Fits, Within, blank}
+use Rattle.polish.specs.Polish.{polishOf}
+use Rattle.polishing.specs.Claims.{atMost, AllAtMost, Polished}
+use Rattle.finish.specs.Finish.{Ordered, nowhere, orderedOf, polishedOf, joinedOf}
+use Rattle.poly.specs.Coefficients.{trimmedOf, zerosOf, refusalOf, degreeLeft}
+use Rattle.poly.specs.Solve.{candidatesOf, solveOf}
+use Rattle.poly.specs.RealRoots.{realRootsOf}
+use Rattle.poly.specs.Conditions.{Trimmed, AllDoubles, AllFinite, SomeNotFinite, Exactly}
+use Rattle.inquiry.specs.Start.{realRootsTouchingOf, placesTouchingOf, startOf}
+use Rattle.inquiry.specs.Claims.{Fed}
 use Rattle.demands.specs.Table.{Row, table, answerOf}
 
 -- ---- words
@@ -67,6 +83,17 @@ abbrev pub Ratio : Float → ℤ → ℕ → Type 0
 Ratio x (pos a) d = HasValue x false a d
 Ratio x (negsuc a) d = HasValue x true (suc a) d
 
+-- a_0 to a_d, ascending, are finite, and the first and the last of them are not zero
+pub record Coefficients (a : List Float) (d : ℕ) : Type 0 where
+  pub degree : d ≤ 4
+  pub finite : (i : ℕ) → i ≤ d → Finite (getD a i nan)
+  pub first : 0 < unitsOf (getD a 0 nan)
+  pub last : 0 < unitsOf (getD a d nan)
+
+-- |a_i| ≤ |a_d|·2^(e(d−i)) for all i < d
+abbrev pub Bounds : List Float → ℕ → ℤ → Type 0
+Bounds a d e = (i : ℕ) → i < d → let z = e *ℤ pos (d - i) in unitsOf (getD a i nan) * down z ≤ unitsOf (getD a d nan) * up z
+
 -- ---- 'whole numbers over a power of two, as every finite double is': so nobody has to believe how a definition rounds
 
 -- a finite double is its sign and `unitsOf`, in units of 2^-1074, exactly; and no other has both
@@ -114,11 +141,84 @@ pub record Exponent : Type 0 where
 pub record Scale : Type 0 where
   pub exact : (x : Float) (k : ℤ) (y : Float) → TimesPower x k y → ldexpOf x k ≡ y
 
+-- 'e is the smallest whole number with |a_i| ≤ |a_d|·2^(e(d−i)) for all i < d; e = 0 where d = 0. Scaled coefficients are at most the leading one in size,
+-- which lies in [1, 2).' 1 has 2^1074 units.
+pub record ScaledCoefficients : Type 0 where
+  pub bounds : (a : List Float) (d : ℕ) → Coefficients a d → Bounds a d (scaledOf a d .e)
+  pub smallest : (a : List Float) (d : ℕ) → Coefficients a d → 0 < d → (e : ℤ) → Bounds a d e → scaledOf a d .e ≤ℤ e
+  pub constant : (a : List Float) → scaledOf a 0 .e ≡ pos 0
+  pub finite : (a : List Float) (d : ℕ) → Coefficients a d → (i : ℕ) → i ≤ d → Finite (getD (scaledOf a d .f) i nan)
+  pub most : (a : List Float) (d : ℕ) → Coefficients a d → (i : ℕ) → i ≤ d
+      → let f = scaledOf a d .f in unitsOf (getD f i nan) ≤ unitsOf (getD f d nan)
+  pub leading : (a : List Float) (d : ℕ) → Coefficients a d
+      → let n = unitsOf (getD (scaledOf a d .f) d nan) in (2 ^ 1074 ≤ n) × (n < 2 ^ 1075)
+
+-- 'Degree 3 splits into a line and a quadratic, degree 4 into two quadratics, or line and cubic': the degrees of the factors add up to d, from every depth on,
+-- so that no factor is ever dropped for want of room.
+pub record FactorDegrees : Type 0 where
+  pub sum : (sc : Scaled) → sc .d ≤ 4 → (depth : ℕ) → let f = factorizeOf sc depth in f .nlin + 2 * f .nquad ≡ sc .d
+
+-- ---- demand 1, for a list of any length, bits and tolerance
+
+-- 'An answer has at most four finite roots, each of multiplicity one or more, adding to no more than the degree left once trailing zeros are dropped. A refusal
+-- has no root': `Within d` says this of a list of roots, and `Fits` that the array of four has room for them. The numbers: 'is answered', 0, 'or refused under a
+-- number from document 01', each exactly under its condition: '1, some coefficient not finite, wherever it stands; 2, trimmed length 0 or 1; 3, trimmed length
+-- above 5'.
+pub record Lists : Type 0 where
+  pub trimmed : (coeffs : List Float) → Trimmed coeffs (trimmedOf coeffs)
+  pub roots : (coeffs : List Float) (tol : Float) → Within (trimmedOf coeffs - 1) (listOf (realRootsOf coeffs tol .roots))
+  pub array : (coeffs : List Float) (tol : Float) → Fits (realRootsOf coeffs tol .roots)
+  pub refused : (coeffs : List Float) (tol : Float) → 0 < realRootsOf coeffs tol .number → realRootsOf coeffs tol .roots ≡ noRoots
+  pub numbers : (coeffs : List Float) (tol : Float) → realRootsOf coeffs tol .number ≤ 3
+  pub zero : (coeffs : List Float) (tol : Float)
+      → Exactly (realRootsOf coeffs tol .number ≡ 0) (AllFinite coeffs × (2 ≤ trimmedOf coeffs) × (trimmedOf coeffs ≤ 5))
+  pub one : (coeffs : List Float) (tol : Float) → Exactly (realRootsOf coeffs tol .number ≡ 1) (SomeNotFinite coeffs)
+  pub two : (coeffs : List Float) (tol : Float) → Exactly (realRootsOf coeffs tol .number ≡ 2) (AllFinite coeffs × (trimmedOf coeffs ≤ 1))
+  pub three : (coeffs : List Float) (tol : Float) → Exactly (realRootsOf coeffs tol .number ≡ 3) (AllFinite coeffs × (5 < trimmedOf coeffs))
+
+-- ---- 'Contacts that only brush'
+
+-- The refusals are a list's. `Fed`: 'For every yes-or-no function of x, feeding its replies gives the Rust's list and asks at the Rust's places in its order', and
+-- then nothing is asked. 'At most (degree − 1) questions, 0 where the degree is 1, the degree being that left once trailing zeros are dropped.' Demand 1 holds of the
+-- finished list.
+pub record Inquiries : Type 0 where
+  pub refusal : (coeffs : List Float) (tol : Float) → startOf coeffs tol .number ≡ refusalOf coeffs
+  pub fed : (touches : Float → Bool) (coeffs : List Float) (tol : Float) → Fed touches (startOf coeffs tol .inquiry) coeffs tol
+  pub questions : (touches : Float → Bool) (coeffs : List Float) (tol : Float) → length (placesTouchingOf touches coeffs tol) ≤ degreeLeft coeffs - 1
+  pub roots : (touches : Float → Bool) (coeffs : List Float) (tol : Float) → Within (degreeLeft coeffs) (realRootsTouchingOf touches coeffs tol)
+
+-- ---- demand 3: 'However many polishing steps are allowed, those that move nothing counted, and wherever they start, no run of them by demand 2's definition can
+-- worsen a simple root beyond rounding.'
+
+-- 'For every scaled polynomial of degree 1 to 4 with coefficients at most 2 in size, and whatever the neighbouring roots, let first and last place be at most 4 in
+-- size. With P the exact size of the polynomial at a place and M the exact sum of its terms' sizes, (2^53 − 1)·P(last) is at most
+-- (2^53 + 1)·P(first) + 2^-45·(M(first) + M(last)) + 2^-946.' That is `Polished`, both sides times a power of two that makes them whole numbers. n is how many
+-- turns are allowed, the gap is the distance to the nearest neighbour, and the polynomial is f_0 + f_1·y + .. + f_d·y^d.
+pub record Polishing : Type 0 where
+  pub run : (n : ℕ) (f : List Float) (d : ℕ) (gap first : Float) → d ≤ 4 → AllAtMost two64 f d → atMost four64 first ≡ true
+      → let last = polishOf n f d gap first in atMost four64 last ≡ true → Polished f d first last
+
+-- The places with which the roots of a list come to polishing, in order, each with its multiplicity and its gap. What begins with `solveOf` has these.
+abbrev pub placesOf : List Float → Float → List Ordered
+placesOf coeffs tol = let s = solveOf coeffs tol in orderedOf (candidatesOf (s .poly) (zerosOf coeffs) (factorizeOf (s .poly) 0) (s .tol) .0)
+
+-- The same of every answer: 'A simple root comes to polishing with multiplicity 1. First is the place it comes with, last the one where the loop leaves it.'
+-- The roots that are found are the places, polished with at most four turns each, and then joined; whatever the number of turns, the k-th of them, if it comes
+-- with multiplicity 1, is not worsened. The polynomial is the list's own, 'with those zeros removed' and scaled: that its coefficients are at most 2 in size is no
+-- premise.
+pub record SimpleRoots : Type 0 where
+  pub found : (coeffs : List Float) (tol : Float) → let s = solveOf coeffs tol in s .number ≡ 0
+      → s .roots ≡ rootsOf (joinedOf (s .poly) (s .tol) (polishedOf 4 (s .poly) (placesOf coeffs tol)))
+  pub polished : (coeffs : List Float) (tol : Float) → AllDoubles coeffs → let s = solveOf coeffs tol in s .number ≡ 0 → (n k : ℕ)
+      → let first = getD (placesOf coeffs tol) k nowhere in let last = getD (polishedOf n (s .poly) (placesOf coeffs tol)) k blank in
+      first .multiplicity ≡ 1 → atMost four64 (first .value) ≡ true → atMost four64 (last .value) ≡ true
+      → Polished (s .poly .f) (s .poly .d) (first .value) (last .value)
+
 -- ---- condition 4 on every contract: 'The entries marked P form one small table, shown from the definitions by one fact about all its rows.'
 
--- what the definitions answer to a row's call is the row's answer, for every row that stands in the table
+-- what the definitions answer to a row's call is the row's answer, for every row that stands in the table, whatever the tolerance of its lists
 pub record Entries : Type 0 where
-  pub every : (row : Row) → List·Memᴰ row table → answerOf (row .call) ≡ row .answer
+  pub every : (tol : Float) (row : Row) → List·Memᴰ row (table tol) → answerOf (row .call) ≡ row .answer
 
 -- ---- all of them
 pub record Demands : Type 0 where
@@ -129,4 +229,10 @@ pub record Demands : Type 0 where
   pub logarithm : Logarithm
   pub exponent : Exponent
   pub scale : Scale
+  pub scaled-coefficients : ScaledCoefficients
+  pub factor-degrees : FactorDegrees
+  pub lists : Lists
+  pub inquiries : Inquiries
+  pub polishing : Polishing
+  pub simple-roots : SimpleRoots
   pub entries : Entries
