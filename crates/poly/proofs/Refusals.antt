@@ -106,9 +106,9 @@ module _ (s : List Float) (tol : Float) where
       go false e = refl
 
   -- what is solved of a list that is not refused
-  pub solved-is : refusalOf s ≡ 0 → solveOf s tol ≡ finishedOf (polyOf s) (zerosOf s) (maxOf tol zero64)
+  pub answered-is : solveOf s tol .number ≡ 0 → solveOf s tol ≡ finishedOf (polyOf s) (zerosOf s) (maxOf tol zero64)
   unfolding solveOf
-  solved-is e = rw (eq-eqb (refusalOf s) 0 e)
+  answered-is e = rw (eq-eqb (refusalOf s) 0 (sym solved-number ∙ e))
 
   number-is : realRootsOf s tol .number ≡ refusalOf s
   unfolding realRootsOf answerOf

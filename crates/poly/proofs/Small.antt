@@ -1,6 +1,6 @@
 -- The scaled polynomial of a list that is not refused: its coefficients are of size 2 at most, by the scaling theorem. Assumes nothing.
 use mathlib.Core.Path.{_≡_, refl, sym, _∙_, subst}
-use mathlib.Core.Bool.{true, false}
+use mathlib.Core.Bool.{false}
 use mathlib.Core.List.{List}
 use Prim.Native.Nat.{ℕ, zero, suc, _+_, _-_, _≤_, _<_}
 use native.Mathlib.Omega.{arith}
@@ -19,7 +19,7 @@ use Rattle.poly.specs.Coefficients.{allFiniteOf, trimmedOf, zerosOf, ref
 use Rattle.poly.specs.Solve.{finishedOf, solveOf}
 use Rattle.poly.specs.Conditions.{AllDoubles}
 use Rattle.poly.proofs.Coefficients.{room}
-use Rattle.poly.proofs.Refusals.{Told, told, trimmed-is, solved-number, solved-is}
+use Rattle.poly.proofs.Refusals.{Told, told, trimmed-is, solved-number, answered-is}
 
 five-at : (s : List Float) (from to i : ℕ) → i ≤ 4 → getD (middleOf s from to) i nan ≡ middleAt s from to i
 unfolding middleOf
@@ -78,5 +78,4 @@ pub solved-small : (s : List Float) (tol : Float) → AllDoubles s → solveOf s
     → let poly = solveOf s tol .poly in (poly .d ≤ 4) × AllAtMost two64 (poly .f) (poly .d)
 unfolding finishedOf
 solved-small s tol H e =
-    let R : refusalOf s ≡ 0 = sym (solved-number s tol) ∙ e in
-    subst (λ (r : Solved). (r .poly .d ≤ 4) × AllAtMost two64 (r .poly .f) (r .poly .d)) (sym (solved-is s tol R)) (poly-small s H R)
+    subst (λ (r : Solved). (r .poly .d ≤ 4) × AllAtMost two64 (r .poly .f) (r .poly .d)) (sym (answered-is s tol e)) (poly-small s H (sym (solved-number s tol) ∙ e))

@@ -1,0 +1,15 @@
+-- `reply` is its definition: what the quartic's inquiry replies, and k. Assumes nothing.
+use Rattle.crank.specs.Crank.{crankRepliedOf}
+use borrow.Author.Needs.{needs}
+use Rattle.crank.proofs.CrankInquiry.reply.Statement.{statement}
+use Rattle.crank.proofs.CrankInquiry.reply.Tie as tie
+
+reply-requires : tie.Need-reply-requires
+reply-requires c κs = search needs
+
+returns : tie.Need-returns
+unfolding crankRepliedOf
+returns c = rw (c .before .reply .ensures)
+
+pub reply-spec : {M : Type 1} → statement M
+reply-spec = tie.close (tie.spec reply-requires returns)

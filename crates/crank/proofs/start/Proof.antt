@@ -1,0 +1,42 @@
+-- `start` is its definition: by whether the equation is refused. Assumes nothing.
+use mathlib.Core.Path.{refl, subst⁻¹}
+use Prim.Native.Nat.{_<_}
+use borrow.Author.Tests.{eq-eqb, ne-eqb}
+use Rattle.facts.specs.Cond.{if-taken, if-left}
+use Rattle.equation.specs.declared.Crank.{Crank}
+use Rattle.crank.proofs.Front.{front-below, start-with}
+use borrow.Author.Needs.{needs}
+use Rattle.crank.proofs.start.Statement.{statement}
+use Rattle.crank.proofs.start.Tie as tie
+
+crank-front-requires : tie.Need-crank-front-requires
+crank-front-requires c κs = search needs
+
+slice-aggregate-start : tie.Need-slice-aggregate-start
+slice-aggregate-start c = search needs
+
+start-requires : tie.Need-start-requires
+start-requires c κs = search needs
+
+cast-k : tie.Need-cast-k
+cast-k c =
+    let made = c .before .before .before .before .crank-front in
+    let below : made .result .k < 8 = subst⁻¹ (λ (f : Crank). f .k < 8) (made .ensures) (front-below _ _ _ _ _) in
+    search needs
+
+returns : tie.Need-returns
+returns c =
+    let s = c .before .before .before .before in
+    let made = s .before .before .before .crank-front in
+    start-with _ _ _ _ _ _ (made .result) (s .start .result) (made .ensures) (s .start .ensures) (if-taken _ _ (eq-eqb _ _ (c .if1 .taken)) refl)
+
+returns-2 : tie.Need-returns-2
+returns-2 c =
+    let s = c .before .before .before .before in
+    let made = s .before .before .before .crank-front in
+    start-with _ _ _ _ _ _ (made .result) (s .start .result) (made .ensures) (s .start .ensures) (if-left _ _ (ne-eqb _ _ (c .if1 .left)) refl)
+
+pub start-spec : {M : Type 1} → statement M
+start-spec =
+    tie.close
+    (tie.spec crank-front-requires slice-aggregate-start start-requires cast-k returns returns-2)

@@ -1,0 +1,2 @@
+pub mod Crank
+pub mod Claims
