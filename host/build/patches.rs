@@ -239,4 +239,22 @@ pub const COUNTED: &[Patch] = &[
         "(value.is_finite() || crate::met::left()).then_some(RealRoot {",
         1,
     ),
+    (
+        "poly.rs",
+        "            items[n] = (y, if touches_at(y) { 2 } else { 0 });\n",
+        "            crate::met::way(16);\n            items[n] = (y, if touches_at(y) { 2 } else { 0 });\n",
+        1,
+    ),
+    (
+        "poly.rs",
+        "lo < y && y < hi && touches_at(y)",
+        "lo < y && y < hi && crate::met::way(17) && touches_at(y)",
+        1,
+    ),
+    (
+        "poly.rs",
+        "            mult += items[k].1;\n",
+        "            crate::met::way(18);\n            mult += items[k].1;\n",
+        1,
+    ),
 ];

@@ -1,5 +1,6 @@
 //! What is answered to a list.
 use crate::compare::bits;
+use crate::port::double;
 
 /// A place and its multiplicity.
 pub type Root = (f64, u32);
@@ -17,6 +18,14 @@ impl Answer {
         let mut root = [(0.0, 0); 4];
         root[..roots.len()].copy_from_slice(roots);
         Answer { refusal, len: roots.len(), root }
+    }
+
+    /// From nine doubles of the port: how many roots, and four places with their multiplicities.
+    pub fn read(out: &[u8]) -> Answer {
+        let len = double(out, 0) as usize;
+        let root = std::array::from_fn(|k| (double(out, 2 * k + 1), double(out, 2 * k + 2) as u32));
+        assert!(root[len..].iter().all(|r| r.0.to_bits() == 0 && r.1 == 0), "after the last");
+        Answer { refusal: 0, len, root }
     }
 
     pub fn roots(&self) -> &[Root] {

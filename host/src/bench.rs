@@ -213,6 +213,76 @@ fn lists(_: &mut Random) -> Vec<Row> {
     Vec::new()
 }
 
+#[cfg(geomcore)]
+const NO: [u8; 4] = [0; 4];
+
+/// How many times an inquiry wants a no until it lists.
+#[cfg(geomcore)]
+fn wanted(show: impl Fn(&[u8]) -> Result<port::inquiries::Shown, u64>) -> usize {
+    let ends = |n: &usize| show(&NO[..*n]).is_ok_and(|shown| shown.place.is_none());
+    (0..4).find(ends).unwrap_or(0)
+}
+
+/// Inquiries about lists with coefficients from -1 to 1, at the tolerance 2^-30, every question
+/// replied no. The port begins anew for each reply, and gets all of them at once here.
+#[cfg(geomcore)]
+fn inquiries(r: &mut Random) -> Vec<Row> {
+    use crate::port::inquiries::{inquire, inquire_bytes};
+    use reference::untouched::poly::real_roots_touching;
+    const NAMES: [&str; 3] = ["inquiry 2, uniform", "inquiry 3, uniform", "inquiry 4, uniform"];
+    let tol = 1.0 / (1u64 << 30) as f64;
+    let mut rows = Vec::new();
+    for (d, name) in (2..).zip(NAMES) {
+        let lists = (0..FACTORED).map(|_| -> [f64; 5] { [0; 5].map(|_| 2.0 * r.unit() - 1.0) });
+        let inputs = lists.map(|p| (p, port::forty(p), wanted(|no| inquire(&p[..=d], tol, no))));
+        let inputs: Vec<_> = inputs.collect();
+        let port = |(_, bytes, n): ([f64; 5], [u8; 40], usize)| {
+            let mut out = [0; 96];
+            inquire_bytes(&bytes[..8 * d + 8], tol, &NO[..n], &mut out);
+            port::double(&out, 4)
+        };
+        let rust = |(p, _, _): ([f64; 5], [u8; 40], usize)| {
+            let list = real_roots_touching(&p[..=d], tol, |_| false);
+            list.first().map_or(0.0, |root| root.value)
+        };
+        rows.push(row((name, "geomcore's"), Aim::Open, &inputs, port, rust));
+    }
+    rows
+}
+
+/// The same for crank equations with terms from -1 to 1.
+#[cfg(geomcore)]
+fn cranks(r: &mut Random) -> Vec<Row> {
+    use crate::port::inquiries::{crank_inquire, crank_inquire_bytes};
+    use crate::quadratics::TOL;
+    use reference::untouched::{Tolerance, equation};
+    let tol = Tolerance { confusion: TOL, angular: TOL, parametric: TOL };
+    let terms = (0..FACTORED).map(|_| -> [f64; 5] { [0; 5].map(|_| 2.0 * r.unit() - 1.0) });
+    let inputs: Vec<_> = terms.map(|t| (t, wanted(|no| crank_inquire(TOL, t, no)))).collect();
+    let port = |(terms, n): ([f64; 5], usize)| {
+        let mut out = [0; 104];
+        crank_inquire_bytes(TOL, terms, &NO[..n], &mut out);
+        port::double(&out, 5)
+    };
+    let rust = |([a2, b2, c1, d1, e], _): ([f64; 5], usize)| {
+        let (_, _, list) = equation::solve_trig(a2, b2, c1, d1, e, tol, |_| false);
+        list.first().map_or(0.0, |root| root.value)
+    };
+    vec![row(("crank, uniform", "geomcore's"), Aim::Open, &inputs, port, rust)]
+}
+
+#[cfg(not(geomcore))]
+fn inquiries(_: &mut Random) -> Vec<Row> {
+    println!("inquiries beside geomcore's: {}", reference::SKIPPED);
+    Vec::new()
+}
+
+#[cfg(not(geomcore))]
+fn cranks(_: &mut Random) -> Vec<Row> {
+    println!("cranks beside geomcore's: {}", reference::SKIPPED);
+    Vec::new()
+}
+
 /// Quadratics with two roots, one or none, from the coefficients to the first place.
 #[cfg(geomcore)]
 fn quadratics(r: &mut Random) -> Vec<Row> {
@@ -256,8 +326,8 @@ fn verdict(row: &Row) -> String {
 /// Measures all of them and prints the table.
 pub fn run() {
     let mut r = Random::new(1);
-    let parts =
-        [roots, angles, logarithms, scales, factors, lists, quadratics].map(|part| part(&mut r));
+    let parts = [roots, angles, logarithms, scales, factors, lists, inquiries, quadratics, cranks]
+        .map(|part| part(&mut r));
     println!("ns a value, best of {PASSES} passes over {VALUES} values, both in turns");
     println!(
         "{:20}{:>8}   {:18}{:>8}{:>8}   at most",

@@ -13,6 +13,8 @@ pub mod big;
 pub mod clustering;
 pub mod compare;
 #[cfg(geomcore)]
+pub mod cranks;
+#[cfg(geomcore)]
 pub mod differ;
 pub mod doubt;
 pub mod exact;
@@ -20,14 +22,20 @@ pub mod format;
 pub mod halls;
 pub mod hard;
 pub mod inputs;
+#[cfg(geomcore)]
+pub mod inquiries;
 pub mod lister;
 pub mod lists;
 pub mod met;
 pub mod methods;
+pub mod outcome;
+#[cfg(geomcore)]
+pub mod parts;
 pub mod people;
 pub mod plain;
 pub mod polynomials;
 pub mod port;
+pub mod ported;
 pub mod quadratics;
 pub mod random;
 pub mod reference;

@@ -154,7 +154,7 @@ pub fn answer(record: &Record, solver: &impl Solver) -> Answer {
     }
 }
 
-fn finite(numbers: &[f64]) -> bool {
+pub fn finite(numbers: &[f64]) -> bool {
     numbers.iter().all(|x| x.is_finite())
 }
 

@@ -2,7 +2,8 @@
 //! build/patches.rs puts the calls into it. They count, and change no answer.
 use std::cell::Cell;
 
-pub const WAYS: [&str; 16] = [
+/// The first `OF_LISTS` are the ways of every list, the others those of inquiries.
+pub const WAYS: [&str; 19] = [
     "gap at edge 0",
     "gap at edge 1",
     "gap at edge 2",
@@ -19,7 +20,12 @@ pub const WAYS: [&str; 16] = [
     "quadratic with a complex pair",
     "roots joined",
     "root beyond the finite range",
+    "pair to ask about",
+    "link to ask about",
+    "link taken in",
 ];
+
+pub const OF_LISTS: usize = 16;
 
 pub type Counts = [u64; WAYS.len()];
 

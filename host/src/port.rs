@@ -6,6 +6,7 @@
 use crate::answer::Answer;
 
 pub mod clustering;
+pub mod inquiries;
 pub mod quadratics;
 
 unsafe extern "C" {
@@ -425,28 +426,10 @@ pub fn real_roots(coeffs: &[f64], tol: f64) -> Answer {
     }
     let mut out = [LENT; 72];
     match real_roots_bytes(&from[..8 * coeffs.len()], tol, &mut out) {
-        72 => {
-            let len = double(&out, 0) as usize;
-            let root =
-                std::array::from_fn(|k| (double(&out, 2 * k + 1), double(&out, 2 * k + 2) as u32));
-            assert!(root[len..].iter().all(|r| r.0.to_bits() == 0 && r.1 == 0), "after the last");
-            Answer { refusal: 0, len, root }
-        }
+        72 => Answer::read(&out),
         refusal => {
             assert!(refusal > 0 && out == [LENT; 72], "refused {refusal}, bytes {out:?}");
             Answer::new(refusal, &[])
         }
     }
-}
-
-/// Stores the listing of a hall file from the start of `out` on, as far as it reaches, and says how
-/// long the listing is.
-pub fn list_file(s: &[u8], out: &mut [u8]) -> usize {
-    // TEMPORARY: until `hall_list_file` is exported the host's own lister stands in, and says so.
-    static SAID: std::sync::Once = std::sync::Once::new();
-    SAID.call_once(|| eprintln!("port: no hall_list_file yet, the reference lister stands in"));
-    let listing = crate::lister::listing(s, &crate::lister::Reference);
-    let kept = listing.len().min(out.len());
-    out[..kept].copy_from_slice(&listing[..kept]);
-    listing.len()
 }

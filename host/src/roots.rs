@@ -1,16 +1,13 @@
 //! Whole lists: the answers of the port, of the reference build and of the untouched Rust, compared
 //! over made lists.
 use crate::answer::{Answer, Root};
-use crate::compare::say;
 use crate::lists::{KINDS, handed_in, tolerance};
-use crate::met::{self, Counts, WAYS};
+use crate::met;
+use crate::outcome::Outcome;
+use crate::parts;
 use crate::port;
 use crate::random::Random;
 use crate::reference::{patched, untouched};
-use crate::tally::Tally;
-use std::sync::atomic::{AtomicU64, Ordering};
-use std::sync::mpsc;
-use std::thread;
 
 /// The number of the refusal by document 01, 0 where there is none.
 pub fn refusal(coeffs: &[f64]) -> u64 {
@@ -100,88 +97,35 @@ fn cases(coeffs: &[f64], tol: f64, answer: &Answer) -> [bool; CASES.len()] {
     ]
 }
 
-/// What was met over some lists.
-pub struct Outcome {
-    pub lists: u64,
-    pub wrong: u64,
-    /// The first lists on which port and reference build differ.
-    pub shown: Vec<String>,
-    pub met: Tally,
-    pub ways: Counts,
-    /// Departures of the untouched Rust from the reference build: in bits alone, in count, in
-    /// multiplicity.
-    pub departed: [u64; 3],
+/// One list, and what the others answer to it.
+fn add(outcome: &mut Outcome, coeffs: &[f64], tol: f64) {
+    let wanted = reference(coeffs, tol);
+    let given = port::real_roots(coeffs, tol);
+    outcome.inputs += 1;
+    outcome.met.add(&cases(coeffs, tol, &wanted));
+    if !given.same(&wanted) {
+        outcome.differs(|| {
+            let (given, wanted) = (given.text(), wanted.text());
+            format!("{}: port {given}, reference {wanted}", shown(coeffs, tol))
+        });
+    }
+    outcome.beside(&by_untouched(coeffs, tol), &wanted, true);
 }
 
-impl Outcome {
-    fn new() -> Outcome {
-        let met = Tally::new(&CASES);
-        let (ways, departed) = ([0; WAYS.len()], [0; 3]);
-        Outcome { lists: 0, wrong: 0, shown: Vec::new(), met, ways, departed }
-    }
-
-    fn join(&mut self, other: Outcome) {
-        self.lists += other.lists;
-        self.wrong += other.wrong;
-        self.shown.extend(other.shown);
-        self.shown.truncate(10);
-        self.met.join(&other.met);
-        for (all, more) in self.ways.iter_mut().zip(other.ways) {
-            *all += more;
-        }
-        for (all, more) in self.departed.iter_mut().zip(other.departed) {
-            *all += more;
-        }
-    }
-
-    /// One list, and what the others answer to it.
-    fn add(&mut self, coeffs: &[f64], tol: f64) {
-        let wanted = reference(coeffs, tol);
-        let given = port::real_roots(coeffs, tol);
-        self.lists += 1;
-        self.met.add(&cases(coeffs, tol, &wanted));
-        if !given.same(&wanted) {
-            self.wrong += 1;
-            if self.shown.len() < 10 {
-                let list: Vec<_> = coeffs.iter().map(|c| format!("{:016X}", c.to_bits())).collect();
-                let (tol, list) = (tol.to_bits(), list.join(" "));
-                let (given, wanted) = (given.text(), wanted.text());
-                self.shown.push(format!("{tol:016X}: {list}: port {given}, reference {wanted}"));
-            }
-        }
-        let other = by_untouched(coeffs, tol);
-        if !other.same(&wanted) {
-            let way = match other.len == wanted.len {
-                false => 1,
-                true if other.multiplicities().ne(wanted.multiplicities()) => 2,
-                true => 0,
-            };
-            self.departed[way] += 1;
-        }
-    }
-
-    /// The lines that say it all.
-    pub fn text(&self) -> String {
-        let ways = WAYS.iter().zip(self.ways).map(|(way, n)| format!("{n} {way}"));
-        let [bits, count, multiplicity] = self.departed;
-        format!(
-            "{} lists, {} differ\n{}\nthe reference build's ways: {}\nthe untouched Rust departs: {bits} in bits alone, {count} in count, {multiplicity} in multiplicity",
-            self.lists,
-            self.wrong,
-            self.met.text(),
-            ways.collect::<Vec<_>>().join(", "),
-        )
-    }
+/// A tolerance and a list in bits.
+pub fn shown(coeffs: &[f64], tol: f64) -> String {
+    let list: Vec<_> = coeffs.iter().map(|c| format!("{:016X}", c.to_bits())).collect();
+    format!("{:016X}: {}", tol.to_bits(), list.join(" "))
 }
 
 /// `count` made lists, the kinds in turn.
 pub fn made(seed: u64, count: u64) -> Outcome {
     let (mut r, mut list) = (Random::new(seed), Vec::new());
     let before = met::counts();
-    let mut outcome = Outcome::new();
+    let mut outcome = Outcome::new("lists", &CASES);
     for n in 0..count {
         handed_in(&mut r, (n % KINDS.len() as u64) as usize, n, &mut list);
-        outcome.add(&list, tolerance(&mut r));
+        add(&mut outcome, &list, tolerance(&mut r));
     }
     outcome.ways = met::since(&before);
     outcome
@@ -190,13 +134,13 @@ pub fn made(seed: u64, count: u64) -> Outcome {
 /// All lists of up to five coefficients over these, at both tolerances.
 pub fn every_short_list(over: &[f64], tols: [f64; 2]) -> Outcome {
     let before = met::counts();
-    let mut outcome = Outcome::new();
+    let mut outcome = Outcome::new("lists", &CASES);
     for len in 0..=5 {
         for n in 0..over.len().pow(len) {
             let at = |i| over[n / over.len().pow(i) % over.len()];
             let list: Vec<f64> = (0..len).map(at).collect();
             for tol in tols {
-                outcome.add(&list, tol);
+                add(&mut outcome, &list, tol);
             }
         }
     }
@@ -204,48 +148,7 @@ pub fn every_short_list(over: &[f64], tols: [f64; 2]) -> Outcome {
     outcome
 }
 
-const PART: u64 = 1_000_000;
-
-/// The same as `made` in parts of a million lists, each with a seed of its own, on two threads; says
-/// how far it is.
-pub fn long_run(count: u64, seed: u64) -> Outcome {
-    let parts = count.div_ceil(PART);
-    let next = AtomicU64::new(0);
-    let (to, from) = mpsc::channel();
-    thread::scope(|scope| {
-        for _ in 0..2 {
-            let to = to.clone();
-            let next = &next;
-            scope.spawn(move || {
-                loop {
-                    let part = next.fetch_add(1, Ordering::Relaxed);
-                    if part >= parts {
-                        break;
-                    }
-                    let lists = PART.min(count - part * PART);
-                    if to.send(made(seed.wrapping_add(part << 32), lists)).is_err() {
-                        break;
-                    }
-                }
-            });
-        }
-        drop(to);
-        let mut all = Outcome::new();
-        for outcome in from {
-            all.join(outcome);
-            eprintln!("{} of {count} lists, {} differ", all.lists, all.wrong);
-        }
-        all
-    })
-}
-
-/// The long run, and its lines; whether all were equal.
+/// The long run; whether all were equal.
 pub fn run(count: u64, seed: u64) -> bool {
-    let outcome = long_run(count, seed);
-    for line in &outcome.shown {
-        say(line);
-    }
-    say(&format!("seed {seed}, kinds in turn: {}", KINDS.join(", ")));
-    say(&outcome.text());
-    outcome.wrong == 0
+    parts::run((count, seed), &KINDS, made)
 }

@@ -25,6 +25,12 @@ impl Tally {
         }
     }
 
+    /// The count of one case.
+    pub fn count(&self, name: &str) -> u64 {
+        let found = self.0.iter().find(|c| c.0 == name);
+        found.unwrap_or_else(|| panic!("case {name}")).1.get()
+    }
+
     /// The counts in words.
     pub fn text(&self) -> String {
         let counts = self.0.iter().map(|(case, count)| format!("{} {case}", count.get()));

@@ -30,6 +30,7 @@ fn words_not_known() {
         (&["stored", "leaves"], "a word is missing after `hall stored leaves`"),
         (&["lists", "5"], "a word is missing after `hall lists 5`"),
         (&["lists", "five", "1"], "`five` is no number"),
+        (&["cranks", "5"], "a word is missing after `hall cranks 5`"),
         (&[], "a word is missing after `hall`"),
     ];
     for (words, line) in said {

@@ -4,9 +4,10 @@ use host::answer::{Answer, Root};
 use host::compare::say;
 use host::exact::ldexp;
 use host::lists::TOLERANCES;
-use host::met::WAYS;
+use host::met::{OF_LISTS, WAYS};
+use host::outcome::Outcome;
 use host::port;
-use host::roots::{Outcome, by_untouched, every_short_list, made, reference};
+use host::roots::{by_untouched, every_short_list, made, reference};
 
 const TOL: f64 = 1.0 / (1u64 << 30) as f64;
 const INFINITE: f64 = f64::INFINITY;
@@ -140,7 +141,7 @@ fn all_equal(name: &str, outcome: &Outcome) {
 #[test]
 fn every_list_of_small_numbers() {
     let outcome = every_short_list(&[-2.0, -1.0, -0.0, 0.0, 1.0, 2.0], [TOL, 0.25]);
-    assert_eq!(outcome.lists, 2 * (1 + 6 + 36 + 216 + 1296 + 7776));
+    assert_eq!(outcome.inputs, 2 * (1 + 6 + 36 + 216 + 1296 + 7776));
     all_equal("lists over -2 to 2 and -0", &outcome);
 }
 
@@ -149,11 +150,11 @@ fn made_lists(seed: u64) {
     all_equal(&format!("made lists, seed {seed}"), &outcome);
     outcome.met.ask("made lists");
     // nothing is scaled a fourth time
-    let ways = WAYS.iter().zip(outcome.ways).filter(|way| !way.0.ends_with("depth 2"));
+    let ways = WAYS[..OF_LISTS].iter().zip(outcome.ways).filter(|way| !way.0.ends_with("depth 2"));
     assert!(ways.clone().all(|way| way.1 > 0), "{:?}", ways.collect::<Vec<_>>());
-    let departed: u64 = outcome.departed.iter().sum();
+    let departed = outcome.departures();
     assert!(
-        (1..outcome.lists / 50).contains(&departed),
+        (1..outcome.inputs / 50).contains(&departed),
         "the untouched Rust departs {departed} times"
     );
 }

@@ -5,3 +5,6 @@ pub mod Answers
 pub mod Doubles
 pub mod Listing
 pub mod Polynomials
+pub mod Feeding
+pub mod Shown
+pub mod Crank

@@ -2,7 +2,7 @@
 use mathlib.Core.Bool.{cond}
 use mathlib.Core.List.{List, [], _∷_, flatMap}
 use Prim.Native.Nat.{ℕ, zero, suc, _+_}
-use lib.Dec.{ltb}
+use lib.Dec.{ltb, eqb}
 use lib.ListN.{length}
 use lib.Ieee.{Float, binary64, toBits}
 use Rattle.float.specs.Bytes.{f64At, bytesOf}
@@ -29,6 +29,14 @@ f64sAt (suc k) s at = f64At s at ∷ f64sAt k s (at + 8)
 -- t where n bytes have room for all of it, and nothing where not
 unfoldable pub whole : List ℕ → ℕ → List ℕ
 whole t n = cond (ltb n (length t)) [] t
+
+-- the bytes of an answer that is refused under n where n is not 0: nothing on a refusal
+unfoldable pub unlessRefused : ℕ → List Float → List ℕ
+unlessRefused n xs = cond (eqb n 0) (doublesBytes xs) []
+
+-- what is said of it where so many bytes are lent: how many of them are stored, or the number of the refusal
+unfoldable pub refusalOr : ℕ → List Float → ℕ → ℕ
+refusalOr n xs lent = cond (eqb n 0) (length (whole (doublesBytes xs) lent)) n
 
 -- the cosine and the sine of a third of the angle whose cosine is v
 unfoldable pub thirdAngleBytes : Float → List ℕ

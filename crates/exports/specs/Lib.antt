@@ -1,5 +1,7 @@
 pub mod Bytes
 pub mod Clustering
+pub mod Cranks
+pub mod Inquiries
 pub mod Lists
 pub mod Quadratics
 pub mod Scaling

@@ -2,14 +2,14 @@
 use mathlib.Core.Bool.{Bool, cond, _||_}
 use mathlib.Core.List.{List, [], _∷_, _++_}
 use Prim.Native.Nat.{ℕ, _*_, _/_}
-use lib.Dec.{ltb, eqb}
+use lib.Dec.{ltb}
 use lib.ListN.{length, getD}
 use lib.Ieee.{Float}
 use Rattle.roots.specs.declared.Roots.{Roots}
 use Rattle.roots.specs.Listed.{blank}
 use Rattle.poly.specs.declared.Answer.{Answer}
 use Rattle.poly.specs.RealRoots.{realRootsOf}
-use Rattle.exports.specs.Bytes.{doublesBytes, f64sAt, whole}
+use Rattle.exports.specs.Bytes.{f64sAt, unlessRefused, refusalOr}
 use Rattle.exports.specs.Scaling.{number}
 
 -- place and multiplicity of the root i
@@ -24,14 +24,20 @@ rootNumbers s = number (s .len) ∷ (rootAt s 0 ++ (rootAt s 1 ++ (rootAt s 2 ++
 unfoldable pub notDoubles : List ℕ → Bool
 notDoubles s = let n = length s / 8 in ltb (8 * n) (length s) || ltb 32 n
 
+-- of an answer to doubles in bytes: what is stored, and what is said where so many bytes are lent
+unfoldable pub bytesOr : List ℕ → ℕ → List Float → List ℕ
+bytesOr s n xs = cond (notDoubles s) [] (unlessRefused n xs)
+
+unfoldable pub saysOr : List ℕ → ℕ → List Float → ℕ → ℕ
+saysOr s n xs lent = cond (notDoubles s) 0 (refusalOr n xs lent)
+
 -- the answer to the doubles in the bytes
 unfoldable pub answerAt : List ℕ → Float → Answer
 answerAt s tol = realRootsOf (f64sAt (length s / 8) s 0) tol
 
--- the bytes to store: nothing on a refusal
-unfoldable pub listBytes : List ℕ → Float → List ℕ
-listBytes s tol = let a = answerAt s tol in cond (notDoubles s) [] (cond (eqb (a .number) 0) (doublesBytes (rootNumbers (a .roots))) [])
+-- what is stored, and what is said
+abbrev pub listBytes : List ℕ → Float → List ℕ
+listBytes s tol = let a = answerAt s tol in bytesOr s (a .number) (rootNumbers (a .roots))
 
--- the answer, where n bytes are lent: how many of them are stored, or the number of the refusal
-unfoldable pub listSays : List ℕ → Float → ℕ → ℕ
-listSays s tol n = let a = answerAt s tol in cond (notDoubles s) 0 (cond (eqb (a .number) 0) (length (whole (doublesBytes (rootNumbers (a .roots))) n)) (a .number))
+abbrev pub listSays : List ℕ → Float → ℕ → ℕ
+listSays s tol lent = let a = answerAt s tol in saysOr s (a .number) (rootNumbers (a .roots)) lent

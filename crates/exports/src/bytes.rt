@@ -3,7 +3,7 @@ ghost use mathlib.Core.Path.{_≡_};
 ghost use Prim.Native.Nat.{_*_, _≤_};
 ghost use lib.ListN.{length};
 ghost use lib.Seq.{sets};
-ghost use Rattle.exports.specs.Bytes.{doublesBytes, whole, fiveAt};
+ghost use Rattle.exports.specs.Bytes.{doublesBytes, whole, unlessRefused, refusalOr, fiveAt};
 
 // All of xs from the start of out on.
 pub fn put_all(out: &mut [u8], xs: &[f64])
@@ -27,6 +27,17 @@ pub fn store(out: &mut [u8], xs: &[f64]) -> u64
     }
     put_all(out, xs);
     8 * xs.len() as u64
+}
+
+// The same for an answer that is refused where number is not 0: nothing is stored then, and the number is said.
+pub fn answer(out: &mut [u8], number: u32, xs: &[f64]) -> u64
+    ensures { λ r. ⌜ r ≡ refusalOr number (now (xs .entry)) (length (now (out .entry))) ⌝ }
+    ensures { λ _. ⌜ now (out .exit) ≡ sets (now (out .entry)) 0 (whole (unlessRefused number (now (xs .entry))) (length (now (out .entry)))) ⌝ }
+{
+    if number == 0 {
+        return store(out, xs);
+    }
+    number as u64
 }
 
 // The five doubles in the first 40 bytes.

@@ -3,9 +3,11 @@
 // It rests on every crate whose functions it hands out; `leafcases` rests on it.
 mod bytes;
 pub mod clustering;
+pub mod cranks;
 pub mod evaluation;
 pub mod factoring;
 pub mod floats;
+pub mod inquiries;
 pub mod leaves;
 pub mod lists;
 pub mod quadratics;

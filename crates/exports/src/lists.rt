@@ -2,17 +2,18 @@
 // the last root. The answer is how many bytes are stored, 72, or the number of the refusal, or 0 where the bytes are no doubles, more than 32 of them, or
 // where those lent are too few: nothing is stored then.
 ghost use mathlib.Core.Path.{_≡_};
-ghost use Prim.Native.Nat.{_*_, _≤_};
+ghost use mathlib.Core.Bool.{false};
+ghost use Prim.Native.Nat.{_*_, _/_, _≤_};
 ghost use lib.ListN.{length, take};
 ghost use lib.Seq.{sets};
 ghost use Rattle.roots.specs.Listed.{Fits};
 ghost use Rattle.exports.specs.Bytes.{whole, f64sAt};
-ghost use Rattle.exports.specs.Lists.{rootNumbers, listBytes, listSays};
-use crate::bytes::store;
+ghost use Rattle.exports.specs.Lists.{rootNumbers, notDoubles, listBytes, listSays};
+use crate::bytes::answer;
 use roots::Roots;
 
 // The first k doubles, at the start of an array of 32.
-fn f64s_at(s: &[u8], k: usize) -> [f64; 32]
+pub fn f64s_at(s: &[u8], k: usize) -> [f64; 32]
     requires { ⌜ (k ≤ 32) × (8 * k ≤ length (now s)) ⌝ }
     ensures { λ r. ⌜ take k r ≡ f64sAt k (now (s .entry)) 0 ⌝ }
 {
@@ -25,7 +26,7 @@ fn f64s_at(s: &[u8], k: usize) -> [f64; 32]
     out
 }
 
-fn root_numbers(s: Roots) -> [f64; 9]
+pub fn root_numbers(s: Roots) -> [f64; 9]
     requires { ⌜ Fits s ⌝ }
     ensures { λ r. ⌜ r ≡ rootNumbers s ⌝ }
 {
@@ -47,23 +48,27 @@ fn root_numbers(s: Roots) -> [f64; 9]
     ]
 }
 
+// The bytes are no doubles, or more than 32 of them.
+pub fn not_doubles(s: &[u8]) -> bool
+    ensures { λ r. ⌜ (r ≡ notDoubles (now (s .entry))) × (r ≡ false → length (now (s .entry)) / 8 ≤ 32) ⌝ }
+{
+    let n = s.len() / 8;
+    if 8 * n < s.len() {
+        return true;
+    }
+    32 < n
+}
+
 #[no_mangle]
 pub extern "C" fn real_roots(coeffs: &[u8], tol: f64, out: &mut [u8]) -> u64
     ensures { λ r. ⌜ r ≡ listSays (now (coeffs .entry)) tol (length (now (out .entry))) ⌝ }
     ensures { λ _. ⌜ now (out .exit) ≡ sets (now (out .entry)) 0 (whole (listBytes (now (coeffs .entry)) tol) (length (now (out .entry)))) ⌝ }
 {
+    if not_doubles(coeffs) {
+        return 0;
+    }
     let n = coeffs.len() / 8;
-    if 8 * n < coeffs.len() {
-        return 0;
-    }
-    if 32 < n {
-        return 0;
-    }
     let list = f64s_at(coeffs, n);
-    let answer = poly::real_roots(&list[..n], tol);
-    let number = answer.number;
-    if number == 0 {
-        return store(out, &root_numbers(answer.roots));
-    }
-    number as u64
+    let a = poly::real_roots(&list[..n], tol);
+    answer(out, a.number, &root_numbers(a.roots))
 }

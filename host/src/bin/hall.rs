@@ -6,6 +6,8 @@ use std::process::ExitCode;
 const HELP: &str = "\
 hall bench                how long a call of each proved function takes, beside Rust's
 hall lists COUNT SEED     compare COUNT made lists with geomcore's Rust, on two threads
+hall inquiries COUNT SEED the same for inquiries: always no, always yes, and by a hash
+hall cranks COUNT SEED    the same for crank equations
 hall stored leaves DIR    write inputs of the leaves to DIR/data/leaves, and the exact
                           answers to DIR/stdout: what the crate leafcases reads and prints
 hall --help               this page
@@ -17,7 +19,9 @@ fn main() -> ExitCode {
     match words[..] {
         ["--help" | "-h" | "help"] => print!("{}{HELP}", people::HELP),
         ["bench"] => bench::run(),
-        ["lists", count, seed] => return compare_lists(count, seed),
+        [what @ ("lists" | "inquiries" | "cranks"), count, seed] => {
+            return compare(what, count, seed);
+        }
         ["stored", "leaves", dir] => return store_leaves(Path::new(dir)),
         _ => return people::run(&words).unwrap_or_else(|| refuse(&words)),
     }
@@ -25,7 +29,7 @@ fn main() -> ExitCode {
 }
 
 /// Status 1 where port and reference build differ.
-fn compare_lists(count: &str, seed: &str) -> ExitCode {
+fn compare(what: &str, count: &str, seed: &str) -> ExitCode {
     let numbers = [count, seed].map(|word| (word, word.parse::<u64>()));
     for (word, number) in &numbers {
         if number.is_err() {
@@ -34,17 +38,21 @@ fn compare_lists(count: &str, seed: &str) -> ExitCode {
         }
     }
     let [count, seed] = numbers.map(|n| n.1.unwrap_or(0));
-    if long_run(count, seed) { ExitCode::SUCCESS } else { ExitCode::FAILURE }
+    if long_run(what, count, seed) { ExitCode::SUCCESS } else { ExitCode::FAILURE }
 }
 
 #[cfg(geomcore)]
-fn long_run(count: u64, seed: u64) -> bool {
-    host::roots::run(count, seed)
+fn long_run(what: &str, count: u64, seed: u64) -> bool {
+    match what {
+        "lists" => host::roots::run(count, seed),
+        "inquiries" => host::inquiries::run(count, seed),
+        _ => host::cranks::run(count, seed),
+    }
 }
 
 #[cfg(not(geomcore))]
-fn long_run(_: u64, _: u64) -> bool {
-    println!("lists: {}", host::reference::SKIPPED);
+fn long_run(what: &str, _: u64, _: u64) -> bool {
+    println!("{what}: {}", host::reference::SKIPPED);
     true
 }
 
@@ -69,8 +77,13 @@ fn refuse(words: &[&str]) -> ExitCode {
         };
         words.iter().zip(form).take_while(same).count()
     };
-    let forms: [&[&str]; 3] =
-        [&["bench"], &["lists", "COUNT", "SEED"], &["stored", "leaves", "DIR"]];
+    let forms: [&[&str]; 5] = [
+        &["bench"],
+        &["lists", "COUNT", "SEED"],
+        &["inquiries", "COUNT", "SEED"],
+        &["cranks", "COUNT", "SEED"],
+        &["stored", "leaves", "DIR"],
+    ];
     let forms = forms.into_iter().chain(people::FORMS);
     let understood = forms.map(fits).max().unwrap_or(0);
     match words.get(understood) {

@@ -1,0 +1,56 @@
+-- What the export for inquiries stores, and its answer. Definitions only.
+use mathlib.Core.Bool.{Bool, cond, not}
+use mathlib.Core.List.{List, [], _∷_}
+use Prim.Native.Nat.{ℕ, _/_}
+use lib.Dec.{eqb}
+use lib.ListN.{length}
+use lib.Ieee.{Float}
+use Rattle.float.specs.Literals.{zero64, one64}
+use Rattle.roots.specs.declared.Roots.{Roots}
+use Rattle.inquiry.specs.declared.Inquiry.{Inquiry}
+use Rattle.inquiry.specs.declared.Started.{Started}
+use Rattle.inquiry.specs.declared.Replied.{Replied}
+use Rattle.inquiry.specs.Inquiry.{askedOf, repliedOf}
+use Rattle.inquiry.specs.Start.{startOf}
+use Rattle.exports.specs.Bytes.{f64sAt}
+use Rattle.exports.specs.Scaling.{number}
+use Rattle.exports.specs.Lists.{rootNumbers, bytesOr, saysOr}
+
+-- a reply's byte: 0 is no, every other one yes
+abbrev pub replyAt : ℕ → Bool
+replyAt b = not (eqb b 0)
+
+-- each reply in turn
+module _ {A : Type 0} where
+  unfoldable pub eachReply : (A → Bool → A) → List ℕ → A → A
+  eachReply f [] p = p
+  eachReply f (b ∷ rs) p = eachReply f rs (f p (replyAt b))
+
+-- the last reply's number, 4 from the first refused one on; whether there is a question, its place, and the list
+unfoldable pub shownNumbers : ℕ → Bool → Float → Roots → List Float
+shownNumbers n asks place list = number n ∷ cond asks one64 zero64 ∷ place ∷ rootNumbers list
+
+-- ---- lists
+abbrev pub fresh : Inquiry → Replied
+fresh q = record { number = 0; inquiry = q }
+
+abbrev pub next : Replied → Bool → Replied
+next p reply = repliedOf (p .inquiry) reply
+
+-- a refused reply leaves the inquiry as it was
+abbrev pub fedAll : List ℕ → Inquiry → Replied
+fedAll rs q = eachReply next rs (fresh q)
+
+unfoldable pub inquiryNumbers : Replied → List Float
+inquiryNumbers p = let a = askedOf (p .inquiry) in shownNumbers (p .number) (a .asking) (a .place) (a .list)
+
+-- the inquiry about the doubles in the bytes
+unfoldable pub startAt : List ℕ → Float → Started
+startAt s tol = startOf (f64sAt (length s / 8) s 0) tol
+
+-- what is stored, and what is said where so many bytes are lent
+abbrev pub inquiryBytes : List ℕ → Float → List ℕ → List ℕ
+inquiryBytes s tol rs = let q = startAt s tol in bytesOr s (q .number) (inquiryNumbers (fedAll rs (q .inquiry)))
+
+abbrev pub inquirySays : List ℕ → Float → List ℕ → ℕ → ℕ
+inquirySays s tol rs lent = let q = startAt s tol in saysOr s (q .number) (inquiryNumbers (fedAll rs (q .inquiry))) lent

@@ -1,0 +1,89 @@
+// Inquiries in lent bytes, from the start: coefficients as for a list and the replies so far in, one byte each, 0 for no; what the inquiry shows then out, as doubles:
+// 0, or 4 where a reply was refused; 1 and the place where it asks, 0 and 0 where not; and the list as for `real_roots`. The answer is how many bytes are stored, 96,
+// or the number of the refused start, or 0 where the bytes are no doubles, more than 32 of them, or where those lent are too few: nothing is stored then.
+ghost use mathlib.Core.Path.{_≡_};
+ghost use mathlib.Core.Bool.{cond};
+ghost use lib.ListN.{length};
+ghost use lib.Seq.{sets};
+ghost use Rattle.float.specs.Literals.{zero64, one64};
+ghost use Rattle.roots.specs.Listed.{Fits};
+ghost use Rattle.exports.specs.Bytes.{whole};
+ghost use Rattle.exports.specs.Inquiries.{fedAll, shownNumbers, inquiryNumbers, inquiryBytes, inquirySays};
+use crate::bytes::answer;
+use crate::lists::f64s_at;
+use crate::lists::not_doubles;
+use crate::lists::root_numbers;
+use inquiry::Inquiry;
+use inquiry::Replied;
+use roots::Roots;
+
+// Each reply in turn.
+fn fed(inquiry: Inquiry, replies: &[u8]) -> Replied
+    ensures { λ r. ⌜ r ≡ fedAll (now (replies .entry)) inquiry ⌝ }
+{
+    let mut p = Replied { number: 0, inquiry };
+    let mut i = 0;
+    while i < replies.len() {
+        let q = p.inquiry;
+        p = q.reply(replies[i] != 0);
+        i += 1;
+    }
+    p
+}
+
+// 1 for yes, 0 for no.
+fn flag(yes: bool) -> f64
+    ensures { λ r. ⌜ r ≡ cond yes one64 zero64 ⌝ }
+{
+    if yes {
+        return 1.0;
+    }
+    0.0
+}
+
+// The last reply's number, whether there is a question, its place, and the list.
+pub fn shown_numbers(number: u32, asks: bool, place: f64, list: Roots) -> [f64; 12]
+    requires { ⌜ Fits list ⌝ }
+    ensures { λ r. ⌜ r ≡ shownNumbers number asks place list ⌝ }
+{
+    let asks = flag(asks);
+    let list = root_numbers(list);
+    [
+        number as f64,
+        asks,
+        place,
+        list[0],
+        list[1],
+        list[2],
+        list[3],
+        list[4],
+        list[5],
+        list[6],
+        list[7],
+        list[8],
+    ]
+}
+
+fn inquiry_numbers(p: Replied) -> [f64; 12]
+    ensures { λ r. ⌜ r ≡ inquiryNumbers p ⌝ }
+{
+    let q = p.inquiry;
+    let a = q.ask();
+    shown_numbers(p.number, a.asking, a.place, a.list)
+}
+
+#[no_mangle]
+pub extern "C" fn inquire(coeffs: &[u8], tol: f64, replies: &[u8], out: &mut [u8]) -> u64
+    ensures { λ r. ⌜ r ≡ inquirySays (now (coeffs .entry)) tol (now (replies .entry)) (length (now (out .entry))) ⌝ }
+    ensures { λ _. ⌜ now (out .exit)
+        ≡ sets (now (out .entry)) 0 (whole (inquiryBytes (now (coeffs .entry)) tol (now (replies .entry))) (length (now (out .entry)))) ⌝ }
+{
+    if not_doubles(coeffs) {
+        return 0;
+    }
+    let n = coeffs.len() / 8;
+    let list = f64s_at(coeffs, n);
+    let s = inquiry::start(&list[..n], tol);
+    let p = fed(s.inquiry, replies);
+    answer(out, s.number, &inquiry_numbers(p))
+}

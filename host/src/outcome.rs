@@ -1,0 +1,76 @@
+//! What was met in comparing the port with the reference build, and the untouched Rust beside it.
+use crate::answer::Answer;
+use crate::met::{Counts, WAYS};
+use crate::tally::Tally;
+
+/// Ways in which the untouched Rust departs from the reference build.
+const DEPARTURES: [&str; 4] = ["in bits alone", "in count", "in multiplicity", "in questions"];
+
+pub struct Outcome {
+    /// What the inputs are.
+    pub name: &'static str,
+    pub inputs: u64,
+    pub wrong: u64,
+    /// The first inputs on which port and reference build differ.
+    pub shown: Vec<String>,
+    pub met: Tally,
+    pub ways: Counts,
+    departed: Tally,
+}
+
+impl Outcome {
+    pub fn new(name: &'static str, cases: &[&'static str]) -> Outcome {
+        let (met, departed) = (Tally::new(cases), Tally::new(&DEPARTURES));
+        let ways = [0; WAYS.len()];
+        Outcome { name, inputs: 0, wrong: 0, shown: Vec::new(), met, ways, departed }
+    }
+
+    pub fn join(&mut self, other: Outcome) {
+        self.inputs += other.inputs;
+        self.wrong += other.wrong;
+        self.shown.extend(other.shown);
+        self.shown.truncate(10);
+        self.met.join(&other.met);
+        self.departed.join(&other.departed);
+        for (all, more) in self.ways.iter_mut().zip(other.ways) {
+            *all += more;
+        }
+    }
+
+    /// An input on which port and reference build differ.
+    pub fn differs(&mut self, line: impl FnOnce() -> String) {
+        self.wrong += 1;
+        if self.shown.len() < 10 {
+            self.shown.push(line());
+        }
+    }
+
+    /// The untouched Rust's answer beside the reference build's, and whether its questions are the
+    /// same.
+    pub fn beside(&self, untouched: &Answer, wanted: &Answer, questions: bool) {
+        let other = !untouched.same(wanted);
+        let count = other && untouched.len != wanted.len;
+        let multiplicity =
+            other && !count && untouched.multiplicities().ne(wanted.multiplicities());
+        self.departed.add(&[other && !count && !multiplicity, count, multiplicity, !questions]);
+    }
+
+    /// How often it departs in its answers.
+    pub fn departures(&self) -> u64 {
+        DEPARTURES[..3].iter().map(|name| self.departed.count(name)).sum()
+    }
+
+    /// The lines that say it all.
+    pub fn text(&self) -> String {
+        let ways = WAYS.iter().zip(self.ways).map(|(way, n)| format!("{n} {way}"));
+        format!(
+            "{} {}, {} differ\n{}\nthe reference build's ways: {}\nthe untouched Rust departs: {}",
+            self.inputs,
+            self.name,
+            self.wrong,
+            self.met.text(),
+            ways.collect::<Vec<_>>().join(", "),
+            self.departed.text(),
+        )
+    }
+}

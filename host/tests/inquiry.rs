@@ -1,0 +1,114 @@
+//! Inquiries by the port against the reference build's `real_roots_touching`, and document 01's
+//! entries.
+#![cfg(geomcore)]
+use host::answer::{Answer, Root};
+use host::compare::say;
+use host::inquiries::{every_reply, made};
+use host::met::named;
+use host::port;
+use host::port::inquiries::{inquire, inquire_bytes};
+
+const TOL: f64 = 1.0 / (1u64 << 30) as f64;
+
+/// The inquiry asks about this place after these replies.
+fn asks(coeffs: &[f64], replies: &[u8], place: f64) {
+    let shown = inquire(coeffs, TOL, replies).unwrap();
+    let asked = shown.place.map(f64::to_bits);
+    assert_eq!((shown.number, asked), (0, Some(place.to_bits())), "{coeffs:?}, {replies:?}");
+}
+
+/// It has ended with this list.
+fn lists(coeffs: &[f64], replies: &[u8], roots: &[Root]) {
+    let shown = inquire(coeffs, TOL, replies).unwrap();
+    assert!(shown.number == 0 && shown.place.is_none(), "{coeffs:?}, {replies:?}");
+    assert!(shown.list.same(&Answer::new(0, roots)), "{coeffs:?}: {}", shown.list.text());
+}
+
+/// A further reply is refused, and changes nothing.
+fn refuses(coeffs: &[f64], replies: &[u8], roots: &[Root]) {
+    let shown = inquire(coeffs, TOL, replies).unwrap();
+    assert!(shown.number == 4 && shown.place.is_none(), "{coeffs:?}, {replies:?}");
+    assert!(shown.list.same(&Answer::new(0, roots)), "{coeffs:?}: {}", shown.list.text());
+}
+
+#[test]
+fn entries() {
+    let circle = [1.0, 0.0, 1.0];
+    asks(&circle, &[], -0.0);
+    for yes in [1, 2, 255] {
+        lists(&circle, &[yes], &[(-0.0, 2)]);
+        refuses(&circle, &[yes, 0], &[(-0.0, 2)]);
+        refuses(&circle, &[yes, 1, 0, 1, 1, 0, 1], &[(-0.0, 2)]);
+    }
+    lists(&circle, &[0], &[]);
+    refuses(&circle, &[0, 1], &[]);
+    asks(&[2.0, 0.0, 0.0, 0.0, -2.0], &[], 0.0);
+    lists(&[-6.0, 2.0], &[], &[(3.0, 1)]);
+    refuses(&[-6.0, 2.0], &[1], &[(3.0, 1)]);
+}
+
+#[test]
+fn refused_starts() {
+    let infinite = f64::INFINITY;
+    for replies in [&[][..], &[0], &[1, 1]] {
+        let refused = |coeffs: &[f64]| inquire(coeffs, TOL, replies).err();
+        assert_eq!(refused(&[]), Some(2));
+        assert_eq!(refused(&[7.0, 0.0]), Some(2));
+        assert_eq!(refused(&[f64::NAN]), Some(1));
+        assert_eq!(refused(&[0.0, 0.0, 0.0, 0.0, 0.0, infinite]), Some(1));
+        assert_eq!(refused(&[0.0, 0.0, 0.0, 0.0, 0.0, 1.0]), Some(3));
+    }
+}
+
+fn made_lists(seed: u64) {
+    let outcome = made(seed, 1_000_000);
+    say(&format!("inquiries, seed {seed}: {}", outcome.text()));
+    assert!(outcome.wrong == 0, "{}", outcome.shown.join("\n"));
+    outcome.met.ask("inquiries");
+    let asked = named(&outcome.ways, ["pair to ask about", "link to ask about", "link taken in"]);
+    assert!(asked.iter().all(|way| way.1 > 0), "{asked:?}");
+}
+
+#[test]
+fn made_lists_first() {
+    made_lists(711);
+}
+
+#[test]
+fn made_lists_second() {
+    made_lists(712);
+}
+
+#[test]
+fn every_sequence_of_replies() {
+    let (made, ends) = every_reply(713, 100_000);
+    let counts = ends.iter().zip(2..).map(|(n, ends)| format!("{n} with {ends}"));
+    let counts = counts.collect::<Vec<_>>().join(", ");
+    say(&format!("every sequence of replies, seed 713: {made} lists made, {counts}"));
+    assert!(ends.iter().sum::<u64>() == 100_000 && ends[0] * ends[6] > 0, "{ends:?}");
+}
+
+/// On a refused start every byte of the lent buffer is as it was; on an answer every byte behind it.
+#[test]
+fn buffers() {
+    let before: Vec<u8> = (0..120).map(|i| i as u8 ^ 0x5A).collect();
+    let check = |coeffs: &[u8], replies: &[u8], room: usize, wanted: u64| {
+        let mut out = before.clone();
+        let said = inquire_bytes(coeffs, TOL, replies, &mut out[..room]);
+        assert_eq!(said, wanted, "{coeffs:?} into {room} bytes");
+        let stored = if said < 8 { 0 } else { said as usize };
+        assert_eq!(out[stored..], before[stored..], "{coeffs:?} into {room} bytes");
+    };
+    let circle = port::bytes(&[1.0, 0.0, 1.0]);
+    for room in 0..=120 {
+        let whole = if room < 96 { 0 } else { 96 };
+        for replies in [&[][..], &[0], &[1], &[1, 0], &[0; 300]] {
+            check(&circle, replies, room, whole);
+            check(&port::bytes(&[1.0, f64::NAN]), replies, room, 1);
+            check(&[], replies, room, 2);
+            check(&port::bytes(&[1.0; 32]), replies, room, 3);
+            check(&port::bytes(&[1.0; 33]), replies, room, 0);
+            check(&circle[..23], replies, room, 0);
+        }
+    }
+}
