@@ -1,5 +1,5 @@
 -- The proof of specs/Demands, from the laws beside it. Assumes nothing.
-use mathlib.Core.Path.{refl, sym, ap, _∙_}
+use mathlib.Core.Path.{refl, ap}
 use mathlib.Core.Logic.{⊎-elim}
 use mathlib.Core.List.{List}
 use Prim.Native.Nat.{ℕ, _-_, _≤_}
@@ -24,11 +24,12 @@ use Rattle.finish.specs.Finish.{finishOf}
 use Rattle.finish.proofs.Simple.{simple-polished}
 use Rattle.poly.specs.Coefficients.{zerosOf}
 use Rattle.poly.specs.Solve.{candidatesOf, finishedOf, solveOf}
-use Rattle.poly.proofs.Refusals.{trimmed-is, number-most, no-root, stands-for, solved-number, solved-is}
+use Rattle.poly.proofs.Refusals.{trimmed-is, number-most, no-root, stands-for, answered-is}
 use Rattle.poly.proofs.Sums.{answer-within, answer-fits}
 use Rattle.poly.proofs.Small.{solved-small}
 use Rattle.inquiry.proofs.Fresh.{start-number}
 use Rattle.inquiry.proofs.Theorem.{start-fed, start-most, start-list}
+use Rattle.crank.proofs.Theorem.{cranks}
 use Rattle.demands.specs.Table.{table}
 use Rattle.demands.specs.Demands.{Finite, Coefficients, Demands, SquareRoot, CubeRoot, Third, Logarithm, ScaledCoefficients, FactorDegrees, Lists, SimpleRoots}
 use Rattle.demands.proofs.Nearest.{signed, positive-units}
@@ -107,7 +108,8 @@ lists = record {
 simple-roots : SimpleRoots
 unfolding finishedOf finishOf
 simple-roots = record {
-  found = λ coeffs tol e. rw (solved-is coeffs tol (sym (solved-number coeffs tol) ∙ e));
+  polynomial = λ coeffs tol e. rw (answered-is coeffs tol e);
+  found = λ coeffs tol e. rw (answered-is coeffs tol e);
   polished = λ coeffs tol H e n k.
       let s = solveOf coeffs tol in
       let small = solved-small coeffs tol H e in
@@ -127,6 +129,7 @@ demands = record {
   factor-degrees = factor-degrees;
   lists = lists;
   inquiries = record { refusal = start-number; fed = start-fed; questions = start-most; roots = start-list };
+  crank-equations = record { every = cranks };
   polishing = record { run = polishing };
   simple-roots = simple-roots;
   entries = record { every = λ tol. agree given stated (table tol) (all-rows tol) };

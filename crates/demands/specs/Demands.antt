@@ -28,12 +28,13 @@ use Rattle.roots.specs.Listed.{Fits, Within, blank}
 use Rattle.polish.specs.Polish.{polishOf}
 use Rattle.polishing.specs.Claims.{atMost, AllAtMost, Polished}
 use Rattle.finish.specs.Finish.{Ordered, nowhere, orderedOf, polishedOf, joinedOf}
-use Rattle.poly.specs.Coefficients.{trimmedOf, zerosOf, refusalOf, degreeLeft}
+use Rattle.poly.specs.Coefficients.{trimmedOf, zerosOf, refusalOf, degreeLeft, polyOf}
 use Rattle.poly.specs.Solve.{candidatesOf, solveOf}
 use Rattle.poly.specs.RealRoots.{realRootsOf}
 use Rattle.poly.specs.Conditions.{Trimmed, AllDoubles, AllFinite, SomeNotFinite, Exactly}
 use Rattle.inquiry.specs.Start.{realRootsTouchingOf, placesTouchingOf, startOf}
 use Rattle.inquiry.specs.Claims.{Fed}
+use Rattle.crank.specs.Claims.{Cranks}
 use Rattle.demands.specs.Table.{Row, table, answerOf}
 
 -- ---- words
@@ -187,6 +188,13 @@ pub record Inquiries : Type 0 where
   pub questions : (touches : Float → Bool) (coeffs : List Float) (tol : Float) → length (placesTouchingOf touches coeffs tol) ≤ degreeLeft coeffs - 1
   pub roots : (touches : Float → Bool) (coeffs : List Float) (tol : Float) → Within (degreeLeft coeffs) (realRootsTouchingOf touches coeffs tol)
 
+-- ---- 'Crank equations'
+
+-- `Cranks`: each refusal stands exactly for its condition, k is 0 to 7, and what holds of inquiries about lists holds of those about a crank's quartic, whose
+-- questions name k and u: the Rust's list, its places in its order, at most (degree − 1) questions, demand 1.
+pub record CrankEquations : Type 0 where
+  pub every : (confusion a2 b2 c1 d1 e : Float) → Cranks confusion a2 b2 c1 d1 e
+
 -- ---- demand 3: 'However many polishing steps are allowed, those that move nothing counted, and wherever they start, no run of them by demand 2's definition can
 -- worsen a simple root beyond rounding.'
 
@@ -198,15 +206,15 @@ pub record Polishing : Type 0 where
   pub run : (n : ℕ) (f : List Float) (d : ℕ) (gap first : Float) → d ≤ 4 → AllAtMost two64 f d → atMost four64 first ≡ true
       → let last = polishOf n f d gap first in atMost four64 last ≡ true → Polished f d first last
 
--- The places with which the roots of a list come to polishing, in order, each with its multiplicity and its gap. What begins with `solveOf` has these.
+-- The places with which the roots come to polishing, in order, each with its multiplicity and its gap. All that begins with `solveOf`, as a list does, has these.
 abbrev pub placesOf : List Float → Float → List Ordered
 placesOf coeffs tol = let s = solveOf coeffs tol in orderedOf (candidatesOf (s .poly) (zerosOf coeffs) (factorizeOf (s .poly) 0) (s .tol) .0)
 
 -- The same of every answer: 'A simple root comes to polishing with multiplicity 1. First is the place it comes with, last the one where the loop leaves it.'
--- The roots that are found are the places, polished with at most four turns each, and then joined; whatever the number of turns, the k-th of them, if it comes
--- with multiplicity 1, is not worsened. The polynomial is the list's own, 'with those zeros removed' and scaled: that its coefficients are at most 2 in size is no
--- premise.
+-- What is found are these places, each polished by at most four turns, and then joined. Whatever the number of turns n, the k-th of them is not worsened where it
+-- comes with multiplicity 1. The polynomial is the list's, scaled, 'with those zeros removed'; that its coefficients are at most 2 in size is no premise.
 pub record SimpleRoots : Type 0 where
+  pub polynomial : (coeffs : List Float) (tol : Float) → let s = solveOf coeffs tol in s .number ≡ 0 → s .poly ≡ polyOf coeffs
   pub found : (coeffs : List Float) (tol : Float) → let s = solveOf coeffs tol in s .number ≡ 0
       → s .roots ≡ rootsOf (joinedOf (s .poly) (s .tol) (polishedOf 4 (s .poly) (placesOf coeffs tol)))
   pub polished : (coeffs : List Float) (tol : Float) → AllDoubles coeffs → let s = solveOf coeffs tol in s .number ≡ 0 → (n k : ℕ)
@@ -233,6 +241,7 @@ pub record Demands : Type 0 where
   pub factor-degrees : FactorDegrees
   pub lists : Lists
   pub inquiries : Inquiries
+  pub crank-equations : CrankEquations
   pub polishing : Polishing
   pub simple-roots : SimpleRoots
   pub entries : Entries
