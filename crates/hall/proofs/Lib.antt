@@ -1,0 +1,9 @@
+-- What the proofs of several functions use, and what callers use of the listing.
+mod Texts
+mod Places
+mod Answers
+mod Doubles
+mod Asked
+mod Reading
+pub mod Bound
+mod Sample

@@ -1,0 +1,76 @@
+-- `hall::lines::put_crank` meets its contract: a refusal, or `ok`, k, and the roots.
+-- Assumes nothing.
+use native.Mathlib.Omega.{arith}
+use Rattle.text.proofs.Laws.{written-then, written-as}
+use Rattle.text.proofs.Digits.{decimal-length}
+use Rattle.hall.specs.Lines.{crankText}
+use Rattle.hall.proofs.Texts.{answered, refusal}
+use borrow.Author.Needs.{needs}
+use Rattle.hall.proofs.lines.put_crank.Statement.{statement}
+use Rattle.hall.proofs.lines.put_crank.Tie as tie
+
+put-refused-requires : tie.Need-put-refused-requires
+put-refused-requires c κs = search needs
+
+same-length : tie.Need-same-length
+same-length c = search needs
+
+returns : tie.Need-returns
+unfolding crankText
+returns c = written-as (refusal _ _ (c .before .before .before .before .if1 .taken)) (c .before .before .put-refused .ensures)
+
+slice-aggregate-put-bytes : tie.Need-slice-aggregate-put-bytes
+slice-aggregate-put-bytes c = search needs
+
+put-bytes-requires : tie.Need-put-bytes-requires
+put-bytes-requires c κs = search needs
+
+cast-put-decimal : tie.Need-cast-put-decimal
+cast-put-decimal c = search needs
+
+put-decimal-requires : tie.Need-put-decimal-requires
+put-decimal-requires c κs =
+    let start = c .before .before .before .before .before .before .before .before .before .before in
+    omega (arith, decimal-length 1 (start .args .a .k) (omega arith) (omega (arith, start .pre .1 .1 .0)))
+
+put-byte-requires : tie.Need-put-byte-requires
+put-byte-requires c κs =
+    let start = c .before .before .before .before .before .before .before .before .before .before .before .before .before .before in
+    omega (arith, decimal-length 1 (start .args .a .k) (omega arith) (omega (arith, start .pre .1 .1 .0)))
+
+put-roots-requires : tie.Need-put-roots-requires
+put-roots-requires c κs =
+    let start = c .before .before .before .before .before .before .before .before .before .before .before .before .before .before .before .before .before .before .before in
+    (omega (arith, decimal-length 1 (start .args .a .k) (omega arith) (omega (arith, start .pre .1 .1 .0))), start .pre .1 .1 .1)
+
+same-length-2 : tie.Need-same-length-2
+same-length-2 c = search needs
+
+returns-2 : tie.Need-returns-2
+unfolding crankText
+returns-2 c =
+    let after-put-roots = c .before .before in
+    let after-put-byte = after-put-roots .before .before .before .before .before in
+    let after-put-decimal = after-put-byte .before .before .before .before in
+    let after-put-bytes = after-put-decimal .before .before .before .before .before in
+    let first-test = after-put-bytes .before .before .before in
+    written-as (answered _ _ (first-test .if1 .left))
+    (written-then (after-put-bytes .put-bytes .ensures)
+    (written-then (after-put-decimal .put-decimal .ensures)
+    (written-then (after-put-byte .put-byte .ensures) (after-put-roots .put-roots .ensures))))
+
+pub put-crank-spec : {M : Type 1} → statement M
+put-crank-spec =
+    tie.close
+    (tie.spec
+    put-refused-requires
+    same-length
+    returns
+    slice-aggregate-put-bytes
+    put-bytes-requires
+    cast-put-decimal
+    put-decimal-requires
+    put-byte-requires
+    put-roots-requires
+    same-length-2
+    returns-2)

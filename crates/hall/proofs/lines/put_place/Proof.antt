@@ -1,0 +1,33 @@
+-- `hall::lines::put_place` meets its contract: a blank, and the digits of the bits.
+-- Assumes nothing.
+use mathlib.Core.Path.{ap}
+use Rattle.text.specs.Digits.{hexDigits}
+use Rattle.text.proofs.Laws.{written-then, written-as}
+use Rattle.hall.specs.Lines.{placeText}
+use borrow.Author.Needs.{needs}
+use Rattle.hall.proofs.lines.put_place.Statement.{statement}
+use Rattle.hall.proofs.lines.put_place.Tie as tie
+
+put-byte-requires : tie.Need-put-byte-requires
+put-byte-requires c κs = search needs
+
+to-bits-requires : tie.Need-to-bits-requires
+to-bits-requires c κs = search needs
+
+put-hex-requires : tie.Need-put-hex-requires
+put-hex-requires c κs = search needs
+
+same-length : tie.Need-same-length
+same-length c = search needs
+
+returns : tie.Need-returns
+unfolding placeText
+returns c =
+    let after-put-hex = c .before .before in
+    let after-to-bits = after-put-hex .before in
+    let after-put-byte = after-to-bits .before .before .before .before in
+    written-then (after-put-byte .put-byte .ensures) (written-as (ap (hexDigits 16) (after-to-bits .to-bits .ensures)) (after-put-hex .put-hex .ensures))
+
+pub put-place-spec : {M : Type 1} → statement M
+put-place-spec =
+    tie.close (tie.spec put-byte-requires to-bits-requires put-hex-requires same-length returns)

@@ -1,0 +1,37 @@
+-- `hall::lines::put_refused` meets its contract: the word, and a number of two digits at most.
+-- Assumes nothing.
+use native.Mathlib.Omega.{arith}
+use Rattle.text.proofs.Laws.{written-then}
+use Rattle.text.proofs.Digits.{decimal-length}
+use Rattle.hall.specs.Lines.{refusedText}
+use borrow.Author.Needs.{needs}
+use Rattle.hall.proofs.lines.put_refused.Statement.{statement}
+use Rattle.hall.proofs.lines.put_refused.Tie as tie
+
+slice-aggregate-put-bytes : tie.Need-slice-aggregate-put-bytes
+slice-aggregate-put-bytes c = search needs
+
+put-bytes-requires : tie.Need-put-bytes-requires
+put-bytes-requires c κs = search needs
+
+put-decimal-requires : tie.Need-put-decimal-requires
+put-decimal-requires c κs =
+    let start = c .before .before .before .before .before .before .before in
+    omega (arith, decimal-length 2 (start .args .number) (omega arith) (start .pre .1))
+
+same-length : tie.Need-same-length
+same-length c = search needs
+
+returns : tie.Need-returns
+unfolding refusedText
+returns c = written-then (c .before .before .before .before .before .before .put-bytes .ensures) (c .before .before .put-decimal .ensures)
+
+pub put-refused-spec : {M : Type 1} → statement M
+put-refused-spec =
+    tie.close
+    (tie.spec
+    slice-aggregate-put-bytes
+    put-bytes-requires
+    put-decimal-requires
+    same-length
+    returns)

@@ -1,0 +1,77 @@
+-- `hall::numbers::polynomial_at` meets its contract: the coefficients handed to the solver are those read.
+-- Assumes nothing.
+use mathlib.Core.Path.{sym, ap, _∙_}
+use mathlib.Core.List.{List}
+use Prim.Native.Nat.{_+_, _≤_}
+use lib.ListN.{length}
+use lib.Seq.{length-take-le}
+use lib.Ieee.{Float}
+use Rattle.poly.specs.RealRoots.{realRootsOf}
+use Rattle.hall.specs.Records.{countAt}
+use Rattle.hall.specs.Answers.{f64sAt, polynomialAt}
+use borrow.Author.Needs.{needs}
+use Rattle.hall.proofs.numbers.polynomial_at.Statement.{statement}
+use Rattle.hall.proofs.numbers.polynomial_at.Tie as tie
+
+add-count : tie.Need-add-count
+add-count c = search needs
+
+shared-slice-read-count : tie.Need-shared-slice-read-count
+shared-slice-read-count c = search needs
+
+cast-count : tie.Need-cast-count
+cast-count c = search needs
+
+add-f64s-at : tie.Need-add-f64s-at
+add-f64s-at c = search needs
+
+f64s-at-requires : tie.Need-f64s-at-requires
+f64s-at-requires c κs = search needs
+
+add-f64-at : tie.Need-add-f64-at
+add-f64-at c = search needs
+
+f64-at-requires : tie.Need-f64-at-requires
+f64-at-requires c κs = search needs
+
+array-share-prefix-coeffs : tie.Need-array-share-prefix-coeffs
+array-share-prefix-coeffs c = search needs
+
+slice-aggregate-real-roots : tie.Need-slice-aggregate-real-roots
+slice-aggregate-real-roots c =
+    let after-f64s-at = c .before .before in
+    let start = after-f64s-at .before .before .before in
+    let count = countAt (start .args .s .now) (start .args .at) in
+    let h : count ≤ length (after-f64s-at .f64s-at .result) = search needs in
+    sym (length-take-le count (after-f64s-at .f64s-at .result) h)
+
+real-roots-requires : tie.Need-real-roots-requires
+real-roots-requires c κs = search needs
+
+returns : tie.Need-returns
+unfolding polynomialAt
+returns c =
+    let after-f64-at = c .before .before in
+    let after-f64s-at = after-f64-at .before in
+    let start = after-f64s-at .before .before .before in
+    let s = start .args .s .now in
+    let at = start .args .at in
+    c .real-roots .ensures
+    ∙ ap (λ (cs : List Float). realRootsOf cs (after-f64-at .f64-at .result)) (after-f64s-at .f64s-at .ensures)
+    ∙ ap (realRootsOf (f64sAt (countAt s at) s (at + 11))) (after-f64-at .f64-at .ensures)
+
+pub polynomial-at-spec : {M : Type 1} → statement M
+polynomial-at-spec =
+    tie.close
+    (tie.spec
+    add-count
+    shared-slice-read-count
+    cast-count
+    add-f64s-at
+    f64s-at-requires
+    add-f64-at
+    f64-at-requires
+    array-share-prefix-coeffs
+    slice-aggregate-real-roots
+    real-roots-requires
+    returns)

@@ -1,0 +1,35 @@
+-- The solver's answers to the numbers of a record that stands whole. Definitions only.
+use mathlib.Core.List.{List, [], _∷_}
+use Prim.Native.Nat.{ℕ, zero, suc, _+_}
+use lib.Ieee.{Float}
+use Rattle.float.specs.Bytes.{f64At}
+use Rattle.poly.specs.declared.Answer.{Answer}
+use Rattle.equation.specs.declared.QuadraticAnswer.{QuadraticAnswer}
+use Rattle.crank.specs.declared.CrankAnswer.{CrankAnswer}
+use Rattle.poly.specs.RealRoots.{realRootsOf}
+use Rattle.equation.specs.Quadratic.{quadraticOf}
+use Rattle.crank.specs.Crank.{crankOf}
+use Rattle.hall.specs.Records.{countAt}
+
+-- the k doubles from at on
+unfoldable pub f64sAt : ℕ → List ℕ → ℕ → List Float
+f64sAt zero s at = []
+f64sAt (suc k) s at = f64At s at ∷ f64sAt k s (at + 8)
+
+-- 'PL: count byte, tolerance, that many coefficients'
+unfoldable pub polynomialAt : List ℕ → ℕ → Answer
+unfolding f64sAt
+polynomialAt s at = realRootsOf (f64sAt (countAt s at) s (at + 11)) (f64At s (at + 3))
+
+-- 'QD: confusion, angular, a, b, c'
+unfoldable pub quadraticAt : List ℕ → ℕ → QuadraticAnswer
+quadraticAt s at =
+    let confusion = f64At s (at + 2) in
+    let angular = f64At s (at + 10) in
+    quadraticOf (f64At s (at + 18)) (f64At s (at + 26)) (f64At s (at + 34)) confusion angular
+
+-- 'TG: confusion, a2, b2, c1, d1, e, every question replied no'
+unfoldable pub crankAt : List ℕ → ℕ → CrankAnswer
+crankAt s at =
+    let confusion = f64At s (at + 2) in
+    crankOf confusion (f64At s (at + 10)) (f64At s (at + 18)) (f64At s (at + 26)) (f64At s (at + 34)) (f64At s (at + 42))

@@ -1,0 +1,47 @@
+-- The words of a hall file and of its listing, in ASCII. Definitions only.
+use Prim.Native.Nat.{ℕ}
+use mathlib.Core.List.{List, [], _∷_}
+
+-- `PL`
+abbrev pub pl : List ℕ
+pl = 80 ∷ 76 ∷ []
+
+-- `QD`
+abbrev pub qd : List ℕ
+qd = 81 ∷ 68 ∷ []
+
+-- `TG`
+abbrev pub tg : List ℕ
+tg = 84 ∷ 71 ∷ []
+
+-- `--`
+abbrev pub unknown : List ℕ
+unknown = 45 ∷ 45 ∷ []
+
+-- `refused` and a blank
+abbrev pub refused : List ℕ
+refused = 114 ∷ 101 ∷ 102 ∷ 117 ∷ 115 ∷ 101 ∷ 100 ∷ 32 ∷ []
+
+-- `ok` and a blank
+abbrev pub ok : List ℕ
+ok = 111 ∷ 107 ∷ 32 ∷ []
+
+-- `two`
+abbrev pub two : List ℕ
+two = 116 ∷ 119 ∷ 111 ∷ []
+
+-- `one`
+abbrev pub one : List ℕ
+one = 111 ∷ 110 ∷ 101 ∷ []
+
+-- `linear`
+abbrev pub linear : List ℕ
+linear = 108 ∷ 105 ∷ 110 ∷ 101 ∷ 97 ∷ 114 ∷ []
+
+-- `degenerate`
+abbrev pub degenerate : List ℕ
+degenerate = 100 ∷ 101 ∷ 103 ∷ 101 ∷ 110 ∷ 101 ∷ 114 ∷ 97 ∷ 116 ∷ 101 ∷ []
+
+-- `empty`
+abbrev pub empty : List ℕ
+empty = 101 ∷ 109 ∷ 112 ∷ 116 ∷ 121 ∷ []
