@@ -1,5 +1,5 @@
-//! Inquiries: what the port asks and lists beside the Rust, whose closure `touches` says the same as
-//! the replies.
+//! Inquiries: what the port asks and lists beside the Rust, whose closure `touches` says what the
+//! replies say.
 use crate::answer::{Answer, Root};
 use crate::compare::bits;
 use crate::lists::{KINDS, handed_in, tolerance};
@@ -14,8 +14,8 @@ use std::cell::RefCell;
 
 pub type Touches<'a> = &'a dyn Fn(f64) -> bool;
 
-/// The Rust's run: k, 0 for a list; its list, with the number of the refusal; and the places that it
-/// asked about, in order.
+/// The Rust's run: k, 0 for a list; its list, with the number of the refusal; and the places that
+/// it asked about, in order.
 pub struct Ran {
     pub k: u64,
     pub list: Answer,
@@ -75,7 +75,7 @@ fn said(given: &Result<Shown, u64>) -> String {
 }
 
 /// What differs where the replies are those of the Rust's run, one question after another; `more`
-/// gives one reply after the end too, which is refused with 4 and changes nothing.
+/// gives replies after the end too, which are refused with 4 and change nothing.
 fn followed(inquiry: &impl Inquiry, ran: &Ran, touches: Touches, more: bool) -> Result<(), String> {
     let mut replies = Vec::with_capacity(ran.places.len() + 1);
     let check = |replies: &[u8], number, asked| {
@@ -86,7 +86,7 @@ fn followed(inquiry: &impl Inquiry, ran: &Ran, touches: Touches, more: bool) -> 
                 let (input, given) = (inquiry.text(), said(&given));
                 let (places, list) = (&ran.places, ran.list.text());
                 Err(format!(
-                    "{input}, replies {replies:?}: port {given}, reference asks {places:?}, k {}, {list}",
+                    "{input}, {replies:?}: port {given}, reference asks {places:?}, k {}, {list}",
                     ran.k
                 ))
             }
@@ -160,8 +160,8 @@ fn same_places(a: &[f64], b: &[f64]) -> bool {
     a.iter().map(|x| x.to_bits()).eq(b.iter().map(|x| x.to_bits()))
 }
 
-/// How many sequences of replies there are, all of which are given; the questions on the way and the
-/// list at the end are the Rust's.
+/// How many sequences of replies there are, all of which are given; the questions on the way and
+/// the list at the end are the Rust's.
 fn every_sequence(inquiry: &impl Inquiry, replies: &mut Vec<u8>, places: &mut Vec<f64>) -> u64 {
     let given = inquiry.port(replies);
     if let Ok(Shown { place: Some(x), .. }) = given {

@@ -68,7 +68,8 @@ fn made_cranks_second() {
     made_cranks(722);
 }
 
-/// On a refused start every byte of the lent buffer is as it was; on an answer every byte behind it.
+/// On a refused start every byte of the lent buffer is as it was; on an answer, every byte behind
+/// it.
 #[test]
 fn buffers() {
     let before: Vec<u8> = (0..120).map(|i| i as u8 ^ 0x5A).collect();

@@ -88,7 +88,8 @@ fn every_sequence_of_replies() {
     assert!(ends.iter().sum::<u64>() == 100_000 && ends[0] * ends[6] > 0, "{ends:?}");
 }
 
-/// On a refused start every byte of the lent buffer is as it was; on an answer every byte behind it.
+/// On a refused start every byte of the lent buffer is as it was; on an answer, every byte behind
+/// it.
 #[test]
 fn buffers() {
     let before: Vec<u8> = (0..120).map(|i| i as u8 ^ 0x5A).collect();

@@ -28,11 +28,11 @@ mod slices {
     }
 }
 
-/// What the inquiry about the doubles in `coeffs` shows after these replies, one byte each and 0 for
-/// no, and 96: 0, or 4 where a reply was refused; 1 and the place where it asks, 0 and 0 where not;
-/// how many roots the list has, and four places with their multiplicities; twelve doubles in all. Or
-/// the number of the refused start, or 0 where `coeffs` holds no doubles, or more than 32, or `out`
-/// is shorter: nothing is written then.
+/// What the inquiry about the doubles in `coeffs` shows after these replies, one byte each and 0
+/// for no, and 96: 0, or 4 where a reply was refused; 1 and the place where it asks, 0 and 0 where
+/// not; how many roots the list has, and four places with their multiplicities; twelve doubles in
+/// all. Or the number of the refused start, or 0 where `coeffs` holds no doubles, or more than 32,
+/// or `out` is shorter: nothing is written then.
 pub fn inquire_bytes(coeffs: &[u8], tol: f64, replies: &[u8], out: &mut [u8]) -> u64 {
     let (from, by) = ((coeffs.as_ptr(), coeffs.len()), (replies.as_ptr(), replies.len()));
     let to = (out.as_mut_ptr(), out.len());
@@ -40,9 +40,9 @@ pub fn inquire_bytes(coeffs: &[u8], tol: f64, replies: &[u8], out: &mut [u8]) ->
     unsafe { slices::inquire(from.0, from.1, tol, by.0, by.1, to.0, to.1) }
 }
 
-/// k of the crank equation a2, b2, c1, d1, e, and then what its inquiry shows after these replies, as
-/// for a list, thirteen doubles in all, and 104. Or the number of the refused start, or 0 where `out`
-/// is shorter: nothing is written then.
+/// k of the crank equation a2, b2, c1, d1, e, and then what its inquiry shows after these replies,
+/// as for a list, thirteen doubles in all, and 104. Or the number of the refused start, or 0 where
+/// `out` is shorter: nothing is written then.
 pub fn crank_inquire_bytes(
     confusion: f64,
     [a2, b2, c1, d1, e]: [f64; 5],
@@ -54,8 +54,8 @@ pub fn crank_inquire_bytes(
     unsafe { slices::crank_inquire(confusion, a2, b2, c1, d1, e, by.0, by.1, to.0, to.1) }
 }
 
-/// What an inquiry shows: k, 0 for a list; 4 where a reply was refused and else 0, the place that it asks about, and
-/// the list, empty where it asks.
+/// What an inquiry shows: k, 0 for a list; 4 where a reply was refused and else 0; the place that
+/// it asks about; and the list, empty where it asks.
 #[derive(Clone, Copy)]
 pub struct Shown {
     pub k: u64,
