@@ -1,4 +1,4 @@
--- `hallio::list_fd` is safe and ends: no listing is longer than the buffer (`listing-fits`).
+-- `hallroots::list_fd` is safe and ends: no listing is longer than the buffer (`listing-fits`).
 -- Assumes nothing.
 use Rattle.hall.proofs.Bound.{listing-fits}
 use Rattle.hall.specs.File.{listing}
@@ -9,8 +9,8 @@ use mathlib.Core.Path.{_≡_, sym}
 use lib.ListN.{length}
 use lib.Seq.{length-take-le}
 use borrow.Author.Needs.{needs}
-use Rattle.hallio.proofs.list_fd.Statement.{statement}
-use Rattle.hallio.proofs.list_fd.Tie as tie
+use Rattle.hallroots.proofs.list_fd.Statement.{statement}
+use Rattle.hallroots.proofs.list_fd.Tie as tie
 
 room : (r : ℕ) (s out : List ℕ) → r ≡ length (listing s) → length out ≡ 163860 → r ≤ length out
 room r s out e k = omega (arith, listing-fits s)
