@@ -1,5 +1,5 @@
-//! Links the proved archive, and writes geomcore's Rust to OUT_DIR twice: `untouched`, and
-//! `patched`, the reference build of document 01. EXPORTS names another folder for the archive,
+//! Links the proved archives, and writes geomcore's Rust to OUT_DIR twice: `untouched`, and
+//! `patched`, the reference build of document 01. EXPORTS names another folder for the archives,
 //! GEOMCORE another one for geomcore.
 #[path = "build/patches.rs"]
 mod patches;
@@ -13,7 +13,7 @@ const WANTED: &str =
 
 fn main() {
     let here = PathBuf::from(env::var("CARGO_MANIFEST_DIR").unwrap());
-    link_archive(&here);
+    link_archives(&here);
     println!("cargo::rustc-check-cfg=cfg(geomcore)");
     println!("cargo::rerun-if-changed=build");
     println!("cargo::rerun-if-env-changed=GEOMCORE");
@@ -34,18 +34,20 @@ fn main() {
     }
 }
 
-fn link_archive(here: &Path) {
+fn link_archives(here: &Path) {
     println!("cargo::rerun-if-env-changed=EXPORTS");
     let folder = env::var("EXPORTS").map_or(here.join("../target/staticlib"), PathBuf::from);
-    let archive = folder.join("libexports.a");
-    let named = archive.display();
-    println!("cargo::rerun-if-changed={named}");
-    if !archive.exists() {
-        let how = "run `rt staticlib exports`, or name its folder in EXPORTS";
-        println!("cargo::error={named} is missing: {how}");
-    }
     println!("cargo::rustc-link-search=native={}", folder.display());
-    println!("cargo::rustc-link-lib=static=exports");
+    for name in ["layers", "exports"] {
+        let archive = folder.join(format!("lib{name}.a"));
+        let path = archive.display();
+        println!("cargo::rerun-if-changed={path}");
+        if !archive.exists() {
+            let how = format!("run `rt staticlib {name}`, or name its folder in EXPORTS");
+            println!("cargo::error={path} is missing: {how}");
+        }
+        println!("cargo::rustc-link-lib=static={name}");
+    }
 }
 
 /// The folder with geomcore's source, or a line that says how to get it.

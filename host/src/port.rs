@@ -1,5 +1,6 @@
 //! The proved functions, called through plain C calls. This file and port/ have the only `unsafe` of
-//! the host. The declarations are not checked against crates/exports: keep both lists side by side.
+//! the host. The declarations are not checked against crates/layers and crates/exports: keep the
+//! lists side by side.
 //! A Rattle `&[u8]` or `&mut [u8]` is a pointer and a length, a number is itself, and no exported
 //! function requires anything of its arguments.
 #![allow(unsafe_code)]
@@ -226,6 +227,12 @@ mod slices {
             out: *mut u8,
             out_len: usize,
         ) -> u64;
+        pub fn hall_list_file(
+            file: *const u8,
+            file_len: usize,
+            out: *mut u8,
+            out_len: usize,
+        ) -> u64;
     }
 }
 
@@ -272,6 +279,13 @@ pub fn real_roots_bytes(coeffs: &[u8], tol: f64, out: &mut [u8]) -> u64 {
     let (from, to) = ((coeffs.as_ptr(), coeffs.len()), (out.as_mut_ptr(), out.len()));
     // SAFETY: pointers and lengths are those of slices lent for the call, which do not overlap.
     unsafe { slices::real_roots(from.0, from.1, tol, to.0, to.1) }
+}
+
+/// The listing of a hall file from the start of `out` on, as far as `out` reaches, and how many
+/// bytes the listing has.
+pub fn list_file(file: &[u8], out: &mut [u8]) -> u64 {
+    // SAFETY: pointers and lengths are those of slices lent for the call, which do not overlap.
+    unsafe { slices::hall_list_file(file.as_ptr(), file.len(), out.as_mut_ptr(), out.len()) }
 }
 
 /// Five doubles as bytes, lowest first.

@@ -10,7 +10,7 @@ use Rattle.roots.specs.declared.Roots.{Roots}
 use Rattle.roots.specs.Listed.{Fits}
 use Rattle.crank.specs.declared.CrankInquiry.{CrankInquiry}
 use Rattle.crank.specs.Crank.{crankAskedOf}
-use Rattle.exports.specs.Scaling.{number}
+use Rattle.lent.specs.Numbers.{number}
 use Rattle.exports.specs.Lists.{rootNumbers}
 use Rattle.exports.specs.Inquiries.{shownNumbers}
 use Rattle.exports.proofs.Shown.{shown-fits}

@@ -10,7 +10,7 @@ use lib.Seq.{drop-cons}
 use lib.Ieee.{Float, nan}
 use Rattle.float.specs.Literals.{zero64, one64}
 use Rattle.roots.specs.declared.Roots.{Roots}
-use Rattle.exports.specs.Scaling.{number}
+use Rattle.lent.specs.Numbers.{number}
 use Rattle.exports.specs.Lists.{rootNumbers}
 use Rattle.exports.specs.Inquiries.{replyAt, eachReply, shownNumbers}
 

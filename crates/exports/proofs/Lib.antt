@@ -1,8 +1,4 @@
 -- What the proofs of several functions use.
-pub mod Total
-pub mod Whole
-pub mod Answers
-pub mod Doubles
 pub mod Listing
 pub mod Polynomials
 pub mod Feeding

@@ -1,6 +1,6 @@
 -- What an answer to doubles in lent bytes says and stores.
 -- Assumes nothing.
-use mathlib.Core.Path.{_≡_, subst}
+use mathlib.Core.Path.{_≡_}
 use mathlib.Core.Bool.{true, false}
 use mathlib.Core.List.{List}
 use Prim.Native.Nat.{ℕ, _*_, _/_, _<_, _≤_}
@@ -9,24 +9,9 @@ use lib.ListN.{length}
 use lib.Seq.{sets}
 use lib.Ieee.{Float}
 use borrow.Author.Tests.{lt-ltb, le-ltb}
-use Rattle.roots.specs.declared.RealRoot.{RealRoot}
-use Rattle.roots.specs.Roots.{listOf}
-use Rattle.roots.specs.Listed.{Fits}
-use Rattle.roots.proofs.Laws.{list-roots, roots-fit}
-use Rattle.poly.specs.Solve.{solveOf}
-use Rattle.poly.specs.RealRoots.{unscaledAll, answerOf, realRootsOf}
-use Rattle.poly.proofs.Sums.{answer-within}
-use Rattle.exports.specs.Bytes.{whole}
+use Rattle.lent.specs.Bytes.{whole}
 use Rattle.exports.specs.Lists.{notDoubles, bytesOr, saysOr}
-use Rattle.exports.proofs.Whole.{Answered, nothing}
-
--- at most four roots are answered
-pub list-fits : (cs : List Float) (tol : Float) → Fits (realRootsOf cs tol .roots)
-unfolding realRootsOf answerOf
-list-fits cs tol =
-    let s = solveOf cs tol in
-    let l = unscaledAll (s .poly .e) (listOf (s .roots)) in
-    roots-fit l (subst (λ (k : List RealRoot). length k ≤ 4) (list-roots l) (answer-within cs tol .four))
+use Rattle.lent.proofs.Whole.{Answered, nothing}
 
 -- ---- whether the bytes are doubles
 module _ (s : List ℕ) where

@@ -21,7 +21,7 @@ use Rattle.roots.proofs.Sums.{length-kept}
 use Rattle.band.specs.declared.Found.{Found}
 use Rattle.band.specs.Quadratic.{Factor, double, apart, complex, quadraticOf, pushFactorIn, pushQuadraticIn}
 use Rattle.finish.specs.Finish.{isNearOf, joinedFrom, joinedOf, polishedOf, orderedOf, finishOf}
-use Rattle.exports.specs.Bytes.{doublesBytes, fiveAt}
+use Rattle.lent.specs.Bytes.{doublesBytes, fiveAt}
 use Rattle.exports.specs.Clustering.{polyOr, candidateAt, candidatesAt, pairsAt, lacksOf, polyBytes}
 
 -- ---- the polynomial

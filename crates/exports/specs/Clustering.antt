@@ -19,8 +19,8 @@ use Rattle.band.specs.declared.TurningPoint.the-variants.{At, None}
 use Rattle.band.specs.declared.Found.{Found}
 use Rattle.band.specs.Quadratic.{pushQuadraticIn}
 use Rattle.finish.specs.Finish.{finishOf}
-use Rattle.exports.specs.Bytes.{doublesBytes, fiveAt}
-use Rattle.exports.specs.Scaling.{number}
+use Rattle.lent.specs.Bytes.{doublesBytes, fiveAt}
+use Rattle.lent.specs.Numbers.{number}
 
 -- f of the polynomial with five doubles as coefficients and the degree d; `other` where the doubles have fewer than 40 bytes, or the degree is above 4
 unfoldable pub polyOr : {A : Type 0} → A → (Scaled → A) → List ℕ → ℕ → A

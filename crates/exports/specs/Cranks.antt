@@ -7,7 +7,7 @@ use Rattle.crank.specs.declared.CrankInquiry.{CrankInquiry}
 use Rattle.crank.specs.declared.CrankStarted.{CrankStarted}
 use Rattle.crank.specs.declared.CrankReplied.{CrankReplied}
 use Rattle.crank.specs.Crank.{crankAskedOf, crankRepliedOf}
-use Rattle.exports.specs.Scaling.{number}
+use Rattle.lent.specs.Numbers.{number}
 use Rattle.exports.specs.Inquiries.{eachReply, shownNumbers}
 
 abbrev pub nextCrank : CrankReplied → Bool → CrankReplied

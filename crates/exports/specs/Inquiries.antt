@@ -12,8 +12,8 @@ use Rattle.inquiry.specs.declared.Started.{Started}
 use Rattle.inquiry.specs.declared.Replied.{Replied}
 use Rattle.inquiry.specs.Inquiry.{askedOf, repliedOf}
 use Rattle.inquiry.specs.Start.{startOf}
-use Rattle.exports.specs.Bytes.{f64sAt}
-use Rattle.exports.specs.Scaling.{number}
+use Rattle.lent.specs.Bytes.{f64sAt}
+use Rattle.lent.specs.Numbers.{number}
 use Rattle.exports.specs.Lists.{rootNumbers, bytesOr, saysOr}
 
 -- a reply's byte: 0 is no, every other one yes

@@ -9,8 +9,8 @@ use Rattle.roots.specs.declared.Roots.{Roots}
 use Rattle.roots.specs.Listed.{blank}
 use Rattle.poly.specs.declared.Answer.{Answer}
 use Rattle.poly.specs.RealRoots.{realRootsOf}
-use Rattle.exports.specs.Bytes.{f64sAt, unlessRefused, refusalOr}
-use Rattle.exports.specs.Scaling.{number}
+use Rattle.lent.specs.Bytes.{f64sAt, unlessRefused, refusalOr}
+use Rattle.lent.specs.Numbers.{number}
 
 -- place and multiplicity of the root i
 abbrev pub rootAt : Roots → ℕ → List Float

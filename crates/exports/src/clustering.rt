@@ -13,10 +13,10 @@ ghost use Rattle.roots.specs.Listed.{multiplicities};
 ghost use Rattle.band.specs.Band.{noiseOf, bandOf, withinBandOf};
 ghost use Rattle.band.specs.Critical.{criticalPointOf, extremumOf};
 ghost use Rattle.polish.specs.Polish.{polishOf};
-ghost use Rattle.exports.specs.Bytes.{whole, fiveAt};
+ghost use Rattle.lent.specs.Bytes.{whole, fiveAt};
 ghost use Rattle.exports.specs.Clustering.{polyOr, turningOrNan, candidateAt, lacksOf, candidatesAt, pairsAt, rootNumbers, foundNumbers, quadraticBytes, finishBytes};
-use crate::bytes::five_at;
-use crate::bytes::store;
+use lent::five_at;
+use lent::store;
 
 // Whether there is no such polynomial.
 fn refused(a: &[u8], d: u64) -> bool

@@ -4,12 +4,12 @@ ghost use mathlib.Core.Path.{_≡_};
 ghost use lib.ListN.{length};
 ghost use lib.Seq.{sets};
 ghost use Rattle.crank.specs.Crank.{crankStartOf};
-ghost use Rattle.exports.specs.Bytes.{whole, unlessRefused, refusalOr};
+ghost use Rattle.lent.specs.Bytes.{whole, unlessRefused, refusalOr};
 ghost use Rattle.exports.specs.Cranks.{crankFedAll, crankNumbers, shownAfter};
-use crate::bytes::answer;
 use crate::inquiries::shown_numbers;
 use crank::CrankInquiry;
 use crank::CrankReplied;
+use lent::answer;
 
 // Each reply in turn.
 fn crank_fed(crank: CrankInquiry, replies: &[u8]) -> CrankReplied

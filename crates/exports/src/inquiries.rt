@@ -7,14 +7,14 @@ ghost use lib.ListN.{length};
 ghost use lib.Seq.{sets};
 ghost use Rattle.float.specs.Literals.{zero64, one64};
 ghost use Rattle.roots.specs.Listed.{Fits};
-ghost use Rattle.exports.specs.Bytes.{whole};
+ghost use Rattle.lent.specs.Bytes.{whole};
 ghost use Rattle.exports.specs.Inquiries.{fedAll, shownNumbers, inquiryNumbers, inquiryBytes, inquirySays};
-use crate::bytes::answer;
-use crate::lists::f64s_at;
 use crate::lists::not_doubles;
 use crate::lists::root_numbers;
 use inquiry::Inquiry;
 use inquiry::Replied;
+use lent::answer;
+use lent::f64s_at;
 use roots::Roots;
 
 // Each reply in turn.
@@ -82,7 +82,7 @@ pub extern "C" fn inquire(coeffs: &[u8], tol: f64, replies: &[u8], out: &mut [u8
         return 0;
     }
     let n = coeffs.len() / 8;
-    let list = f64s_at(coeffs, n);
+    let list = f64s_at(coeffs, 0, n);
     let s = inquiry::start(&list[..n], tol);
     let p = fed(s.inquiry, replies);
     answer(out, s.number, &inquiry_numbers(p))

@@ -3,28 +3,15 @@
 // where those lent are too few: nothing is stored then.
 ghost use mathlib.Core.Path.{_≡_};
 ghost use mathlib.Core.Bool.{false};
-ghost use Prim.Native.Nat.{_*_, _/_, _≤_};
-ghost use lib.ListN.{length, take};
+ghost use Prim.Native.Nat.{_/_, _≤_};
+ghost use lib.ListN.{length};
 ghost use lib.Seq.{sets};
 ghost use Rattle.roots.specs.Listed.{Fits};
-ghost use Rattle.exports.specs.Bytes.{whole, f64sAt};
+ghost use Rattle.lent.specs.Bytes.{whole};
 ghost use Rattle.exports.specs.Lists.{rootNumbers, notDoubles, listBytes, listSays};
-use crate::bytes::answer;
+use lent::answer;
+use lent::f64s_at;
 use roots::Roots;
-
-// The first k doubles, at the start of an array of 32.
-pub fn f64s_at(s: &[u8], k: usize) -> [f64; 32]
-    requires { ⌜ (k ≤ 32) × (8 * k ≤ length (now s)) ⌝ }
-    ensures { λ r. ⌜ take k r ≡ f64sAt k (now (s .entry)) 0 ⌝ }
-{
-    let mut out = [0.0; 32];
-    let mut i = 0;
-    while i < k {
-        out[i] = float::f64_at(s, 8 * i);
-        i += 1;
-    }
-    out
-}
 
 pub fn root_numbers(s: Roots) -> [f64; 9]
     requires { ⌜ Fits s ⌝ }
@@ -68,7 +55,7 @@ pub extern "C" fn real_roots(coeffs: &[u8], tol: f64, out: &mut [u8]) -> u64
         return 0;
     }
     let n = coeffs.len() / 8;
-    let list = f64s_at(coeffs, n);
+    let list = f64s_at(coeffs, 0, n);
     let a = poly::real_roots(&list[..n], tol);
     answer(out, a.number, &root_numbers(a.roots))
 }

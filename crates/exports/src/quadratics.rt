@@ -6,7 +6,7 @@ ghost use lib.Ieee.{nan};
 ghost use Rattle.equation.specs.Quadratic.{numberOf, valuesOf, shiftedOf, touchingAtOf, quadraticCentreOf, solveQuadraticOf, quadraticOf};
 ghost use Rattle.equation.specs.Crank.{crankFrontOf};
 ghost use Rattle.exports.specs.Quadratics.{solutionOf};
-ghost use Rattle.exports.specs.Total.{upTo};
+ghost use Rattle.lent.specs.Numbers.{upTo};
 
 // The refusal's number, 0 where it is answered.
 #[no_mangle]

@@ -9,16 +9,17 @@ use Rattle.float.specs.Bytes.{f64At}
 use Rattle.poly.specs.declared.Answer.{Answer}
 use Rattle.equation.specs.declared.QuadraticAnswer.{QuadraticAnswer}
 use Rattle.crank.specs.declared.CrankAnswer.{CrankAnswer}
+use Rattle.lent.specs.Bytes.{f64sAt}
+use Rattle.lent.proofs.Doubles.{f64s-length}
 use Rattle.hall.specs.declared.records.Kind.{Kind}
 use Rattle.hall.specs.declared.records.Kind.the-variants.{Polynomial, Quadratic, Crank, Unknown}
 use Rattle.hall.specs.declared.records.Record.{Record}
 use Rattle.hall.specs.Records.{countAt}
-use Rattle.hall.specs.Answers.{f64sAt, polynomialAt, quadraticAt, crankAt}
+use Rattle.hall.specs.Answers.{polynomialAt, quadraticAt, crankAt}
 use Rattle.hall.specs.Lines.{polynomialText, quadraticText, crankText, answerText, wordsOf}
 use Rattle.hall.specs.Printable.{Printable}
 use Rattle.hall.proofs.Texts.{or-length, polynomial-length, quadratic-length, crank-length}
 use Rattle.hall.proofs.Answers.{ListShort, list-short, quadratic-short, CrankShort, crank-short}
-use Rattle.hall.proofs.Doubles.{f64s-length}
 
 module _ (s : List ℕ) (at : ℕ) where
   polynomial-at-short : ListShort (f64sAt (countAt s at) s (at + 11)) (polynomialAt s at)

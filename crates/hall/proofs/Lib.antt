@@ -2,7 +2,6 @@
 mod Texts
 mod Places
 mod Answers
-mod Doubles
 mod Asked
 mod Reading
 pub mod Bound

@@ -8,9 +8,10 @@ use Rattle.text.specs.Digits.{decimalWithin, decimal}
 use Rattle.poly.specs.Coefficients.{allFiniteOf, trimmedFrom, trimmedOf, refusalBy}
 use Rattle.poly.specs.Solve.{solveOf}
 use Rattle.poly.specs.RealRoots.{unscaledAll, answerOf, realRootsOf}
+use Rattle.lent.specs.Bytes.{f64sAt}
 use Rattle.hall.specs.Words.{pl, qd, tg, unknown, refused}
 use Rattle.hall.specs.Records.{isMark, kindAt, heldOf, polynomialRecord, recordOf, recordAt}
-use Rattle.hall.specs.Answers.{f64sAt, polynomialAt}
+use Rattle.hall.specs.Answers.{polynomialAt}
 use Rattle.hall.specs.Lines.{refusedText, polynomialText, markOf, answerText, wordsOf, lineOf}
 use Rattle.hall.specs.File.{linesFrom, listing}
 

@@ -1,8 +1,8 @@
 -- The solver's answers to the numbers of a record that stands whole. Definitions only.
-use mathlib.Core.List.{List, [], _∷_}
-use Prim.Native.Nat.{ℕ, zero, suc, _+_}
-use lib.Ieee.{Float}
+use mathlib.Core.List.{List}
+use Prim.Native.Nat.{ℕ, _+_}
 use Rattle.float.specs.Bytes.{f64At}
+use Rattle.lent.specs.Bytes.{f64sAt}
 use Rattle.poly.specs.declared.Answer.{Answer}
 use Rattle.equation.specs.declared.QuadraticAnswer.{QuadraticAnswer}
 use Rattle.crank.specs.declared.CrankAnswer.{CrankAnswer}
@@ -10,11 +10,6 @@ use Rattle.poly.specs.RealRoots.{realRootsOf}
 use Rattle.equation.specs.Quadratic.{quadraticOf}
 use Rattle.crank.specs.Crank.{crankOf}
 use Rattle.hall.specs.Records.{countAt}
-
--- the k doubles from at on
-unfoldable pub f64sAt : ℕ → List ℕ → ℕ → List Float
-f64sAt zero s at = []
-f64sAt (suc k) s at = f64At s at ∷ f64sAt k s (at + 8)
 
 -- 'PL: count byte, tolerance, that many coefficients'
 unfoldable pub polynomialAt : List ℕ → ℕ → Answer

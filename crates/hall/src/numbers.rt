@@ -1,28 +1,13 @@
 // What the solver answers to the numbers of a record that stands whole.
 ghost use mathlib.Core.Path.{_≡_};
-ghost use Prim.Native.Nat.{_+_, _*_, _≤_};
-ghost use lib.ListN.{length, take};
 ghost use Rattle.hall.specs.Records.{Whole};
-ghost use Rattle.hall.specs.Answers.{f64sAt, polynomialAt, quadraticAt, crankAt};
+ghost use Rattle.hall.specs.Answers.{polynomialAt, quadraticAt, crankAt};
 ghost use Rattle.hall.specs.declared.records.Kind.the-variants.{Polynomial, Quadratic, Crank};
 use crank::CrankAnswer;
 use equation::QuadraticAnswer;
 use float::f64_at;
+use lent::f64s_at;
 use poly::Answer;
-
-// The k doubles from at on, at the start of an array of 32.
-fn f64s_at(s: &[u8], at: usize, k: usize) -> [f64; 32]
-    requires { ⌜ (k ≤ 32) × (at + 8 * k ≤ length (now s)) ⌝ }
-    ensures { λ r. ⌜ take k r ≡ f64sAt k (now (s .entry)) at ⌝ }
-{
-    let mut out = [0.0; 32];
-    let mut i = 0;
-    while i < k {
-        out[i] = f64_at(s, at + 8 * i);
-        i += 1;
-    }
-    out
-}
 
 pub fn polynomial_at(s: &[u8], at: usize) -> Answer
     requires { ⌜ Whole Polynomial (now s) at ⌝ }

@@ -6,7 +6,7 @@ use Rattle.roots.specs.declared.Roots.{Roots}
 use Rattle.roots.specs.Roots.{listOf, rootsOf}
 use Rattle.finish.specs.Finish.{finishOf}
 use Rattle.exports.specs.Clustering.{candidatesAt, rootNumbers}
-use Rattle.exports.proofs.Whole.{nothing, stored-as}
+use Rattle.lent.proofs.Whole.{nothing, stored-as}
 use Rattle.exports.proofs.Polynomials.{accepted, holding, refused-bytes, lacking-bytes, held-bytes, finish-counts}
 use borrow.Author.Needs.{needs}
 use Rattle.exports.proofs.clustering.finish.Statement.{statement}

@@ -3,7 +3,7 @@
 use mathlib.Core.Path.{_≡_, ap, _∙_}
 use Rattle.band.specs.Quadratic.{pushQuadraticIn}
 use Rattle.exports.specs.Clustering.{candidatesAt, pairsAt, foundNumbers}
-use Rattle.exports.proofs.Whole.{nothing, stored-as}
+use Rattle.lent.proofs.Whole.{nothing, stored-as}
 use Rattle.exports.proofs.Polynomials.{accepted, holding, refused-bytes, lacking-bytes, held-bytes, quadratic-counts}
 use borrow.Author.Needs.{needs}
 use Rattle.exports.proofs.clustering.push_quadratic.Statement.{statement}

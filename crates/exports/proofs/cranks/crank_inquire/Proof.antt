@@ -4,7 +4,7 @@ use borrow.Author.Needs.{needs}
 use mathlib.Core.Path.{ap, _∙_}
 use Rattle.crank.specs.declared.CrankStarted.{CrankStarted}
 use Rattle.exports.specs.Cranks.{crankNumbers, shownAfter}
-use Rattle.exports.proofs.Whole.{answered-as}
+use Rattle.lent.proofs.Whole.{answered-as}
 use Rattle.exports.proofs.cranks.crank_inquire.Statement.{statement}
 use Rattle.exports.proofs.cranks.crank_inquire.Tie as tie
 

@@ -5,7 +5,7 @@ use mathlib.Core.Path.{ap, subst⁻¹, _∙_}
 use mathlib.Core.List.{_∷_}
 use Rattle.roots.specs.Listed.{Fits}
 use Rattle.crank.specs.declared.CrankAsked.{CrankAsked}
-use Rattle.exports.specs.Scaling.{number}
+use Rattle.lent.specs.Numbers.{number}
 use Rattle.exports.specs.Inquiries.{shownNumbers}
 use Rattle.exports.specs.Cranks.{crankNumbers}
 use Rattle.exports.proofs.Crank.{crank-fits, crank-is}

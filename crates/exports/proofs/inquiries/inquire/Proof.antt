@@ -11,7 +11,7 @@ use lib.Ieee.{Float}
 use Rattle.inquiry.specs.declared.Started.{Started}
 use Rattle.inquiry.specs.Start.{startOf}
 use Rattle.exports.specs.Inquiries.{fedAll, inquiryNumbers, startAt}
-use Rattle.exports.proofs.Whole.{answered-as}
+use Rattle.lent.proofs.Whole.{answered-as}
 use Rattle.exports.proofs.Listing.{no-doubles, of-doubles}
 use Rattle.exports.proofs.inquiries.inquire.Statement.{statement}
 use Rattle.exports.proofs.inquiries.inquire.Tie as tie

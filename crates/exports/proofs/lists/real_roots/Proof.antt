@@ -11,9 +11,10 @@ use lib.Ieee.{Float}
 use Rattle.roots.specs.Listed.{Fits}
 use Rattle.poly.specs.declared.Answer.{Answer}
 use Rattle.poly.specs.RealRoots.{realRootsOf}
+use Rattle.poly.proofs.Sums.{answer-fits}
 use Rattle.exports.specs.Lists.{rootNumbers, answerAt}
-use Rattle.exports.proofs.Whole.{answered-as}
-use Rattle.exports.proofs.Listing.{list-fits, no-doubles, of-doubles}
+use Rattle.lent.proofs.Whole.{answered-as}
+use Rattle.exports.proofs.Listing.{no-doubles, of-doubles}
 use Rattle.exports.proofs.lists.real_roots.Statement.{statement}
 use Rattle.exports.proofs.lists.real_roots.Tie as tie
 
@@ -45,7 +46,7 @@ real-roots-requires : tie.Need-real-roots-requires
 real-roots-requires c κs = search needs
 
 root-numbers-requires : tie.Need-root-numbers-requires
-root-numbers-requires c κs = subst⁻¹ (λ (a : Answer). Fits (a .roots)) (c .before .real-roots .ensures) (list-fits _ _)
+root-numbers-requires c κs = subst⁻¹ (λ (a : Answer). Fits (a .roots)) (c .before .real-roots .ensures) (answer-fits _ _)
 
 slice-aggregate-answer : tie.Need-slice-aggregate-answer
 slice-aggregate-answer c = search needs

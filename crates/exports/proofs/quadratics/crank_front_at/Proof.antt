@@ -5,7 +5,7 @@ use mathlib.Core.Path.{ap, _∙_}
 use lib.ListN.{getD}
 use lib.Ieee.{ofBits, div, nan}
 use Rattle.equation.specs.declared.Crank.{Crank}
-use Rattle.exports.proofs.Total.{beyond, within}
+use Rattle.lent.proofs.Numbers.{beyond, within}
 use Rattle.exports.proofs.quadratics.crank_front_at.Statement.{statement}
 use Rattle.exports.proofs.quadratics.crank_front_at.Tie as tie
 

@@ -7,8 +7,9 @@ use lib.ListN.{length}
 use lib.Seq.{length-take-le}
 use lib.Ieee.{Float}
 use Rattle.poly.specs.RealRoots.{realRootsOf}
+use Rattle.lent.specs.Bytes.{f64sAt}
 use Rattle.hall.specs.Records.{countAt}
-use Rattle.hall.specs.Answers.{f64sAt, polynomialAt}
+use Rattle.hall.specs.Answers.{polynomialAt}
 use borrow.Author.Needs.{needs}
 use Rattle.hall.proofs.numbers.polynomial_at.Statement.{statement}
 use Rattle.hall.proofs.numbers.polynomial_at.Tie as tie

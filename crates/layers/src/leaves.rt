@@ -1,0 +1,101 @@
+// The leaves: scaling, exponent, roots, logarithm, third angle.
+ghost use mathlib.Core.Path.{_≡_};
+ghost use lib.ListN.{length};
+ghost use lib.Seq.{sets};
+ghost use Rattle.scale.specs.Scale.{ldexpOf};
+ghost use Rattle.decode.specs.Exponent.{exponentOf};
+ghost use Rattle.log2.specs.Log.{log2GridOf};
+ghost use Rattle.sqrt.specs.Root.{sqrtOf};
+ghost use Rattle.cbrt.specs.Root.{cbrtOf};
+ghost use Rattle.angle.specs.Third.{thirdAngleOf};
+ghost use Rattle.lent.specs.Bytes.{whole};
+ghost use Rattle.layers.specs.Leaves.{thirdAngleBytes, log2FiveBytes};
+ghost use Rattle.layers.specs.Total.{pow2OrNan};
+use lent::five_at;
+use lent::store;
+
+#[no_mangle]
+pub extern "C" fn leaf_ldexp(x: f64, k: i32) -> f64
+    ensures { λ r. ⌜ r ≡ ldexpOf x k ⌝ }
+{
+    scale::ldexp(x, k)
+}
+
+#[no_mangle]
+pub extern "C" fn leaf_pow2(k: i32) -> f64
+    ensures { λ r. ⌜ r ≡ pow2OrNan k ⌝ }
+{
+    if k < -1022 {
+        return 0.0 / 0.0;
+    }
+    if 1023 < k {
+        return 0.0 / 0.0;
+    }
+    scale::pow2(k)
+}
+
+#[no_mangle]
+pub extern "C" fn leaf_exponent(x: f64) -> i32
+    ensures { λ r. ⌜ r ≡ exponentOf x ⌝ }
+{
+    decode::exponent(x)
+}
+
+#[no_mangle]
+pub extern "C" fn leaf_sqrt(x: f64) -> f64
+    ensures { λ r. ⌜ r ≡ sqrtOf x ⌝ }
+{
+    sqrt::sqrt(x)
+}
+
+#[no_mangle]
+pub extern "C" fn leaf_cbrt(x: f64) -> f64
+    ensures { λ r. ⌜ r ≡ cbrtOf x ⌝ }
+{
+    cbrt::cbrt(x)
+}
+
+#[no_mangle]
+pub extern "C" fn leaf_log2(x: f64) -> f64
+    ensures { λ r. ⌜ r ≡ log2GridOf x ⌝ }
+{
+    log2::log2_grid(x)
+}
+
+#[no_mangle]
+pub extern "C" fn leaf_third_cos(v: f64) -> f64
+    ensures { λ r. ⌜ r ≡ thirdAngleOf v .cos ⌝ }
+{
+    let t = angle::third_angle(v);
+    t.cos
+}
+
+#[no_mangle]
+pub extern "C" fn leaf_third_sin(v: f64) -> f64
+    ensures { λ r. ⌜ r ≡ thirdAngleOf v .sin ⌝ }
+{
+    let t = angle::third_angle(v);
+    t.sin
+}
+
+// c and s into 16 bytes; how many bytes are stored.
+#[no_mangle]
+pub extern "C" fn leaf_third_angle(v: f64, out: &mut [u8]) -> u64
+    ensures { λ r. ⌜ r ≡ length (whole (thirdAngleBytes v) (length (now (out .entry)))) ⌝ }
+    ensures { λ _. ⌜ now (out .exit) ≡ sets (now (out .entry)) 0 (whole (thirdAngleBytes v) (length (now (out .entry)))) ⌝ }
+{
+    let t = angle::third_angle(v);
+    store(out, &[t.cos, t.sin])
+}
+
+// L of five doubles in 40 bytes, into 40 bytes; how many bytes are stored.
+#[no_mangle]
+pub extern "C" fn leaf_log2_five(a: &[u8], out: &mut [u8]) -> u64
+    ensures { λ r. ⌜ r ≡ length (whole (log2FiveBytes (now (a .entry))) (length (now (out .entry)))) ⌝ }
+    ensures { λ _. ⌜ now (out .exit) ≡ sets (now (out .entry)) 0 (whole (log2FiveBytes (now (a .entry))) (length (now (out .entry)))) ⌝ }
+{
+    if a.len() < 40 {
+        return 0;
+    }
+    store(out, &log2::log2_five(five_at(a)))
+}

@@ -1,0 +1,4 @@
+-- What the proofs of several functions, and callers' proofs, use.
+pub mod Doubles
+pub mod Whole
+pub mod Numbers

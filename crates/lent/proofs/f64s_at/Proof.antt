@@ -1,0 +1,74 @@
+-- `lent::f64s_at` meets its contract: after i turns the first i elements are the first i doubles.
+-- Assumes nothing.
+use native.Mathlib.Omega.{arith}
+use mathlib.Core.Path.{_≡_, refl, subst, _∙_}
+use Prim.Native.Nat.{ℕ, _<_, _≤_, _-_}
+use lib.ListN.{length, take, length-set}
+use Rattle.lent.specs.Bytes.{f64sAt}
+use Rattle.lent.proofs.Doubles.{f64s-none, f64s-next}
+use Rattle.lent.proofs.f64s_at.Statement.{statement}
+use Rattle.lent.proofs.f64s_at.Tie as tie
+
+abbrev Inv-loop : tie.InvT-loop
+Inv-loop s at k out₀ i₀ out i = (i ≤ k) × (length out ≡ 32) × (take i out ≡ f64sAt i s at)
+
+abbrev μ-loop : tie.MeasureT-loop
+μ-loop s at k out₀ i₀ out i = k - i
+
+loop-holds : tie.Need-loop-holds Inv-loop μ-loop
+loop-holds c = (omega arith, refl, f64s-none (c .before .args .s .now) (c .before .args .at))
+
+mul-f64-at : tie.Need-mul-f64-at Inv-loop μ-loop
+mul-f64-at c = omega arith
+
+add-f64-at : tie.Need-add-f64-at Inv-loop μ-loop
+add-f64-at c = omega arith
+
+f64-at-requires : tie.Need-f64-at-requires Inv-loop μ-loop
+f64-at-requires c κs = omega arith
+
+mul-out : tie.Need-mul-out Inv-loop μ-loop
+mul-out c = omega arith
+
+array-write-out : tie.Need-array-write-out Inv-loop μ-loop
+array-write-out c = omega arith
+
+add-i : tie.Need-add-i Inv-loop μ-loop
+add-i c = omega arith
+
+loop-less : tie.Need-loop-less Inv-loop μ-loop
+loop-less c = omega arith
+
+loop-again : tie.Need-loop-again Inv-loop μ-loop
+loop-again c =
+    let at-loop = c .before .before in
+    let start = at-loop .before .before in
+    let inv = at-loop .loop .inv in
+    let h : at-loop .loop .i < length (at-loop .loop .out) = omega arith in (
+      omega arith,
+      length-set (at-loop .loop .out) (at-loop .loop .i) (c .f64-at .result) ∙ inv .1,
+      f64s-next (at-loop .loop .out) (at-loop .loop .i) (start .args .s .now) (start .args .at) (c .f64-at .result) h (inv .2) (c .f64-at .ensures),
+    )
+
+returns : tie.Need-returns Inv-loop μ-loop
+returns c =
+    let start = c .before .before .before in
+    let e : c .before .loop .i ≡ start .args .k = omega arith in
+    subst (λ (n : ℕ). take n (c .before .loop .out) ≡ f64sAt n (start .args .s .now) (start .args .at)) e (c .before .loop .inv .2)
+
+pub f64s-at-spec : {M : Type 1} → statement M
+f64s-at-spec =
+    tie.close
+    (tie.spec
+    Inv-loop
+    μ-loop
+    loop-holds
+    mul-f64-at
+    add-f64-at
+    f64-at-requires
+    mul-out
+    array-write-out
+    add-i
+    loop-less
+    loop-again
+    returns)
