@@ -1,12 +1,12 @@
--- `hallroots::read_file` is safe and ends: what was read lies in the buffer, and each turn reads a byte at least.
+-- `hallio::read_file` is safe and ends: what was read lies in the buffer, and each turn reads a byte at least.
 -- Assumes nothing.
 use native.Mathlib.Omega.{arith}
 use mathlib.Core.Path.{_≡_, refl}
 use Prim.Native.Nat.{_-_, _≤_}
 use lib.ListN.{length}
 use borrow.Author.Needs.{needs}
-use Rattle.hallroots.proofs.read_file.Statement.{statement}
-use Rattle.hallroots.proofs.read_file.Tie as tie
+use Rattle.hallio.proofs.read_file.Statement.{statement}
+use Rattle.hallio.proofs.read_file.Tie as tie
 
 abbrev Inv-loop : tie.InvT-loop
 Inv-loop fd buf₀ done₀ buf done = (length buf ≡ length buf₀) × (done ≤ length buf)

@@ -1,0 +1,51 @@
+-- `hallio::list_fd` meets its contract: what was read lies in the buffer, and so does every listing (`listing-fits`).
+-- Assumes nothing.
+use Rattle.hall.proofs.Bound.{listing-fits}
+use Rattle.hall.specs.File.{listing}
+use Prim.Native.Nat.{ℕ, _≤_}
+use mathlib.Core.List.{List}
+use mathlib.Core.Path.{_≡_, sym}
+use native.Mathlib.Omega.{arith}
+use lib.ListN.{length}
+use lib.Seq.{length-take-le}
+use borrow.Author.Needs.{needs}
+use Rattle.io.specs.Counts.{Counts}
+use Rattle.hallio.proofs.list_fd.Statement.{statement}
+use Rattle.hallio.proofs.list_fd.Tie as tie
+
+counts : (n : ℕ) (s out : List ℕ) → n ≡ length (listing s) → length out ≡ 163860 → Counts n out
+counts n s out e k = let fits : n ≤ length out = omega (arith, listing-fits s) in (fits, sym (length-take-le n out fits))
+
+read-file-requires : tie.Need-read-file-requires
+read-file-requires c κs = search needs
+
+slice-reshare-prefix-list-file : tie.Need-slice-reshare-prefix-list-file
+slice-reshare-prefix-list-file c = search needs
+
+slice-aggregate-list-file : tie.Need-slice-aggregate-list-file
+slice-aggregate-list-file c =
+    let read = c .before .before .before .read-file in
+    sym (length-take-le (read .result .len) (read .last .1 .0) (read .ensures))
+
+list-file-requires : tie.Need-list-file-requires
+list-file-requires c κs = search needs
+
+same-length : tie.Need-same-length
+same-length c = search needs
+
+returns : tie.Need-returns
+returns c =
+    let listed = c .list-file in
+    let room : length (listed .last .1 .0) ≡ 163860 = search needs in
+    (c .before .before .before .before .before .read-file .ensures, (listed .ensures .0, (listed .ensures .1, counts (listed .result) _ (listed .last .1 .0) (listed .ensures .0) room)))
+
+pub list-fd-spec : {M : Type 1} → statement M
+list-fd-spec =
+    tie.close
+    (tie.spec
+    read-file-requires
+    slice-reshare-prefix-list-file
+    slice-aggregate-list-file
+    list-file-requires
+    same-length
+    returns)
