@@ -313,6 +313,45 @@ fn quadratics(_: &mut Random) -> Vec<Row> {
     Vec::new()
 }
 
+/// Full hall files, read, answered and printed, with lists of degree 2, 3 and 4, quadratics and
+/// cranks in turn and numbers from -1 to 1, at the tolerance 2^-30: the time for a record.
+#[cfg(geomcore)]
+fn full_files(r: &mut Random) -> Vec<Row> {
+    use crate::format::{MOST_BYTES, Record, file};
+    use crate::lister::{Untouched, listing};
+    const FILES: usize = 10;
+    const TURN: usize = 35 + 43 + 51 + 42 + 50;
+    let tol = 1.0 / (1u64 << 30) as f64;
+    let mut record = |n: usize| {
+        let mut numbers = || 2.0 * r.unit() - 1.0;
+        match n % 5 {
+            3 => {
+                let abc = std::array::from_fn(|_| numbers());
+                Record::Quadratic { confusion: tol, angular: tol, abc }
+            }
+            4 => Record::Crank { confusion: tol, terms: std::array::from_fn(|_| numbers()) },
+            d => Record::List { tolerance: tol, coeffs: (0..d + 3).map(|_| numbers()).collect() },
+        }
+    };
+    let records = 5 * (MOST_BYTES / TURN);
+    let full: Vec<Vec<u8>> =
+        (0..FILES).map(|_| file(&(0..records).map(&mut record).collect::<Vec<_>>())).collect();
+    let inputs: Vec<&[u8]> = full.iter().map(Vec::as_slice).collect();
+    let port = |bytes| port::list_file(bytes, &mut vec![0; 163_860]) as f64;
+    let rust = |bytes| listing(bytes, &Untouched).len() as f64;
+    let names = ("full file, a record", "a plain lister");
+    let mut row = row(names, Aim::Times(3.0), &inputs, port, rust);
+    row.port /= records as f64;
+    row.rust /= records as f64;
+    vec![row]
+}
+
+#[cfg(not(geomcore))]
+fn full_files(_: &mut Random) -> Vec<Row> {
+    println!("full files beside geomcore's answers: {}", reference::SKIPPED);
+    Vec::new()
+}
+
 fn verdict(row: &Row) -> String {
     let (value, most, unit) = match row.aim {
         Aim::Open => return String::new(),
@@ -326,8 +365,11 @@ fn verdict(row: &Row) -> String {
 /// Measures all of them and prints the table.
 pub fn run() {
     let mut r = Random::new(1);
-    let parts = [roots, angles, logarithms, scales, factors, lists, inquiries, quadratics, cranks]
-        .map(|part| part(&mut r));
+    let parts = [
+        roots, angles, logarithms, scales, factors, lists, inquiries, quadratics, cranks,
+        full_files,
+    ]
+    .map(|part| part(&mut r));
     println!("ns a value, best of {PASSES} passes over {VALUES} values, both in turns");
     println!(
         "{:20}{:>8}   {:18}{:>8}{:>8}   at most",

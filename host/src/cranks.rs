@@ -105,5 +105,5 @@ pub fn made(seed: u64, count: u64) -> Outcome {
 
 /// The long run; whether all were equal.
 pub fn run(count: u64, seed: u64) -> bool {
-    parts::run((count, seed), &KINDS, made)
+    parts::run(parts::RECORDS, (count, seed), &KINDS, made)
 }

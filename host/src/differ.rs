@@ -144,20 +144,20 @@ mod tests {
         assert_eq!(steps(f64::NEG_INFINITY, f64::INFINITY), 0xFFE0_0000_0000_0001);
     }
 
-    fn honest(bytes: &[u8], out: &mut [u8]) -> usize {
+    fn honest(bytes: &[u8], out: &mut [u8]) -> u64 {
         let listing = listing(bytes, &Reference);
         let kept = listing.len().min(out.len());
         out[..kept].copy_from_slice(&listing[..kept]);
-        listing.len()
+        listing.len() as u64
     }
 
     /// The same, with another last digit of a simple root at 2 that ends its line.
-    fn lying(bytes: &[u8], out: &mut [u8]) -> usize {
-        let len = honest(bytes, out);
+    fn lying(bytes: &[u8], out: &mut [u8]) -> u64 {
+        let len = honest(bytes, out) as usize;
         let text = String::from_utf8_lossy(&out[..len]);
         let text = text.replace("4000000000000000 1\n", "4000000000000003 1\n");
         out[..len].copy_from_slice(text.as_bytes());
-        len
+        len as u64
     }
 
     const TEXT: &str = "list 2^-30 2 -3 1\nlist 2^-30 -18 21 -8 1\nquad 2^-30 2^-30 1 -3 2\n";

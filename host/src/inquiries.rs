@@ -259,5 +259,5 @@ pub fn every_reply(seed: u64, count: u64) -> (u64, [u64; 7]) {
 
 /// The long run; whether all were equal.
 pub fn run(count: u64, seed: u64) -> bool {
-    parts::run((count, seed), &KINDS, made)
+    parts::run(parts::RECORDS, (count, seed), &KINDS, made)
 }

@@ -18,6 +18,8 @@ pub mod cranks;
 pub mod differ;
 pub mod doubt;
 pub mod exact;
+#[cfg(geomcore)]
+pub mod files;
 pub mod format;
 pub mod halls;
 pub mod hard;
@@ -35,7 +37,6 @@ pub mod people;
 pub mod plain;
 pub mod polynomials;
 pub mod port;
-pub mod ported;
 pub mod quadratics;
 pub mod random;
 pub mod reference;

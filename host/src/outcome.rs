@@ -2,6 +2,7 @@
 use crate::answer::Answer;
 use crate::met::{Counts, WAYS};
 use crate::tally::Tally;
+use std::cell::Cell;
 
 /// Ways in which the untouched Rust departs from the reference build.
 const DEPARTURES: [&str; 4] = ["in bits alone", "in count", "in multiplicity", "in questions"];
@@ -16,13 +17,16 @@ pub struct Outcome {
     pub met: Tally,
     pub ways: Counts,
     departed: Tally,
+    /// How many of the untouched Rust's answers were looked at.
+    beside: Cell<u64>,
 }
 
 impl Outcome {
     pub fn new(name: &'static str, cases: &[&'static str]) -> Outcome {
         let (met, departed) = (Tally::new(cases), Tally::new(&DEPARTURES));
         let ways = [0; WAYS.len()];
-        Outcome { name, inputs: 0, wrong: 0, shown: Vec::new(), met, ways, departed }
+        let (shown, beside) = (Vec::new(), Cell::new(0));
+        Outcome { name, inputs: 0, wrong: 0, shown, met, ways, departed, beside }
     }
 
     pub fn join(&mut self, other: Outcome) {
@@ -32,6 +36,7 @@ impl Outcome {
         self.shown.truncate(10);
         self.met.join(&other.met);
         self.departed.join(&other.departed);
+        self.beside.set(self.beside.get() + other.beside.get());
         for (all, more) in self.ways.iter_mut().zip(other.ways) {
             *all += more;
         }
@@ -48,6 +53,7 @@ impl Outcome {
     /// The untouched Rust's answer beside the reference build's, and whether its questions are the
     /// same.
     pub fn beside(&self, untouched: &Answer, wanted: &Answer, questions: bool) {
+        self.beside.set(self.beside.get() + 1);
         let other = !untouched.same(wanted);
         let count = other && untouched.len != wanted.len;
         let multiplicity =
@@ -63,14 +69,17 @@ impl Outcome {
     /// The lines that say it all.
     pub fn text(&self) -> String {
         let ways = WAYS.iter().zip(self.ways).map(|(way, n)| format!("{n} {way}"));
+        let departed = match self.beside.get() {
+            0 => String::new(),
+            _ => format!("\nthe untouched Rust departs: {}", self.departed.text()),
+        };
         format!(
-            "{} {}, {} differ\n{}\nthe reference build's ways: {}\nthe untouched Rust departs: {}",
+            "{} {}, {} differ\n{}\nthe reference build's ways: {}{departed}",
             self.inputs,
             self.name,
             self.wrong,
             self.met.text(),
             ways.collect::<Vec<_>>().join(", "),
-            self.departed.text(),
         )
     }
 }

@@ -1,15 +1,20 @@
-//! Long comparisons in parts of a million inputs, each with a seed of its own, on two threads.
+//! Long comparisons in parts, each with a seed of its own, on two threads.
 use crate::compare::say;
 use crate::outcome::Outcome;
 use std::sync::atomic::{AtomicU64, Ordering};
 use std::sync::mpsc;
 use std::thread;
 
-const PART: u64 = 1_000_000;
+/// As many records make a part.
+pub const RECORDS: u64 = 1_000_000;
 
 /// What `made` says of all parts; it takes a seed and how many inputs to make. Says how far it is.
-fn in_parts(count: u64, seed: u64, made: impl Fn(u64, u64) -> Outcome + Sync) -> Outcome {
-    let parts = count.div_ceil(PART);
+fn in_parts(
+    size: u64,
+    (count, seed): (u64, u64),
+    made: impl Fn(u64, u64) -> Outcome + Sync,
+) -> Outcome {
+    let parts = count.div_ceil(size);
     let next = AtomicU64::new(0);
     let (to, from) = mpsc::channel();
     thread::scope(|scope| {
@@ -21,7 +26,7 @@ fn in_parts(count: u64, seed: u64, made: impl Fn(u64, u64) -> Outcome + Sync) ->
                     if part >= parts {
                         break;
                     }
-                    let inputs = PART.min(count - part * PART);
+                    let inputs = size.min(count - part * size);
                     if to.send(made(seed.wrapping_add(part << 32), inputs)).is_err() {
                         break;
                     }
@@ -38,13 +43,14 @@ fn in_parts(count: u64, seed: u64, made: impl Fn(u64, u64) -> Outcome + Sync) ->
     })
 }
 
-/// The long run, and its lines; whether all were equal.
+/// The long run in parts of this size, and its lines; whether all were equal.
 pub fn run(
+    size: u64,
     (count, seed): (u64, u64),
     kinds: &[&str],
     made: impl Fn(u64, u64) -> Outcome + Sync,
 ) -> bool {
-    let outcome = in_parts(count, seed, made);
+    let outcome = in_parts(size, (count, seed), made);
     for line in &outcome.shown {
         say(line);
     }

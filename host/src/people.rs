@@ -3,7 +3,7 @@ pub mod progress;
 
 use crate::format::{self, MOST_BYTES, text};
 use crate::halls::{damage, records};
-use crate::ported;
+use crate::port;
 use crate::random::Random;
 use crate::show::table;
 use std::fs;
@@ -104,7 +104,7 @@ fn make() -> Outcome {
 
 fn show(file: &str) -> Outcome {
     let bytes = bytes_of(file)?;
-    match table(&bytes, ported::list_file) {
+    match table(&bytes, port::list_file) {
         Ok(text) => emit(text.as_bytes()).map(|()| ExitCode::SUCCESS),
         Err(e) => failed(format!("{file}: {e}")),
     }
@@ -133,7 +133,7 @@ fn random(count: &str, seed: &str, damaged: bool) -> Outcome {
 fn compare(file: &str, as_rows: bool) -> Outcome {
     use crate::differ::{HEAD, report};
     let bytes = bytes_of(file)?;
-    let found = report(&bytes, ported::list_file, as_rows)
+    let found = report(&bytes, port::list_file, as_rows)
         .or_else(|e| failed(format!("{file}: by the port: {e}")))?;
     if as_rows {
         emit(HEAD.as_bytes())?;

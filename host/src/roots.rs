@@ -150,5 +150,5 @@ pub fn every_short_list(over: &[f64], tols: [f64; 2]) -> Outcome {
 
 /// The long run; whether all were equal.
 pub fn run(count: u64, seed: u64) -> bool {
-    parts::run((count, seed), &KINDS, made)
+    parts::run(parts::RECORDS, (count, seed), &KINDS, made)
 }

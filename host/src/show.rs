@@ -7,12 +7,12 @@ use crate::lister::{Answer, Line, Solution, lines};
 
 /// How a lister is called: the bytes of a file, and a buffer for the listing; its whole length comes
 /// back, and what the buffer cannot hold is left out.
-pub type ListFile = fn(&[u8], &mut [u8]) -> usize;
+pub type ListFile = fn(&[u8], &mut [u8]) -> u64;
 
 /// The whole listing that a lister writes.
 pub fn whole_listing(bytes: &[u8], list_file: ListFile) -> Vec<u8> {
     let mut out = vec![0; 1 << 18];
-    let len = list_file(bytes, &mut out);
+    let len = list_file(bytes, &mut out) as usize;
     if len > out.len() {
         out.resize(len, 0);
         list_file(bytes, &mut out);
@@ -224,10 +224,10 @@ mod tests {
 
     #[test]
     fn listings_that_do_not_fit_the_file() {
-        fn lie(_: &[u8], out: &mut [u8]) -> usize {
+        fn lie(_: &[u8], out: &mut [u8]) -> u64 {
             let line = b"1 PL ok 0\n";
             out[..line.len()].copy_from_slice(line);
-            line.len()
+            line.len() as u64
         }
         assert!(answered(b"PL\0\0\0\0\0\0\0\0\0", lie).is_ok());
         assert!(answered(b"", lie).is_err());

@@ -31,6 +31,8 @@ fn words_not_known() {
         (&["lists", "5"], "a word is missing after `hall lists 5`"),
         (&["lists", "five", "1"], "`five` is no number"),
         (&["cranks", "5"], "a word is missing after `hall cranks 5`"),
+        (&["files", "5"], "a word is missing after `hall files 5`"),
+        (&["damage", "ten", "1"], "`ten` is no number"),
         (&[], "a word is missing after `hall`"),
     ];
     for (words, line) in said {

@@ -44,7 +44,7 @@ fn made(text: &str) -> Vec<u8> {
 fn help_names_every_command() {
     let out = hall(&["--help"], b"");
     let help = text(&out.stdout);
-    for command in ["make", "show", "compare", "random", "stored files"] {
+    for command in ["make", "show", "compare", "random", "stored files", "files", "damage"] {
         assert!(help.contains(&format!("hall {command}")), "{command}");
     }
 }
@@ -138,6 +138,19 @@ fn faults_are_named() {
         assert_eq!((out.status.code(), &out.stdout[..]), (Some(status), &b""[..]), "{words:?}");
         assert!(text(&out.stderr).contains(message), "{words:?}: {}", text(&out.stderr));
     }
+}
+
+#[test]
+fn long_runs() {
+    let said = |words: &[&str]| {
+        let out = hall(words, b"");
+        assert_eq!(out.status.code(), Some(0), "{out:?}");
+        text(&out.stdout)
+    };
+    assert!(said(&["files", "2000", "1"]).contains("2000 files, 0 differ"));
+    // in no time, the stored files alone, on two threads
+    let all = 2 * host::stored_files::files().len();
+    assert!(said(&["damage", "0", "1"]).contains(&format!("{all} files, 0 differ")));
 }
 
 #[test]

@@ -8,6 +8,8 @@ hall bench                how long a call of each proved function takes, beside 
 hall lists COUNT SEED     compare COUNT made lists with geomcore's Rust, on two threads
 hall inquiries COUNT SEED the same for inquiries: always no, always yes, and by a hash
 hall cranks COUNT SEED    the same for crank equations
+hall files COUNT SEED     the same for whole hall files, every other one damaged
+hall damage MINUTES SEED  damage stored and made files, those again that met something new
 hall stored leaves DIR    write inputs of the leaves to DIR/data/leaves, and the exact
                           answers to DIR/stdout: what the crate leafcases reads and prints
 hall --help               this page
@@ -19,7 +21,7 @@ fn main() -> ExitCode {
     match words[..] {
         ["--help" | "-h" | "help"] => print!("{}{HELP}", people::HELP),
         ["bench"] => bench::run(),
-        [what @ ("lists" | "inquiries" | "cranks"), count, seed] => {
+        [what @ ("lists" | "inquiries" | "cranks" | "files" | "damage"), count, seed] => {
             return compare(what, count, seed);
         }
         ["stored", "leaves", dir] => return store_leaves(Path::new(dir)),
@@ -46,6 +48,8 @@ fn long_run(what: &str, count: u64, seed: u64) -> bool {
     match what {
         "lists" => host::roots::run(count, seed),
         "inquiries" => host::inquiries::run(count, seed),
+        "files" => host::files::run(count, seed),
+        "damage" => host::files::damaged::run(count, seed),
         _ => host::cranks::run(count, seed),
     }
 }
@@ -73,15 +77,17 @@ fn store_leaves(dir: &Path) -> ExitCode {
 fn refuse(words: &[&str]) -> ExitCode {
     let fits = |form: &[&str]| {
         let same = |(word, wanted): &(&&str, &&str)| {
-            word == wanted || ["DIR", "FILE", "COUNT", "N", "SEED"].contains(wanted)
+            word == wanted || ["DIR", "FILE", "COUNT", "MINUTES", "N", "SEED"].contains(wanted)
         };
         words.iter().zip(form).take_while(same).count()
     };
-    let forms: [&[&str]; 5] = [
+    let forms: [&[&str]; 7] = [
         &["bench"],
         &["lists", "COUNT", "SEED"],
         &["inquiries", "COUNT", "SEED"],
         &["cranks", "COUNT", "SEED"],
+        &["files", "COUNT", "SEED"],
+        &["damage", "MINUTES", "SEED"],
         &["stored", "leaves", "DIR"],
     ];
     let forms = forms.into_iter().chain(people::FORMS);
