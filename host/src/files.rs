@@ -8,6 +8,7 @@ use crate::outcome::Outcome;
 use crate::parts;
 use crate::port;
 use crate::random::Random;
+use crate::show::ListFile;
 use std::fmt::Write;
 
 pub mod damaged;
@@ -45,15 +46,16 @@ const ROOM: usize = 163_860 + UNTOUCHED.len();
 
 /// What was compared so far, and a buffer for the port's listing.
 struct Files {
+    port: ListFile,
     outcome: Outcome,
     before: Counts,
     out: Vec<u8>,
 }
 
 impl Files {
-    fn new() -> Files {
+    fn new(port: ListFile) -> Files {
         let outcome = Outcome::new("files", &CASES);
-        Files { outcome, before: met::counts(), out: vec![0; ROOM] }
+        Files { port, outcome, before: met::counts(), out: vec![0; ROOM] }
     }
 
     /// One file by both. `each` gets what it holds, the reference build's line for it, and the ways
@@ -70,7 +72,7 @@ impl Files {
         }
         let len = wanted.len();
         self.out[..len + UNTOUCHED.len()].fill(UNTOUCHED[0]);
-        let given = port::list_file(bytes, &mut self.out);
+        let given = (self.port)(bytes, &mut self.out);
         self.outcome.inputs += 1;
         let behind = &self.out[len..len + UNTOUCHED.len()];
         if given != len as u64 || self.out[..len] != *wanted.as_bytes() || behind != UNTOUCHED {
@@ -146,7 +148,7 @@ fn full_file(r: &mut Random) -> Vec<u8> {
 
 /// `count` made files, the kinds in turn.
 pub fn made(seed: u64, count: u64) -> Outcome {
-    let (mut r, mut files) = (Random::new(seed), Files::new());
+    let (mut r, mut files) = (Random::new(seed), Files::new(port::list_file));
     for n in 0..count {
         let bytes = match n % 512 {
             511 => full_file(&mut r),
@@ -163,4 +165,37 @@ const PART: u64 = 50_000;
 /// The long run; whether all were equal.
 pub fn run(count: u64, seed: u64) -> bool {
     parts::run(PART, (count, seed), &KINDS, made)
+}
+
+#[cfg(test)]
+mod tests {
+    use super::*;
+    use crate::stored_files::DOCUMENT;
+
+    fn said(port: ListFile) -> Vec<String> {
+        let records = text::read(DOCUMENT.as_bytes()).unwrap();
+        let mut files = Files::new(port);
+        files.add(&file(&records), |_, _, _| ());
+        files.outcome().shown
+    }
+
+    #[test]
+    fn wrong_listings_are_found() {
+        assert_eq!(said(port::list_file), [""; 0]);
+        let another_digit: ListFile = |bytes, out| {
+            let len = port::list_file(bytes, out);
+            out[61] += 1;
+            len
+        };
+        let wanted = "138 bytes, line 2: list 2^-30: port 2 PL refused 3, reference 2 PL refused 2";
+        assert_eq!(said(another_digit), [wanted]);
+        let shorter: ListFile = |bytes, out| port::list_file(bytes, out) - 1;
+        assert_eq!(said(shorter).len(), 1);
+        let a_byte_more: ListFile = |bytes, out| {
+            let len = port::list_file(bytes, out);
+            out[len as usize] = 0;
+            len
+        };
+        assert_eq!(said(a_byte_more).len(), 1);
+    }
 }

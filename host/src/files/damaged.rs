@@ -6,6 +6,7 @@ use crate::halls::{any_file, damage};
 use crate::lister::{Answer, Line};
 use crate::met::Counts;
 use crate::outcome::Outcome;
+use crate::port;
 use crate::random::Random;
 use crate::stored_files;
 use std::collections::HashSet;
@@ -42,7 +43,7 @@ fn met(line: &Line, ways: &Counts) -> u64 {
 impl Hunt {
     /// Begins with the stored files.
     pub fn new(seed: u64) -> Hunt {
-        let (r, files) = (Random::new(seed), Files::new());
+        let (r, files) = (Random::new(seed), Files::new(port::list_file));
         let mut hunt = Hunt { r, files, kept: Vec::new(), seen: HashSet::new() };
         for (_, bytes) in stored_files::files() {
             hunt.add(&bytes);
