@@ -2,6 +2,7 @@
 //! replies say.
 use crate::answer::{Answer, Root};
 use crate::compare::bits;
+use crate::lister::refusal;
 use crate::lists::{KINDS, handed_in, tolerance};
 use crate::met;
 use crate::outcome::Outcome;
@@ -9,7 +10,7 @@ use crate::parts;
 use crate::port::inquiries::{Shown, inquire};
 use crate::random::Random;
 use crate::reference::{patched, untouched};
-use crate::roots::{refusal, shown};
+use crate::roots::shown;
 use std::cell::RefCell;
 
 pub type Touches<'a> = &'a dyn Fn(f64) -> bool;
@@ -198,7 +199,7 @@ pub struct List<'a>(pub &'a [f64], pub f64);
 impl List<'_> {
     fn answer(&self, roots: impl Iterator<Item = Root>) -> (u64, Answer) {
         let roots: Vec<Root> = roots.collect();
-        (0, Answer::new(refusal(self.0), &roots))
+        (0, Answer::new(refusal(self.0).into(), &roots))
     }
 }
 

@@ -126,9 +126,9 @@ pub fn line(item: &Item, solver: &impl Solver) -> Line {
 /// The answer to a whole record, with the operation's own refusals.
 pub fn answer(record: &Record, solver: &impl Solver) -> Answer {
     match record {
-        Record::List { tolerance, coeffs } => match list_refusal(coeffs) {
-            Some(refusal) => Answer::Refused(refusal),
-            None => Answer::List(solver.list(coeffs, *tolerance)),
+        Record::List { tolerance, coeffs } => match refusal(coeffs) {
+            0 => Answer::List(solver.list(coeffs, *tolerance)),
+            number => Answer::Refused(number),
         },
         Record::Quadratic { confusion, angular, abc } => {
             if !finite(abc) {
@@ -163,13 +163,13 @@ pub fn trimmed(coeffs: &[f64]) -> usize {
     coeffs.iter().rposition(|c| *c != 0.0).map_or(0, |last| last + 1)
 }
 
-/// Under which number a list is refused.
-pub fn list_refusal(coeffs: &[f64]) -> Option<u8> {
+/// Under which number a list is refused, 0 where it is not.
+pub fn refusal(coeffs: &[f64]) -> u8 {
     match trimmed(coeffs) {
-        _ if !finite(coeffs) => Some(1),
-        0 | 1 => Some(2),
-        2..=5 => None,
-        _ => Some(3),
+        _ if !finite(coeffs) => 1,
+        0 | 1 => 2,
+        2..=5 => 0,
+        _ => 3,
     }
 }
 
@@ -319,11 +319,11 @@ mod tests {
 
     #[test]
     fn refusals_of_lists() {
-        assert_eq!(list_refusal(&[]), Some(2));
-        assert_eq!(list_refusal(&[7.0, -0.0]), Some(2));
-        assert_eq!(list_refusal(&[f64::NAN]), Some(1));
-        assert_eq!(list_refusal(&[0.0, 0.0, 0.0, 0.0, 0.0, f64::INFINITY]), Some(1));
-        assert_eq!(list_refusal(&[0.0, 0.0, 0.0, 0.0, 0.0, 1.0]), Some(3));
-        assert_eq!(list_refusal(&[1.0, 1.0, 1.0, 1.0, 1.0, 0.0, -0.0]), None);
+        assert_eq!(refusal(&[]), 2);
+        assert_eq!(refusal(&[7.0, -0.0]), 2);
+        assert_eq!(refusal(&[f64::NAN]), 1);
+        assert_eq!(refusal(&[0.0, 0.0, 0.0, 0.0, 0.0, f64::INFINITY]), 1);
+        assert_eq!(refusal(&[0.0, 0.0, 0.0, 0.0, 0.0, 1.0]), 3);
+        assert_eq!(refusal(&[1.0, 1.0, 1.0, 1.0, 1.0, 0.0, -0.0]), 0);
     }
 }

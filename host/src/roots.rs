@@ -1,6 +1,7 @@
 //! Whole lists: the answers of the port, of the reference build and of the untouched Rust, compared
 //! over made lists.
 use crate::answer::{Answer, Root};
+use crate::lister::refusal;
 use crate::lists::{KINDS, handed_in, tolerance};
 use crate::met;
 use crate::outcome::Outcome;
@@ -9,31 +10,20 @@ use crate::port;
 use crate::random::Random;
 use crate::reference::{patched, untouched};
 
-/// The number of the refusal by document 01, 0 where there is none.
-pub fn refusal(coeffs: &[f64]) -> u64 {
-    let trimmed = coeffs.iter().rposition(|c| *c != 0.0).map_or(0, |last| last + 1);
-    match trimmed {
-        _ if coeffs.iter().any(|c| !c.is_finite()) => 1,
-        0 | 1 => 2,
-        2..=5 => 0,
-        _ => 3,
-    }
-}
-
 /// The reference build's answer. A refused list is run too: the Rust's is empty then.
 pub fn reference(coeffs: &[f64], tol: f64) -> Answer {
     let list = patched::poly::real_roots(coeffs, tol);
     let roots: Vec<Root> = list.iter().map(|r| (r.value, r.multiplicity)).collect();
     let refusal = refusal(coeffs);
     assert!(refusal == 0 || roots.is_empty(), "the Rust lists roots of {coeffs:?}");
-    Answer::new(refusal, &roots)
+    Answer::new(refusal.into(), &roots)
 }
 
 /// The untouched Rust's.
 pub fn by_untouched(coeffs: &[f64], tol: f64) -> Answer {
     let list = untouched::poly::real_roots(coeffs, tol);
     let roots: Vec<Root> = list.iter().map(|r| (r.value, r.multiplicity)).collect();
-    Answer::new(refusal(coeffs), &roots)
+    Answer::new(refusal(coeffs).into(), &roots)
 }
 
 pub const CASES: [&str; 24] = [
