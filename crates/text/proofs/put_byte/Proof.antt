@@ -14,12 +14,6 @@ stored c =
     let a = c .before .args in
     ⊎-elim (λ w. w .1) (λ w. w .1 ∙ sym (set-out (a .out .now) (a .at) (a .b) (omega (arith, w .0 .left)))) (c .if1 .came)
 
-slice-write-out : tie.Need-slice-write-out
-slice-write-out c = search needs
-
-add-result : tie.Need-add-result
-add-result c = search needs
-
 same-length : tie.Need-same-length
 same-length c = ap length (stored c) ∙ simp length-set
 
@@ -27,4 +21,4 @@ returns : tie.Need-returns
 returns c = record { bytes = stored c; place = refl }
 
 pub put-byte-spec : {M : Type 1} → statement M
-put-byte-spec = tie.close (tie.spec slice-write-out add-result same-length returns)
+put-byte-spec = tie.close (tie.spec (λ c. search needs) (λ c. search needs) same-length returns)

@@ -87,16 +87,10 @@ cast-put-decimal-2 c = at-not-below (c .before) .cast
 put-decimal-requires-2 : tie.Need-put-decimal-requires-2
 put-decimal-requires-2 c κs = omega (arith, ap length (at-not-below (c .before) .says))
 
-same-length : tie.Need-same-length
-same-length c = search needs
-
 returns : tie.Need-returns
 returns c =
     let after = c .before .before .before .before .before .before in
     written-as (sym (at-below (after .before .before) .says)) (written-then (after .put-byte .ensures) (c .before .before .put-decimal .ensures))
-
-same-length-2 : tie.Need-same-length-2
-same-length-2 c = search needs
 
 returns-2 : tie.Need-returns-2
 returns-2 c = written-as (sym (at-not-below (c .before .before .before .before) .says)) (c .before .before .put-decimal2 .ensures)
@@ -112,7 +106,7 @@ put-signed-spec =
     put-decimal-requires
     cast-put-decimal-2
     put-decimal-requires-2
-    same-length
+    (λ c. search needs)
     returns
-    same-length-2
+    (λ c. search needs)
     returns-2)

@@ -12,36 +12,12 @@ use Rattle.leafcases.proofs.Answers.{sqrt-line, cbrt-line, third-line, 
 use Rattle.leafcases.proofs.lines.put_answer.Statement.{statement}
 use Rattle.leafcases.proofs.lines.put_answer.Tie as tie
 
-sqrt-requires : tie.Need-sqrt-requires
-sqrt-requires c κs = search needs
-
-slice-aggregate-put-line : tie.Need-slice-aggregate-put-line
-slice-aggregate-put-line c = search needs
-
-put-line-requires : tie.Need-put-line-requires
-put-line-requires c κs = search needs
-
-same-length : tie.Need-same-length
-same-length c = search needs
-
 returns : tie.Need-returns
 returns c =
     let leaf = c .before .before .before .before .before in
     let start = leaf .before .before .before in
     let put = c .before .before .put-line .ensures in
     (written-as (sqrt-line (start .args .letter) (start .args .x) (start .args .k) (leaf .sqrt .result) (leaf .before .if1 .taken) (leaf .sqrt .ensures)) (put .0), put .1)
-
-cbrt-requires : tie.Need-cbrt-requires
-cbrt-requires c κs = search needs
-
-slice-aggregate-put-line-2 : tie.Need-slice-aggregate-put-line-2
-slice-aggregate-put-line-2 c = search needs
-
-put-line-requires-2 : tie.Need-put-line-requires-2
-put-line-requires-2 c κs = search needs
-
-same-length-2 : tie.Need-same-length-2
-same-length-2 c = search needs
 
 returns-2 : tie.Need-returns-2
 returns-2 c =
@@ -50,36 +26,12 @@ returns-2 c =
     let put = c .before .before .put-line2 .ensures in
     (written-as (cbrt-line (start .args .letter) (start .args .x) (start .args .k) (leaf .cbrt .result) (leaf .before .if2 .taken) (leaf .cbrt .ensures)) (put .0), put .1)
 
-third-angle-requires : tie.Need-third-angle-requires
-third-angle-requires c κs = search needs
-
-slice-aggregate-put-line-3 : tie.Need-slice-aggregate-put-line-3
-slice-aggregate-put-line-3 c = search needs
-
-put-line-requires-3 : tie.Need-put-line-requires-3
-put-line-requires-3 c κs = search needs
-
-same-length-3 : tie.Need-same-length-3
-same-length-3 c = search needs
-
 returns-3 : tie.Need-returns-3
 returns-3 c =
     let leaf = c .before .before .before .before .before in
     let start = leaf .before .before .before .before .before in
     let put = c .before .before .put-line3 .ensures in
     (written-as (third-line (start .args .letter) (start .args .x) (start .args .k) (leaf .third-angle .result) (leaf .before .if3 .taken) (leaf .third-angle .ensures)) (put .0), put .1)
-
-log2-grid-requires : tie.Need-log2-grid-requires
-log2-grid-requires c κs = search needs
-
-slice-aggregate-put-line-4 : tie.Need-slice-aggregate-put-line-4
-slice-aggregate-put-line-4 c = search needs
-
-put-line-requires-4 : tie.Need-put-line-requires-4
-put-line-requires-4 c κs = search needs
-
-same-length-4 : tie.Need-same-length-4
-same-length-4 c = search needs
 
 returns-4 : tie.Need-returns-4
 returns-4 c =
@@ -88,18 +40,6 @@ returns-4 c =
     let put = c .before .before .put-line4 .ensures in
     (written-as (log2-line (start .args .letter) (start .args .x) (start .args .k) (leaf .log2-grid .result) (leaf .before .if4 .taken) (leaf .log2-grid .ensures)) (put .0), put .1)
 
-ldexp-requires : tie.Need-ldexp-requires
-ldexp-requires c κs = search needs
-
-slice-aggregate-put-line-5 : tie.Need-slice-aggregate-put-line-5
-slice-aggregate-put-line-5 c = search needs
-
-put-line-requires-5 : tie.Need-put-line-requires-5
-put-line-requires-5 c κs = search needs
-
-same-length-5 : tie.Need-same-length-5
-same-length-5 c = search needs
-
 returns-5 : tie.Need-returns-5
 returns-5 c =
     let leaf = c .before .before .before .before .before in
@@ -107,36 +47,12 @@ returns-5 c =
     let put = c .before .before .put-line5 .ensures in
     (written-as (ldexp-line (start .args .letter) (start .args .x) (start .args .k) _ (leaf .ldexp .result) (leaf .before .if5 .taken) (toZ-ofZ (start .fits .k)) (leaf .ldexp .ensures)) (put .0), put .1)
 
-exponent-requires : tie.Need-exponent-requires
-exponent-requires c κs = search needs
-
-slice-aggregate-put-line-6 : tie.Need-slice-aggregate-put-line-6
-slice-aggregate-put-line-6 c = search needs
-
-put-line-requires-6 : tie.Need-put-line-requires-6
-put-line-requires-6 c κs = search needs
-
-same-length-6 : tie.Need-same-length-6
-same-length-6 c = search needs
-
 returns-6 : tie.Need-returns-6
 returns-6 c =
     let leaf = c .before .before .before .before .before in
     let start = leaf .before .before .before .before .before .before .before .before in
     let put = c .before .before .put-line6 .ensures in
     (written-as (exponent-line (start .args .letter) (start .args .x) (start .args .k) _ (leaf .exponent .result) (leaf .before .if6 .taken) (toZ-ofZ (record { sfits = leaf .exponent .ok })) (leaf .exponent .ensures)) (put .0), put .1)
-
-leaf-pow2-requires : tie.Need-leaf-pow2-requires
-leaf-pow2-requires c κs = search needs
-
-slice-aggregate-put-line-7 : tie.Need-slice-aggregate-put-line-7
-slice-aggregate-put-line-7 c = search needs
-
-put-line-requires-7 : tie.Need-put-line-requires-7
-put-line-requires-7 c κs = search needs
-
-same-length-7 : tie.Need-same-length-7
-same-length-7 c = search needs
 
 returns-7 : tie.Need-returns-7
 returns-7 c =
@@ -156,39 +72,39 @@ pub put-answer-spec : {M : Type 1} → statement M
 put-answer-spec =
     tie.close
     (tie.spec
-    sqrt-requires
-    slice-aggregate-put-line
-    put-line-requires
-    same-length
+    (λ c κs. search needs)
+    (λ c. search needs)
+    (λ c κs. search needs)
+    (λ c. search needs)
     returns
-    cbrt-requires
-    slice-aggregate-put-line-2
-    put-line-requires-2
-    same-length-2
+    (λ c κs. search needs)
+    (λ c. search needs)
+    (λ c κs. search needs)
+    (λ c. search needs)
     returns-2
-    third-angle-requires
-    slice-aggregate-put-line-3
-    put-line-requires-3
-    same-length-3
+    (λ c κs. search needs)
+    (λ c. search needs)
+    (λ c κs. search needs)
+    (λ c. search needs)
     returns-3
-    log2-grid-requires
-    slice-aggregate-put-line-4
-    put-line-requires-4
-    same-length-4
+    (λ c κs. search needs)
+    (λ c. search needs)
+    (λ c κs. search needs)
+    (λ c. search needs)
     returns-4
-    ldexp-requires
-    slice-aggregate-put-line-5
-    put-line-requires-5
-    same-length-5
+    (λ c κs. search needs)
+    (λ c. search needs)
+    (λ c κs. search needs)
+    (λ c. search needs)
     returns-5
-    exponent-requires
-    slice-aggregate-put-line-6
-    put-line-requires-6
-    same-length-6
+    (λ c κs. search needs)
+    (λ c. search needs)
+    (λ c κs. search needs)
+    (λ c. search needs)
     returns-6
-    leaf-pow2-requires
-    slice-aggregate-put-line-7
-    put-line-requires-7
-    same-length-7
+    (λ c κs. search needs)
+    (λ c. search needs)
+    (λ c κs. search needs)
+    (λ c. search needs)
     returns-7
     returns-8)

@@ -22,9 +22,6 @@ put-word-requires-3 c κs = omega arith
 put-byte-requires : tie.Need-put-byte-requires
 put-byte-requires c κs = omega arith
 
-same-length : tie.Need-same-length
-same-length c = search needs
-
 returns : tie.Need-returns
 unfolding lineOf
 returns c =
@@ -48,5 +45,5 @@ put-line-spec =
     put-word-requires-2
     put-word-requires-3
     put-byte-requires
-    same-length
+    (λ c. search needs)
     returns)

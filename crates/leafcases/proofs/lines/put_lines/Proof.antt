@@ -33,9 +33,6 @@ loop-holds c = (sofar-none _ _, omega arith, omega arith)
 put-record-requires : tie.Need-put-record-requires Inv-loop μ-loop
 put-record-requires c κs = (omega arith, omega arith)
 
-slice-aggregate-put-bytes : tie.Need-slice-aggregate-put-bytes Inv-loop μ-loop
-slice-aggregate-put-bytes c = search needs
-
 put-bytes-requires : tie.Need-put-bytes-requires Inv-loop μ-loop
 put-bytes-requires c κs = omega arith
 
@@ -71,7 +68,7 @@ put-lines-spec =
     μ-loop
     loop-holds
     put-record-requires
-    slice-aggregate-put-bytes
+    (λ c. search needs)
     put-bytes-requires
     same-length
     returns

@@ -40,19 +40,10 @@ line-is c =
     ∙ ap (λ (x : Float). answerOf (getD s at 0) x (signed (eqb (getD s (at + 9) 0) 45) (sizeAt s at))) (sym (c .before .before .before .f64-at .ensures))
     ∙ ap (λ (z : ℤ). answerOf (getD s at 0) (c .before .before .before .f64-at .result) z) (sym k)
 
-sub-if1 : tie.Need-sub-if1
-sub-if1 c = search needs
-
 returns : tie.Need-returns
 returns c =
     let a = c .before .before .before .args in
     (written-as (sym (too-short (a .s .now) (a .at) (c .if1 .taken))) (written-none (a .out .now) (a .w)), omega arith)
-
-add-u64-at : tie.Need-add-u64-at
-add-u64-at c = search needs
-
-u64-at-requires : tie.Need-u64-at-requires
-u64-at-requires c κs = search needs
 
 returns-2 : tie.Need-returns-2
 returns-2 c =
@@ -60,15 +51,6 @@ returns-2 c =
     let a = size .before .before .before .before .args in
     let large : 2 ^ 31 - 1 < sizeAt (a .s .now) (a .at) = subst (λ (n : ℕ). 2 ^ 31 - 1 < n) (size-is size) (c .if2 .taken) in
     (written-as (sym (too-large (a .s .now) (a .at) (size .before .if1 .left) large)) (written-none (a .out .now) (a .w)), omega arith)
-
-add-sign : tie.Need-add-sign
-add-sign c = search needs
-
-shared-slice-read-sign : tie.Need-shared-slice-read-sign
-shared-slice-read-sign c = search needs
-
-is-sign-requires : tie.Need-is-sign-requires
-is-sign-requires c κs = search needs
 
 returns-3 : tie.Need-returns-3
 returns-3 c =
@@ -79,23 +61,8 @@ returns-3 c =
     let none = no-sign (a .s .now) (a .at) (size .before .if1 .left) small (sym (sign .is-sign .ensures) ∙ not-true (sign .is-sign .result) (c .if3 .taken)) in
     (written-as (sym none) (written-none (a .out .now) (a .w)), omega arith)
 
-add-f64-at : tie.Need-add-f64-at
-add-f64-at c = search needs
-
-f64-at-requires : tie.Need-f64-at-requires
-f64-at-requires c κs = search needs
-
-shared-slice-read-put-answer : tie.Need-shared-slice-read-put-answer
-shared-slice-read-put-answer c = search needs
-
-with-sign-requires : tie.Need-with-sign-requires
-with-sign-requires c κs = search needs
-
 put-answer-requires : tie.Need-put-answer-requires
 put-answer-requires c κs = omega arith
-
-same-length : tie.Need-same-length
-same-length c = search needs
 
 returns-4 : tie.Need-returns-4
 returns-4 c = (written-as (sym (line-is (c .before .before .before))) (c .before .before .put-answer .ensures .0), c .before .before .put-answer .ensures .1)
@@ -104,19 +71,19 @@ pub put-record-spec : {M : Type 1} → statement M
 put-record-spec =
     tie.close
     (tie.spec
-    sub-if1
+    (λ c. search needs)
     returns
-    add-u64-at
-    u64-at-requires
+    (λ c. search needs)
+    (λ c κs. search needs)
     returns-2
-    add-sign
-    shared-slice-read-sign
-    is-sign-requires
+    (λ c. search needs)
+    (λ c. search needs)
+    (λ c κs. search needs)
     returns-3
-    add-f64-at
-    f64-at-requires
-    shared-slice-read-put-answer
-    with-sign-requires
+    (λ c. search needs)
+    (λ c κs. search needs)
+    (λ c. search needs)
+    (λ c κs. search needs)
     put-answer-requires
-    same-length
+    (λ c. search needs)
     returns-4)

@@ -54,20 +54,11 @@ short-whole c =
     fewer (pos n) h = omega arith
     fewer (negsuc n) h = omega arith
 
-enum-known-word : tie.Need-enum-known-word
-enum-known-word c = search needs
-
 put-byte-requires : tie.Need-put-byte-requires
 put-byte-requires c κs = omega arith
 
-to-bits-requires : tie.Need-to-bits-requires
-to-bits-requires c κs = search needs
-
 put-hex-requires : tie.Need-put-hex-requires
 put-hex-requires c κs = omega arith
-
-enum-known-word-2 : tie.Need-enum-known-word-2
-enum-known-word-2 c = search needs
 
 put-byte-requires-2 : tie.Need-put-byte-requires-2
 put-byte-requires-2 c κs = omega arith
@@ -77,20 +68,11 @@ put-signed-requires c κs =
     let told = c .before .before .before .before .before in
     rw (plain told) (omega (arith, short-whole told))
 
-enum-told : tie.Need-enum-told
-enum-told c = search needs
-
-same-length : tie.Need-same-length
-same-length c = search needs
-
 returns : tie.Need-returns
 returns c =
     let put = c .before .before .before .before .before .before .before in
     let digits = written-as (ap (hexDigits 16) (c .before .before .before .to-bits .ensures)) (c .before .before .put-hex .ensures) in
     (written-as (sym (of-double (put .before .before .before))) (written-then (put .put-byte .ensures) digits), omega (arith, hex-length 16 (c .before .before .before .to-bits .result)))
-
-same-length-2 : tie.Need-same-length-2
-same-length-2 c = search needs
 
 returns-2 : tie.Need-returns-2
 returns-2 c =
@@ -108,16 +90,16 @@ pub put-word-spec : {M : Type 1} → statement M
 put-word-spec =
     tie.close
     (tie.spec
-    enum-known-word
+    (λ c. search needs)
     put-byte-requires
-    to-bits-requires
+    (λ c κs. search needs)
     put-hex-requires
-    enum-known-word-2
+    (λ c. search needs)
     put-byte-requires-2
     put-signed-requires
-    enum-told
-    same-length
+    (λ c. search needs)
+    (λ c. search needs)
     returns
-    same-length-2
+    (λ c. search needs)
     returns-2
     returns-3)

@@ -18,16 +18,10 @@ negated : (n : ℕ) → n < 2 ^ 31 → (pos 0 -ℤ toZ w32 n ≡ signed true n) 
 negated zero h = (ap (λ (z : ℤ). pos 0 -ℤ z) (toZ-pos w32 h) ∙ +ℤ-idl (pos 0), record { sfits = h })
 negated (suc m) h = (ap (λ (z : ℤ). pos 0 -ℤ z) (toZ-pos w32 h) ∙ +ℤ-idl (negsuc m), record { sfits = omega arith })
 
-cast-result : tie.Need-cast-result
-cast-result c = search needs
-
 sub-result : tie.Need-sub-result
 sub-result c =
     let n = negated (c .before .args .n) (c .before .pre) in
     subst (SFits w32) (sym (n .0)) (n .1)
-
-cast-result-2 : tie.Need-cast-result-2
-cast-result-2 c = search needs
 
 returns : tie.Need-returns
 returns c =
@@ -39,4 +33,4 @@ returns-2 : tie.Need-returns-2
 returns-2 c = toZ-pos w32 (c .before .pre) ∙ ap (λ (b : Bool). signed b (c .before .args .n)) (sym (c .if1 .left))
 
 pub with-sign-spec : {M : Type 1} → statement M
-with-sign-spec = tie.close (tie.spec cast-result sub-result cast-result-2 returns returns-2)
+with-sign-spec = tie.close (tie.spec (λ c. search needs) sub-result (λ c. search needs) returns returns-2)
