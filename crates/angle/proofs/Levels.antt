@@ -2,7 +2,7 @@
 use mathlib.Core.Path.{_≡_, refl, sym, ap, ap₂, _∙_, subst}
 use mathlib.Core.Logic.{_⊎_, inl, inr}
 use mathlib.Core.Bool.{Bool, true, false, cond}
-use Prim.Native.Nat.{ℕ, zero, _+_, _-_, _*_, _/_, _%_, _^_, _≤_, _<_}
+use Prim.Native.Nat.{ℕ, _+_, _-_, _*_, _/_, _%_, _^_, _≤_, _<_}
 use native.Mathlib.Omega.{arith}
 use native.Mathlib.Nat.{zero-add, add-zero, one-mul, zero-mul, mul-assoc, add-mul, mul-pos, mul-le-mul-right, mul-le-mul-left, mul-lt-mul-of-pos-right, lt-of-mul-lt-mul-right, lt-of-lt-of-le, lt-of-le-of-lt, le-add-right, le-trans, mod-lt, mod-eq-of-lt, div-add-mod', eq-zero-or-pos, mul-add-div-right, div-lt-iff-lt-mul, sub-le}
 use borrow.Author.Tests.{lt-ltb, le-ltb}

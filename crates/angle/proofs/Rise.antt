@@ -2,12 +2,13 @@
 -- is the function's test.
 use mathlib.Core.Path.{_≡_, refl, sym, ap, ap₂, _∙_, subst}
 use mathlib.Core.Bool.{Bool, true, false, _||_}
-use Prim.Native.Nat.{ℕ, zero, _+_, _-_, _*_, _/_, _^_, _≤_, _<_, zero-le}
+use Prim.Native.Nat.{ℕ, _+_, _-_, _*_, _/_, _^_, _≤_, _<_, zero-le}
 use native.Mathlib.Omega.{arith}
-use native.Mathlib.Nat.{le-trans, le-of-lt, mul-le-mul, mul-le-mul-right, mul-lt-mul-of-pos-right, mul-sub, mul-comm, zero-mul, add-mul, mul-assoc, le-div-iff-mul-le, div-lt-iff-lt-mul}
+use native.Mathlib.Nat.{le-trans, le-of-lt, mul-le-mul, zero-mul, add-mul, mul-assoc, le-div-iff-mul-le, div-lt-iff-lt-mul}
 use borrow.Author.Tests.{le-leb, lt-leb, leb-true, leb-false}
 use lib.Dec.{T, leb, leb→le, le→leb}
 use lib.Pow.{pow-pos}
+use Rattle.algebra.specs.NatOrder.{sub-mul}
 use Rattle.algebra.specs.RingNat.{ring, #, _:+_, _:*_, _:=_}
 use Rattle.decode.specs.Shape.{Normal}
 use Rattle.nearest.proofs.ByTest.{Monotone}
@@ -25,9 +26,6 @@ leb-same a b c d p q = go (leb a b) refl
 
 leb-div : (a b c : ℕ) → 0 < c → leb (a * c) b ≡ leb a (b / c)
 leb-div a b c p = leb-same (a * c) b a (b / c) (λ l. le-div-iff-mul-le p .1 l) (λ l. div-lt-iff-lt-mul p .1 l)
-
-pub sub-mul : (a b c : ℕ) → (a - b) * c ≡ a * c - b * c
-sub-mul a b c = mul-comm (a - b) c ∙ mul-sub c a b ∙ ap₂ (λ (x y : ℕ). x - y) (mul-comm c a) (mul-comm c b)
 
 -- ---- the rise
 

@@ -9,12 +9,12 @@ use Prim.Native.Nat.{ℕ, suc, _+_, _-_, _*_, _%_, _^_, _≤_, _<_}
 use native.Mathlib.Omega.{arith}
 use native.Mathlib.Nat.{le-trans, lt-of-lt-of-le, lt-irrefl, eq-zero-or-pos, add-mul, mul-assoc, mul-comm, mul-one, one-mul, zero-mul, mul-pos, mul-le-mul-left, mul-le-mul-right, mul-mul-mul-comm, eq-of-mul-eq-mul-right, pow-succ'}
 use lib.Pow.{pow-add, pow-pos}
+use Rattle.algebra.specs.NatOrder.{sub-mul}
 use Rattle.algebra.specs.RingNat.{ring, #, _:*_, _:=_}
 use Rattle.decode.specs.Shape.{Normal}
 use Rattle.nearest.proofs.Powers.{odd-mul}
 use Rattle.angle.specs.Third.{left, right}
 use Rattle.angle.specs.Parts.{SineSquare}
-use Rattle.angle.proofs.Rise.{sub-mul}
 
 -- no number of 53 digits, times a power of two, is an odd number of more digits times another
 too-long : (w k K L : ℕ) → w < 2 ^ 53 → 2 ^ 53 ≤ K → K % 2 ≡ 1 → w * 2 ^ k ≡ K * 2 ^ L → ⊥

@@ -1,14 +1,12 @@
 -- A sum or a product is finite only where its parts are: the quartic's first coefficient is finite only where the equation's five numbers are. Assumes nothing.
-use mathlib.Core.Path.{_≡_, refl, ap}
-use mathlib.Core.Bool.{Bool, true, false, cond, Bool·beq, _&&_, false≢true}
-use mathlib.Core.List.{List, [], _∷_}
+use mathlib.Core.Path.{_≡_, refl}
+use mathlib.Core.Bool.{Bool, true, false, cond, Bool·beq, false≢true}
+use mathlib.Core.List.{[], _∷_}
 use Prim.Native.Nat.{ℕ, _*_, _%_}
 use lib.Dec.{eqb}
 use lib.Ieee.{Float, nan, inf, fin, binary64, unlike, add, mul}
 use Rattle.facts.specs.Cond.{first-holds}
-use Rattle.float.specs.Methods.{isFiniteOf}
-use Rattle.poly.specs.Coefficients.{allFiniteOf}
-use Rattle.equation.specs.Quadratic.{areFinite}
+use Rattle.float.specs.Methods.{isFiniteOf, allFiniteOf}
 use Rattle.equation.specs.Crank.{unitOf, quarticOf}
 
 -- an infinity or NaN, by a test
@@ -42,7 +40,7 @@ turned x y cos sin = add binary64 (mul binary64 x cos) (mul binary64 y sin)
 turned-finite : (x y cos sin : Float) → isFiniteOf (turned x y cos sin) ≡ true → (isFiniteOf x ≡ true) × (isFiniteOf y ≡ true)
 turned-finite x y cos sin h = let s = sum-finite (mul binary64 x cos) (mul binary64 y sin) h in (product-finite x cos (s .0), product-finite y sin (s .1))
 
-pub numbers-finite : (a2 b2 c1 d1 e : Float) (k : ℕ) → areFinite (quarticOf a2 b2 c1 d1 e k) ≡ true → areFinite (a2 ∷ b2 ∷ c1 ∷ d1 ∷ e ∷ []) ≡ true
+pub numbers-finite : (a2 b2 c1 d1 e : Float) (k : ℕ) → allFiniteOf (quarticOf a2 b2 c1 d1 e k) ≡ true → allFiniteOf (a2 ∷ b2 ∷ c1 ∷ d1 ∷ e ∷ []) ≡ true
 unfolding quarticOf
 numbers-finite a2 b2 c1 d1 e k h =
     let u1 = unitOf k in
@@ -54,9 +52,3 @@ numbers-finite a2 b2 c1 d1 e k h =
     let double = turned-finite a2 b2 (u2 .cos) (u2 .sin) (both .0) in
     let single = turned-finite c1 d1 (u1 .cos) (u1 .sin) (both .1) in
     simp (double .0, double .1, single .0, single .1, whole .1)
-
--- one test, in the words of a list and of an equation
-pub same-test : (l : List Float) → allFiniteOf l ≡ areFinite l
-unfolding allFiniteOf
-same-test [] = refl
-same-test (x ∷ l) = ap (λ (b : Bool). isFiniteOf x && b) (same-test l)

@@ -12,13 +12,12 @@ use lib.Ieee.{Float, eq, ofBits}
 use Rattle.facts.specs.Cond.{either-way}
 use Rattle.facts.specs.Count.{countUp}
 use Rattle.float.specs.Literals.{zero64}
-use Rattle.float.specs.Methods.{absOf, isFiniteOf, totalLeOf}
-use Rattle.poly.specs.Coefficients.{allFiniteOf, trimmedFrom, trimmedOf, refusalBy, refusalOf}
+use Rattle.float.specs.Methods.{absOf, isFiniteOf, allFiniteOf, totalLeOf}
+use Rattle.poly.specs.Coefficients.{trimmedFrom, trimmedOf, refusalBy, refusalOf}
 use Rattle.poly.specs.Conditions.{Exactly}
 use Rattle.poly.proofs.Coefficients.{trimmed-most}
 use Rattle.asking.specs.Asking.{done}
 use Rattle.equation.specs.declared.Crank.{Crank}
-use Rattle.equation.specs.Quadratic.{areFinite}
 use Rattle.equation.specs.Crank.{fAtOf, sampledOf, sampleOf, quarticOf, noCrank, crankFrontOf}
 use Rattle.inquiry.specs.declared.Started.{Started}
 use Rattle.inquiry.specs.Start.{realRootsTouching, startOf}
@@ -26,7 +25,7 @@ use Rattle.inquiry.proofs.Fresh.{start-number}
 use Rattle.crank.specs.declared.CrankStarted.{CrankStarted}
 use Rattle.crank.specs.Crank.{trigQuarticOf, crankStartOf}
 use Rattle.crank.specs.Claims.{Numbers}
-use Rattle.crank.proofs.Finite.{numbers-finite, same-test}
+use Rattle.crank.proofs.Finite.{numbers-finite}
 
 -- a refused list asks nothing
 refused-asks : (coeffs : List Float) (tol : Float) → eqb (refusalOf coeffs) 0 ≡ false → realRootsTouching coeffs tol ≡ done []
@@ -35,7 +34,7 @@ refused-asks coeffs tol h = rw h
 
 -- the quartic of a refused front, zeros, is refused as a list
 zeros-refused : eqb (refusalOf (replicate 5 zero64)) 0 ≡ false
-unfolding refusalBy allFiniteOf isFiniteOf trimmedOf trimmedFrom eq ofBits
+unfolding refusalBy isFiniteOf trimmedOf trimmedFrom eq ofBits
 zeros-refused = refl
 
 module _ (a2 b2 c1 d1 e : Float) where
@@ -61,23 +60,23 @@ module _ (a2 b2 c1 d1 e : Float) where
   sample-below = samples-below 7 (0, absOf (fAtOf a2 b2 c1 d1 e 4)) (omega arith)
 
   -- ---- the front
-  made : areFinite numbers ≡ true → areFinite q ≡ true → front ≡ record { number = 0; k = sampleOf a2 b2 c1 d1 e; q = q }
+  made : allFiniteOf numbers ≡ true → allFiniteOf q ≡ true → front ≡ record { number = 0; k = sampleOf a2 b2 c1 d1 e; q = q }
   unfolding crankFrontOf
   made h g = rw (h, g)
 
-  unmade : areFinite q ≡ false → front ≡ noCrank (cond (areFinite numbers) 5 1)
+  unmade : allFiniteOf q ≡ false → front ≡ noCrank (cond (allFiniteOf numbers) 5 1)
   unfolding crankFrontOf
-  unmade h = rw h (either (areFinite numbers))
+  unmade h = rw h (either (allFiniteOf numbers))
     where
       either : (a : Bool) → cond a (noCrank 5) (noCrank 1) ≡ noCrank (cond a 5 1)
       either true = refl
       either false = refl
 
   -- all finite, or not: by the quartic alone
-  by-quartic : {A : Type 0} → (areFinite numbers ≡ true → areFinite q ≡ true → A) → (areFinite q ≡ false → front ≡ noCrank (cond (areFinite numbers) 5 1) → A) → A
-  by-quartic {A = A} f g = go (areFinite q) refl
+  by-quartic : {A : Type 0} → (allFiniteOf numbers ≡ true → allFiniteOf q ≡ true → A) → (allFiniteOf q ≡ false → front ≡ noCrank (cond (allFiniteOf numbers) 5 1) → A) → A
+  by-quartic {A = A} f g = go (allFiniteOf q) refl
     where
-      go : (b : Bool) → areFinite q ≡ b → A
+      go : (b : Bool) → allFiniteOf q ≡ b → A
       go true h = f (numbers-finite a2 b2 c1 d1 e (sampleOf a2 b2 c1 d1 e) h) h
       go false h = g h (unmade h)
 
@@ -90,9 +89,9 @@ module _ (a2 b2 c1 d1 e : Float) where
 
   -- ---- what is asked
   -- a quartic that is not finite is refused as a list
-  quartic-refused : areFinite q ≡ false → eqb (refusalOf q) 0 ≡ false
+  quartic-refused : allFiniteOf q ≡ false → eqb (refusalOf q) 0 ≡ false
   unfolding refusalBy
-  quartic-refused h = rw (same-test q ∙ h)
+  quartic-refused h = rw h
 
   module _ (confusion : Float) where
     abbrev number : ℕ
@@ -109,9 +108,9 @@ module _ (a2 b2 c1 d1 e : Float) where
     same-k = by-quartic (λ h g. inl (ap (λ (f : Crank). f .k) (made h g))) (λ h is. inr (refused-asks q confusion (quartic-refused h)))
 
     -- ---- the number
-    listed-number : areFinite q ≡ true → refusalOf q ≡ cond (leb (trimmedOf q) 1) 2 0
+    listed-number : allFiniteOf q ≡ true → refusalOf q ≡ cond (leb (trimmedOf q) 1) 2 0
     unfolding refusalBy
-    listed-number g = rw (same-test q ∙ g, le-leb (trimmedOf q) 5 quartic-five)
+    listed-number g = rw (g, le-leb (trimmedOf q) 5 quartic-five)
 
     abbrev numberBy : Bool → Bool → Bool → ℕ
     numberBy a b c = cond a (cond b (cond c 2 0) 5) 1
@@ -120,9 +119,9 @@ module _ (a2 b2 c1 d1 e : Float) where
     abbrev byFront : Crank → ℕ
     byFront f = cond (eqb (f .number) 0) (startOf (f .q) confusion .number) (f .number)
 
-    number-is : number ≡ numberBy (areFinite numbers) (areFinite q) (leb (trimmedOf q) 1)
+    number-is : number ≡ numberBy (allFiniteOf numbers) (allFiniteOf q) (leb (trimmedOf q) 1)
     unfolding crankStartOf
-    number-is = by-quartic (λ h g. ap byFront (made h g) ∙ start-number q confusion ∙ listed-number g ∙ rw (h, g)) (λ g is. ap byFront is ∙ refused (areFinite numbers) ∙ rw g)
+    number-is = by-quartic (λ h g. ap byFront (made h g) ∙ start-number q confusion ∙ listed-number g ∙ rw (h, g)) (λ g is. ap byFront is ∙ refused (allFiniteOf numbers) ∙ rw g)
       where
         refused : (a : Bool) → byFront (noCrank (cond a 5 1)) ≡ cond a 5 1
         refused true = refl
@@ -130,21 +129,21 @@ module _ (a2 b2 c1 d1 e : Float) where
 
     -- what a number stands for
     abbrev Told : ℕ → Type 0
-    Told zero = (areFinite numbers ≡ true) × (areFinite q ≡ true) × (2 ≤ trimmedOf q)
-    Told (suc zero) = areFinite numbers ≡ false
-    Told (suc (suc zero)) = (areFinite numbers ≡ true) × (areFinite q ≡ true) × (trimmedOf q ≤ 1)
-    Told (suc (suc (suc m))) = (areFinite numbers ≡ true) × (areFinite q ≡ false)
+    Told zero = (allFiniteOf numbers ≡ true) × (allFiniteOf q ≡ true) × (2 ≤ trimmedOf q)
+    Told (suc zero) = allFiniteOf numbers ≡ false
+    Told (suc (suc zero)) = (allFiniteOf numbers ≡ true) × (allFiniteOf q ≡ true) × (trimmedOf q ≤ 1)
+    Told (suc (suc (suc m))) = (allFiniteOf numbers ≡ true) × (allFiniteOf q ≡ false)
 
-    told : Told (numberBy (areFinite numbers) (areFinite q) (leb (trimmedOf q) 1))
-    told = go (areFinite numbers) (areFinite q) (leb (trimmedOf q) 1) refl refl refl
+    told : Told (numberBy (allFiniteOf numbers) (allFiniteOf q) (leb (trimmedOf q) 1))
+    told = go (allFiniteOf numbers) (allFiniteOf q) (leb (trimmedOf q) 1) refl refl refl
       where
-        go : (a b c : Bool) → areFinite numbers ≡ a → areFinite q ≡ b → leb (trimmedOf q) 1 ≡ c → Told (numberBy a b c)
+        go : (a b c : Bool) → allFiniteOf numbers ≡ a → allFiniteOf q ≡ b → leb (trimmedOf q) 1 ≡ c → Told (numberBy a b c)
         go false b c h g t = h
         go true false c h g t = (h, g)
         go true true true h g t = (h, g, leb-true (trimmedOf q) 1 t)
         go true true false h g t = (h, g, leb-false (trimmedOf q) 1 t)
 
-    exactly : (n : ℕ) → (Told n → numberBy (areFinite numbers) (areFinite q) (leb (trimmedOf q) 1) ≡ n) → Exactly (number ≡ n) (Told n)
+    exactly : (n : ℕ) → (Told n → numberBy (allFiniteOf numbers) (allFiniteOf q) (leb (trimmedOf q) 1) ≡ n) → Exactly (number ≡ n) (Told n)
     exactly n f = record { where-it-holds = λ t. number-is ∙ f t; only-there = λ s. subst Told (sym number-is ∙ s) told }
 
     pub start-numbers : Numbers number numbers q

@@ -11,12 +11,12 @@ use lib.IntN.{pos, negsuc}
 use lib.Ieee.{Float, nan, inf, fin, fits}
 use Rattle.algebra.specs.NatOrder.{le-or-lt}
 use Rattle.float.specs.Methods.{isFiniteOf, isSignNegativeOf}
-use Rattle.float.specs.Units.{unitsOf}
+use Rattle.float.specs.Units.{unitsOf, Finite}
 use Rattle.nearest.specs.Greatest.{nearestOf}
 use Rattle.nearest.proofs.Search.{found}
 use Rattle.sqrt.specs.Root.{nearestSqrt}
 use Rattle.angle.specs.Third.{left, right, below, cosUnits, cosOf, sinOf}
-use Rattle.demands.specs.Demands.{Finite, Nearest, cubeSide, lineSide, AtMostSolution, AtLeastSolution}
+use Rattle.demands.specs.Demands.{Nearest, cubeSide, lineSide, AtMostSolution, AtLeastSolution}
 use Rattle.demands.proofs.Nearest.{nearest-of}
 
 -- ---- from a half on y³ - 3yW grows, x and y being what stands on each side besides

@@ -11,12 +11,13 @@ use lib.Ieee.Digits.{size-lt, size-reaches, minus-val}
 use lib.Ieee.Fits.{down-pos}
 use lib.Ieee.Positive.{positive}
 use Rattle.float.specs.Methods.{isSignNegativeOf}
-use Rattle.float.specs.Units.{unitsOf}
+use Rattle.float.specs.Units.{unitsOf, Finite}
+use Rattle.float.proofs.Bits.{of-true}
 use Rattle.decode.specs.Exponent.{exponentOf, regularOf}
 use Rattle.decode.proofs.Class.{regular-units}
 use Rattle.log2.specs.Log.{gridOf, log2GridOf}
 use Rattle.log2.proofs.Floor.{Over256, log2-floor}
-use Rattle.demands.specs.Demands.{Finite, Between, Ratio}
+use Rattle.demands.specs.Demands.{Between, Ratio}
 use Rattle.demands.proofs.Nearest.{regular-is}
 
 between : (n l : ℕ) → 0 < n → Between (minus (size n) (suc l)) n (2 ^ l)
@@ -51,4 +52,4 @@ ratio x (pos n) h = h
 ratio x (negsuc n) h = h
 
 pub grid-ratio : (x : Float) → Finite x → positive x ≡ true → Ratio (log2GridOf x) (gridOf (unitsOf x)) 256
-grid-ratio x f p = ratio (log2GridOf x) (gridOf (unitsOf x)) (log2-floor x (subst T (sym (f .held)) tt) (subst T (sym p) tt) .1)
+grid-ratio x f p = ratio (log2GridOf x) (gridOf (unitsOf x)) (log2-floor x (of-true (f .held)) (subst T (sym p) tt) .1)

@@ -1,29 +1,29 @@
 -- A finite double is its sign and its units. Assumes nothing.
-use mathlib.Core.Path.{_≡_, refl, sym, ap, ap₂, _∙_, subst}
+use mathlib.Core.Path.{_≡_, refl, sym, ap, ap₂, _∙_}
 use mathlib.Core.Bool.{Bool, true, cond, true≢false}
 use Prim.Native.Nat.{ℕ, _+_, _-_, _*_, _/_, _^_, _<_}
 use native.Mathlib.Nat.{mul-assoc}
-use lib.Dec.{T}
 use lib.Pow.{pow-pos}
 use lib.Ieee.{Float, nan, inf, fin, binary64, up, down, size, round, toBits, ofBits}
 use lib.Ieee.Bits.{is-true, ofBits-toBits}
 use lib.Ieee.Exact.{HasValue, round-exact}
 use lib.Ieee.Fits.{round-fits}
 use Rattle.float.specs.Methods.{isFiniteOf, isSignNegativeOf}
-use Rattle.float.specs.Units.{unitsOf}
+use Rattle.float.specs.Units.{unitsOf, Finite}
+use Rattle.float.proofs.Bits.{of-true}
 use Rattle.decode.proofs.Fields.{shape}
 use Rattle.rounding.specs.Units.{oneUnits}
 use Rattle.rounding.proofs.Value.{exponent, fits-says}
 use Rattle.nearest.proofs.Best.{units-of}
-use Rattle.demands.specs.Demands.{Finite}
-use Rattle.demands.proofs.Nearest.{has-sign, units-below}
+use Rattle.scaled.proofs.Digits.{units-under}
+use Rattle.demands.proofs.Nearest.{has-sign}
 
 pub units-exact : (x : Float) → Finite x → HasValue x (isSignNegativeOf x) (unitsOf x) (2 ^ 1074)
 unfolding isFiniteOf isSignNegativeOf oneUnits
 units-exact nan f = absurd (true≢false (sym (f .finite)))
 units-exact (inf s) f = absurd (true≢false (sym (f .finite)))
 units-exact (fin s m e) f =
-    let i = exponent e (fits-says s m e (subst T (sym (f .held)) tt) .1) in
+    let i = exponent e (fits-says s m e (of-true (f .held)) .1) in
     let v : HasValue (fin s m e) s (m * 2 ^ i .0) (2 ^ 1074) = (refl, mul-assoc m (up e) (2 ^ 1074) ∙ ap (λ (a : ℕ). m * a) (i .1) ∙ sym (mul-assoc m (2 ^ i .0) (down e))) in
     rw (units-of (fin s m e) s (m * 2 ^ i .0) v) v
 
@@ -39,7 +39,7 @@ same-bits (fin s m e) (inf t) f g a b = absurd (true≢false (sym g))
 
 pub only-one : (x y : Float) → Finite x → Finite y → isSignNegativeOf x ≡ isSignNegativeOf y → unitsOf x ≡ unitsOf y → x ≡ y
 only-one x y f g a b =
-    sym (ofBits-toBits binary64 x (subst T (sym (f .held)) tt)) ∙ ap (ofBits binary64) (same-bits x y (f .finite) (g .finite) a b) ∙ ofBits-toBits binary64 y (subst T (sym (g .held)) tt)
+    sym (ofBits-toBits binary64 x (of-true (f .held))) ∙ ap (ofBits binary64) (same-bits x y (f .finite) (g .finite) a b) ∙ ofBits-toBits binary64 y (of-true (g .held))
 
 -- ---- the double of n units, where n is w * 2 ^ j
 
@@ -58,7 +58,7 @@ pub held : (x : Float) → Finite x → Held (unitsOf x)
 unfolding isFiniteOf
 held nan f = absurd (true≢false (sym (f .finite)))
 held (inf s) f = absurd (true≢false (sym (f .finite)))
-held (fin s m e) f = let h = shape s m e (subst T (sym (f .held)) tt) in record { w = h .w; j = h .k; is = sym (h .whole .value); short = h .whole .short; reach = units-below (fin s m e) f }
+held (fin s m e) f = let h = shape s m e (of-true (f .held)) in record { w = h .w; j = h .k; is = sym (h .whole .value); short = h .whole .short; reach = units-under (fin s m e) f }
 
 pub double-value : (s : Bool) (n : ℕ) → Held n → HasValue (doubleOf s n) s n (2 ^ 1074)
 unfolding doubleOf

@@ -20,7 +20,7 @@ use Rattle.scaled.specs.Scaled.{scaledOf}
 use Rattle.factorize.specs.Factorize.{outOf, factorsFrom, factorizeOf}
 use Rattle.roots.specs.Roots.{held, kept}
 use Rattle.finish.specs.Finish.{byValue, orderedAt, orderedOf, polishedAt, polishedOf, joinedFrom, joinedOf, finishOf}
-use Rattle.poly.specs.Coefficients.{allFiniteOf, trimmedFrom, trimmedOf, zerosOf, refusalBy, middleAt, middleOf, polyOf}
+use Rattle.poly.specs.Coefficients.{trimmedFrom, trimmedOf, zerosOf, refusalBy, middleAt, middleOf, polyOf}
 use Rattle.poly.specs.Solve.{zeroRootsOf, candidatesOf, finishedOf, solveOf}
 use Rattle.poly.specs.RealRoots as solved
 use Rattle.poly.specs.RealRoots.{unscaledAll, realRootsOf}
@@ -34,7 +34,7 @@ stated row = row .answer
 
 -- the definitions on the way to the answer to a list
 unfoldable listed : ℕ
-unfolding realRootsOf solved.answerOf solveOf refusalBy allFiniteOf trimmedOf trimmedFrom zerosOf isFiniteOf eq polyOf middleOf middleAt finishedOf candidatesOf zeroRootsOf kept held countUp factorizeOf factorsFrom outOf finishOf orderedOf orderedAt byValue sortedBy insertedAll insertedBy polishedOf polishedAt joinedOf joinedFrom unscaledAll ldexpOf shifts.scaledOf chain mul
+unfolding realRootsOf solved.answerOf solveOf refusalBy trimmedOf trimmedFrom zerosOf isFiniteOf eq polyOf middleOf middleAt finishedOf candidatesOf zeroRootsOf kept held countUp factorizeOf factorsFrom outOf finishOf orderedOf orderedAt byValue sortedBy insertedAll insertedBy polishedOf polishedAt joinedOf joinedFrom unscaledAll ldexpOf shifts.scaledOf chain mul
 listed = 0
 
 pub all-rows : (tol : Float) → map given (table tol) ≡ map stated (table tol)

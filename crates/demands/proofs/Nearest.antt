@@ -1,12 +1,11 @@
 -- From `nearest-best` to the words of specs/Demands, and what a finite double is that is not zero. Assumes nothing.
-use mathlib.Core.Path.{_≡_, refl, sym, ap, _∙_, subst}
+use mathlib.Core.Path.{_≡_, refl, sym, ap, _∙_}
 use mathlib.Core.Bool.{Bool, true, false, not, cond, true≢false}
 use Prim.Native.Nat.{ℕ, zero, suc, _+_, _*_, _^_, _≤_, _<_}
-use native.Mathlib.Nat.{add-zero, lt-of-lt-of-le, le-of-suc-le-suc, zero-lt-suc, mul-lt-mul-of-pos-right, mul-le-mul-left}
+use native.Mathlib.Nat.{add-zero, zero-lt-suc}
 use native.Mathlib.Numerals.{add-one}
 use borrow.Author.Tests.{lt-ltb}
 use lib.Dec.{T}
-use lib.Pow.{pow-pos, pow-mono}
 use lib.IntN.{ℤ}
 use lib.Ieee.{Float, nan, inf, fin, binary64, neg}
 use lib.Ieee.Bits.{is-true}
@@ -14,13 +13,13 @@ use lib.Ieee.Fits.{neg-fits}
 use lib.Ieee.Exact.{HasValue}
 use lib.Ieee.Positive.{positive}
 use Rattle.float.specs.Methods.{isFiniteOf, isSignNegativeOf}
-use Rattle.float.specs.Units.{unitsOf}
+use Rattle.float.specs.Units.{unitsOf, Finite}
+use Rattle.float.proofs.Bits.{of-true}
 use Rattle.decode.specs.Exponent.{regularOf}
 use Rattle.decode.proofs.Class.{regular-units}
-use Rattle.decode.proofs.Fields.{shape}
 use Rattle.nearest.specs.Greatest.{nearestOf}
 use Rattle.nearest.proofs.Best.{part, nearest-value, nearest-fits, nearest-best}
-use Rattle.demands.specs.Demands.{Finite, Nearest}
+use Rattle.demands.specs.Demands.{Nearest}
 
 pub has-sign : (x : Float) (s : Bool) (a c : ℕ) → HasValue x s a c → (isFiniteOf x ≡ true) × (isSignNegativeOf x ≡ s)
 unfolding isFiniteOf isSignNegativeOf
@@ -64,13 +63,6 @@ positive-is (fin false (suc m) e) p = (m, e, refl)
 pub positive-units : (x : Float) → Finite x → positive x ≡ true → 0 < unitsOf x
 positive-units x f p = let v = positive-is x p in regular-units x (f .held) (ap regularOf (v .2) ∙ lt-ltb 0 (suc (v .0)) (zero-lt-suc (v .0)))
 
-pub units-below : (x : Float) → Finite x → unitsOf x < 2 ^ 2098
-units-below nan f = pow-pos 2098
-units-below (inf s) f = pow-pos 2098
-units-below (fin s m e) f =
-    let h = shape s m e (subst T (sym (f .held)) tt) in
-    rw (← h .whole .value) (lt-of-lt-of-le (mul-lt-mul-of-pos-right (h .whole .short) (pow-pos (h .k))) (mul-le-mul-left (2 ^ 53) (pow-mono (le-of-suc-le-suc (h .whole .reach)))))
-
 -- ---- the same number in other words, and with a sign
 
 pub in-words : {s : Bool} {under over : ℕ → Type 0} {r : Float} (below above : ℕ → Type 0) → ((h : ℕ) → under h → below h) → ((h : ℕ) → over h → above h) → Nearest s under over r → Nearest s below above r
@@ -96,7 +88,7 @@ neg-sign (fin s m e) f = (refl, refl)
 pub signed : {under over : ℕ → Type 0} (s : Bool) (r : Float) → Nearest false under over r → Nearest s under over (cond s (neg r) r)
 signed false r n = n
 signed {under} {over} true r n = record {
-  finite = record { held = is-true _ (neg-fits binary64 r (subst T (sym (n .finite .held)) tt)); finite = neg-sign r (n .finite .finite) .0 };
+  finite = record { held = is-true _ (neg-fits binary64 r (of-true (n .finite .held))); finite = neg-sign r (n .finite .finite) .0 };
   sign = neg-sign r (n .finite .finite) .1 ∙ ap not (n .sign);
   smaller = λ d f. rw (neg-units r) (n .smaller d f);
   larger = λ d f. rw (neg-units r) (n .larger d f);

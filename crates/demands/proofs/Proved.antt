@@ -1,12 +1,10 @@
 -- The proof of specs/Demands, from the laws beside it. Assumes nothing.
 use mathlib.Core.Path.{refl, ap}
 use mathlib.Core.Logic.{⊎-elim}
-use mathlib.Core.List.{List}
-use Prim.Native.Nat.{ℕ, _-_, _≤_}
+use Prim.Native.Nat.{_-_, _≤_}
 use native.Mathlib.Omega.{arith}
 use lib.Dec.{lit≤}
-use lib.ListN.{getD}
-use lib.Ieee.{Float, nan, ofBits}
+use lib.Ieee.{ofBits}
 use Rattle.float.specs.Units.{unitsOf}
 use Rattle.decode.proofs.Class.{negative-view, regular-units}
 use Rattle.sqrt.specs.Root.{sqrtOf}
@@ -16,7 +14,6 @@ use Rattle.log2.specs.Log.{gridOf, log2GridOf}
 use Rattle.scaled.specs.Scaled.{scaledOf}
 use Rattle.scaled.proofs.Smallest.{exponent-holds, exponent-least, exponent-of-constant}
 use Rattle.scaled.proofs.Promise.{f-finite, f-held, f-leading}
-use Rattle.scaled.proofs.Digits as digits
 use Rattle.factorize.specs.Factorize.{factorizeOf}
 use Rattle.factorize.proofs.Degree.{degrees-add}
 use Rattle.polishing.proofs.Polishing.{polishing}
@@ -31,7 +28,7 @@ use Rattle.inquiry.proofs.Fresh.{start-number}
 use Rattle.inquiry.proofs.Theorem.{start-fed, start-most, start-list}
 use Rattle.crank.proofs.Theorem.{cranks}
 use Rattle.demands.specs.Table.{table}
-use Rattle.demands.specs.Demands.{Finite, Coefficients, Demands, SquareRoot, CubeRoot, Third, Logarithm, ScaledCoefficients, FactorDegrees, Lists, SimpleRoots}
+use Rattle.demands.specs.Demands.{Demands, SquareRoot, CubeRoot, Third, Logarithm, ScaledCoefficients, FactorDegrees, Lists, SimpleRoots}
 use Rattle.demands.proofs.Nearest.{signed, positive-units}
 use Rattle.demands.proofs.Doubles.{units-exact, only-one}
 use Rattle.demands.proofs.Roots.{square-nearest, cube-nearest, rest-nearest, scaled-most, scaled-least, sqrt-is, cbrt-is}
@@ -70,22 +67,15 @@ logarithm = record {
   zero = λ s. refl;
 }
 
--- a finite double, in the words of crate `scaled`
-finite-in : (a : List Float) (d : ℕ) → Coefficients a d → (i : ℕ) → i ≤ d → digits.Finite (getD a i nan)
-finite-in a d C i l = let f = C .finite i l in record { held = f .held; finite = f .finite }
-
-finite-out : (x : Float) → digits.Finite x → Finite x
-finite-out x f = record { held = f .held; finite = f .finite }
-
 scaled-coefficients : ScaledCoefficients
 unfolding scaledOf
 scaled-coefficients = record {
-  bounds = λ a d C. exponent-holds a d (finite-in a d C) (C .last);
-  smallest = λ a d C z. exponent-least a d (finite-in a d C) (C .last) 0 z (C .first);
+  bounds = λ a d C. exponent-holds a d (C .finite) (C .last);
+  smallest = λ a d C z. exponent-least a d (C .finite) (C .last) 0 z (C .first);
   constant = exponent-of-constant;
-  finite = λ a d C i l. finite-out _ (f-finite a d (C .degree) (finite-in a d C) (C .last) i l);
-  most = λ a d C. f-held a d (C .degree) (finite-in a d C) (C .last);
-  leading = λ a d C. f-leading a d (C .degree) (finite-in a d C) (C .last);
+  finite = λ a d C. f-finite a d (C .degree) (C .finite) (C .last);
+  most = λ a d C. f-held a d (C .degree) (C .finite) (C .last);
+  leading = λ a d C. f-leading a d (C .degree) (C .finite) (C .last);
 }
 
 factor-degrees : FactorDegrees

@@ -13,7 +13,7 @@ use lib.Ieee.Bits.{is-true}
 use lib.Ieee.Digits.{size-lt}
 use lib.Ieee.Positive.{positive}
 use Rattle.float.specs.Methods.{isSignNegativeOf}
-use Rattle.float.specs.Units.{unitsOf}
+use Rattle.float.specs.Units.{unitsOf, Finite}
 use Rattle.decode.specs.Exponent.{regularOf}
 use Rattle.nearest.specs.Greatest.{greatest, nearestOf}
 use Rattle.nearest.proofs.Search.{found}
@@ -22,8 +22,9 @@ use Rattle.sqrt.specs.Root.{floorSqrt, nearestSqrt, sqrtOf}
 use Rattle.sqrt.proofs.Squares.{squares}
 use Rattle.cbrt.specs.Root.{floorCbrt, nearestCbrt, cbrtOf}
 use Rattle.cbrt.proofs.Cubes.{cubes}
-use Rattle.demands.specs.Demands.{Finite, Nearest}
-use Rattle.demands.proofs.Nearest.{nearest-of, in-words, regular-is, positive-is, units-below}
+use Rattle.scaled.proofs.Digits.{units-under}
+use Rattle.demands.specs.Demands.{Nearest}
+use Rattle.demands.proofs.Nearest.{nearest-of, in-words, regular-is, positive-is}
 
 -- k is 2 to the power e
 module _ (e : ℕ) (f : ℕ → ℕ) (P : Power e f) (k : ℕ) (twice : (a : ℕ) → f (2 * a) ≡ k * f a) where
@@ -65,7 +66,7 @@ cube-nearest k twice N small big = root 3 (λ t. t * t * t) cubes k twice N smal
 -- ---- N is n units times 2 ^ l
 
 pub scaled-most : (x : Float) (l m : ℕ) → Finite x → 2 ^ 2098 * 2 ^ l ≤ m → unitsOf x * 2 ^ l < m
-scaled-most x l m f h = lt-of-lt-of-le (mul-lt-mul-of-pos-right (units-below x f) (pow-pos l)) h
+scaled-most x l m f h = lt-of-lt-of-le (mul-lt-mul-of-pos-right (units-under x f) (pow-pos l)) h
 
 pub scaled-least : (n l m : ℕ) → 0 < n → m ≤ 2 ^ l → m ≤ n * 2 ^ l
 scaled-least n l m p h = le-trans h (subst (λ (a : ℕ). a ≤ n * 2 ^ l) (one-mul (2 ^ l)) (mul-le-mul-right (2 ^ l) p))

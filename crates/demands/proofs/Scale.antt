@@ -13,8 +13,8 @@ use lib.Ieee.Scale.{round-same}
 use Rattle.float.specs.Methods.{isSignNegativeOf}
 use Rattle.float.specs.Units.{unitsOf}
 use Rattle.scale.specs.Scale.{pow2Of, signed, chain, steps, scaledOf, ldexpOf}
+use Rattle.scaled.proofs.Digits.{units-under}
 use Rattle.demands.specs.Demands.{TimesPower}
-use Rattle.demands.proofs.Nearest.{units-below}
 use Rattle.demands.proofs.Doubles.{doubleOf, Held, held, double-value, itself}
 
 -- ---- a product with a power of two that is a double is that double
@@ -80,13 +80,13 @@ scale x (pos N) y t =
     let a = unitsOf x in
     let q : unitsOf y ≡ a * 2 ^ N = sym (mul-one (unitsOf y)) ∙ t .amount in
     ap (scaledOf false N) (itself x (t .from) ∙ ap (doubleOf b) (sym (mul-one a)))
-    ∙ raised b a N (held x (t .from)) (rw q at (units-below y (t .to)))
+    ∙ raised b a N (held x (t .from)) (rw q at (units-under y (t .to)))
     ∙ sym (itself y (t .to) ∙ ap₂ doubleOf (sym (t .sign)) q)
 scale x (negsuc N) y t =
     let b = isSignNegativeOf y in
     let a = unitsOf y in
     let q : unitsOf x ≡ a * 2 ^ suc N = sym (mul-one (unitsOf x)) ∙ sym (t .amount) in
     ap (scaledOf true (suc N)) (itself x (t .from) ∙ ap₂ doubleOf (t .sign) (q ∙ ap (λ (n : ℕ). a * 2 ^ n) (sym (sub-zero (suc N)))))
-    ∙ lowered b a (suc N) (held y (t .to)) (rw q at (units-below x (t .from)))
+    ∙ lowered b a (suc N) (held y (t .to)) (rw q at (units-under x (t .from)))
     ∙ ap (doubleOf b) (ap (λ (n : ℕ). a * 2 ^ n) (sub-self (suc N)) ∙ mul-one a)
     ∙ sym (itself y (t .to))

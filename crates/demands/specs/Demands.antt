@@ -8,12 +8,12 @@ use Prim.Native.Nat.{ℕ, suc, _+_, _-_, _*_, _^_, _≤_, _<_}
 use lib.IntN.{ℤ, pos, negsuc, _*ℤ_}
 use lib.Signed.{_≤ℤ_}
 use lib.ListN.{length, getD}
-use lib.Ieee.{Float, nan, inf, fin, binary64, fits, up, down, lt}
+use lib.Ieee.{Float, nan, inf, fin, up, down, lt}
 use lib.Ieee.Exact.{HasValue}
 use lib.Ieee.Positive.{positive}
 use Rattle.float.specs.Literals.{zero64, two64, four64}
-use Rattle.float.specs.Methods.{isFiniteOf, isSignNegativeOf}
-use Rattle.float.specs.Units.{unitsOf}
+use Rattle.float.specs.Methods.{isSignNegativeOf}
+use Rattle.float.specs.Units.{unitsOf, Finite}
 use Rattle.decode.specs.Exponent.{exponentOf, regularOf}
 use Rattle.scale.specs.Scale.{ldexpOf}
 use Rattle.sqrt.specs.Root.{sqrtOf}
@@ -38,11 +38,6 @@ use Rattle.crank.specs.Claims.{Cranks}
 use Rattle.demands.specs.Table.{Row, table, answerOf}
 
 -- ---- words
-
--- a finite double: a value of binary64 that is no NaN and no infinity
-pub record Finite (x : Float) : Type 0 where
-  pub held : fits binary64 x ≡ true
-  pub finite : isFiniteOf x ≡ true
 
 -- No double is nearer than r to a number of y units with the sign s, where `under h` says h / 2 ≤ y, and `over h` y ≤ h / 2: the middle of r and a smaller
 -- double is not above y, and the middle of r and a larger one is not below y. Sizes are enough: of two doubles that differ in the sign alone, the one with

@@ -42,6 +42,7 @@ answerOf (logarithm x) = number (log2GridOf x)
 answerOf (exponent a) = power (scaledOf a (length a - 1) .e)
 answerOf (list coeffs tol) = let r = realRootsOf coeffs tol in cond (eqb (r .number) 0) (roots (listOf (r .roots))) (refused (r .number))
 
+-- a call and its answer
 pub record Row : Type 0 where
   pub call : Call
   pub answer : Answer

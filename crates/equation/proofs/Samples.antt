@@ -7,9 +7,8 @@ use lib.ListN.{getD}
 use lib.Ieee.{Float, nan}
 use Rattle.facts.specs.Cond.{if-taken, if-left}
 use Rattle.facts.specs.Count.{countUp, up-turn, up-end}
-use Rattle.float.specs.Methods.{absOf, totalLeOf}
+use Rattle.float.specs.Methods.{absOf, totalLeOf, allFiniteOf}
 use Rattle.equation.specs.declared.Crank.{Crank}
-use Rattle.equation.specs.Quadratic.{areFinite}
 use Rattle.equation.specs.Crank.{fAtOf, sampledOf, sampleOf, quarticOf, noCrank, crankFrontOf}
 
 module _ (a2 b2 c1 d1 e : Float) where
@@ -38,18 +37,18 @@ module _ (a2 b2 c1 d1 e : Float) where
   unfolding quarticOf
   same-quartic k = refl
 
-  module _ {finite : Bool} (is-finite : finite ≡ areFinite (a2 ∷ b2 ∷ c1 ∷ d1 ∷ e ∷ [])) where
+  module _ {finite : Bool} (is-finite : finite ≡ allFiniteOf (a2 ∷ b2 ∷ c1 ∷ d1 ∷ e ∷ [])) where
     pub not-finite : {r : Crank} → finite ≡ false → r ≡ noCrank 1 → r ≡ crankFrontOf a2 b2 c1 d1 e
     unfolding crankFrontOf
     not-finite h is = if-left _ _ (sym is-finite ∙ h) is
 
-    module _ (k : ℕ) (q : List Float) {sound : Bool} (is-k : k ≡ sampleOf a2 b2 c1 d1 e) (is-q : q ≡ quarticOf a2 b2 c1 d1 e k) (is-sound : sound ≡ areFinite (each q))
+    module _ (k : ℕ) (q : List Float) {sound : Bool} (is-k : k ≡ sampleOf a2 b2 c1 d1 e) (is-q : q ≡ quarticOf a2 b2 c1 d1 e k) (is-sound : sound ≡ allFiniteOf (each q))
         (h : finite ≡ true) where
       the-quartic : q ≡ quarticOf a2 b2 c1 d1 e (sampleOf a2 b2 c1 d1 e)
       the-quartic = is-q ∙ ap (quarticOf a2 b2 c1 d1 e) is-k
 
-      the-coefficients : sound ≡ areFinite (quarticOf a2 b2 c1 d1 e (sampleOf a2 b2 c1 d1 e))
-      the-coefficients = is-sound ∙ ap (λ (l : List Float). areFinite (each l)) the-quartic ∙ ap areFinite (same-quartic (sampleOf a2 b2 c1 d1 e))
+      the-coefficients : sound ≡ allFiniteOf (quarticOf a2 b2 c1 d1 e (sampleOf a2 b2 c1 d1 e))
+      the-coefficients = is-sound ∙ ap (λ (l : List Float). allFiniteOf (each l)) the-quartic ∙ ap allFiniteOf (same-quartic (sampleOf a2 b2 c1 d1 e))
 
       pub made : sound ≡ true → record { number = 0; k = k; q = q } ≡ crankFrontOf a2 b2 c1 d1 e
       unfolding crankFrontOf

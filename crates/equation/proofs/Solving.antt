@@ -10,12 +10,12 @@ use lib.Ieee.{Float, nan, inf, fin, up, down, lt, le, ofBits}
 use lib.Ieee.Fits.{up-pos}
 use Rattle.facts.specs.Cond.{if-taken, if-left}
 use Rattle.float.specs.Literals.{zero64}
-use Rattle.float.specs.Methods.{absOf, copysignOf}
+use Rattle.float.specs.Methods.{absOf, copysignOf, allFiniteOf}
 use Rattle.sqrt.specs.Root.{sqrtOf}
 use Rattle.equation.specs.declared.QuadraticSolution.{QuadraticSolution}
 use Rattle.equation.specs.declared.QuadraticSolution.the-variants.{One, Empty}
 use Rattle.equation.specs.declared.QuadraticAnswer.{QuadraticAnswer}
-use Rattle.equation.specs.Quadratic.{valuesOf, midOf, discOf, isGrazingOf, twoOf, solveQuadraticOf, areFinite, refusedBy, quadraticOf}
+use Rattle.equation.specs.Quadratic.{valuesOf, midOf, discOf, isGrazingOf, twoOf, solveQuadraticOf, refusedBy, quadraticOf}
 
 -- a number not below 0 and its size have one root but for the sign of a zero
 signed-root : (x y : Float) → lt x zero64 ≡ false → copysignOf (sqrtOf (absOf x)) y ≡ copysignOf (sqrtOf x) y
@@ -57,15 +57,15 @@ module _ (a b c confusion angular : Float) {s size root : Float} {grazing : Bool
   unfolding solveQuadraticOf
   solved-two h k is = if-left _ _ not-linear (if-left _ _ (sym the-test ∙ h) (if-left _ _ k (is ∙ same-two k)))
 
-module _ (a b c confusion angular : Float) {finite : Bool} (is-finite : finite ≡ areFinite (a ∷ b ∷ c ∷ [])) where
+module _ (a b c confusion angular : Float) {finite : Bool} (is-finite : finite ≡ allFiniteOf (a ∷ b ∷ c ∷ [])) where
   pub not-finite : {r : QuadraticAnswer} → finite ≡ false → r ≡ refusedBy 1 → r ≡ quadraticOf a b c confusion angular
   unfolding quadraticOf
   not-finite h is = if-left _ _ (sym is-finite ∙ h) is
 
-  module _ (s : QuadraticSolution) {sound : Bool} (is-s : s ≡ solveQuadraticOf a b c confusion angular) (is-sound : sound ≡ areFinite (valuesOf s))
+  module _ (s : QuadraticSolution) {sound : Bool} (is-s : s ≡ solveQuadraticOf a b c confusion angular) (is-sound : sound ≡ allFiniteOf (valuesOf s))
       (h : finite ≡ true) where
-    the-places : sound ≡ areFinite (valuesOf (solveQuadraticOf a b c confusion angular))
-    the-places = is-sound ∙ ap (λ (t : QuadraticSolution). areFinite (valuesOf t)) is-s
+    the-places : sound ≡ allFiniteOf (valuesOf (solveQuadraticOf a b c confusion angular))
+    the-places = is-sound ∙ ap (λ (t : QuadraticSolution). allFiniteOf (valuesOf t)) is-s
 
     pub answered : sound ≡ true → record { number = 0; solution = s } ≡ quadraticOf a b c confusion angular
     unfolding quadraticOf

@@ -6,11 +6,11 @@ use lib.ListN.{getD, replicate}
 use lib.Ieee.{Float, nan, binary64, add, sub, mul, neg}
 use Rattle.facts.specs.Count.{countUp}
 use Rattle.float.specs.Literals.{zero64, rootHalf64, one64, two64, four64, six64}
-use Rattle.float.specs.Methods.{absOf, totalLeOf}
+use Rattle.float.specs.Methods.{absOf, totalLeOf, allFiniteOf}
 use Rattle.equation.specs.declared.CosSin.{CosSin}
 use Rattle.equation.specs.declared.Crank.{Crank}
-use Rattle.equation.specs.Quadratic.{areFinite}
 
+-- an entry of UNIT: (cos, sin)
 abbrev pub cosSin : Float → Float → CosSin
 cosSin c s = record { cos = c; sin = s }
 
@@ -71,4 +71,4 @@ unfoldable pub crankFrontOf : Float → Float → Float → Float → Float → 
 crankFrontOf a2 b2 c1 d1 e =
     let k = sampleOf a2 b2 c1 d1 e in
     let q = quarticOf a2 b2 c1 d1 e k in
-    cond (areFinite (a2 ∷ b2 ∷ c1 ∷ d1 ∷ e ∷ [])) (cond (areFinite q) (record { number = 0; k = k; q = q }) (noCrank 5)) (noCrank 1)
+    cond (allFiniteOf (a2 ∷ b2 ∷ c1 ∷ d1 ∷ e ∷ [])) (cond (allFiniteOf q) (record { number = 0; k = k; q = q }) (noCrank 5)) (noCrank 1)

@@ -1,11 +1,11 @@
 -- `QuadraticSolution`, `quadratic_centre` and `solve_quadratic` of equation.rs, and the quadratic that document 01 answers or refuses. Tolerances are taken as they are: a NaN
 -- or a negative one is not read as 0. Definitions only.
-use mathlib.Core.Bool.{Bool, true, cond, _&&_}
+use mathlib.Core.Bool.{Bool, cond, _&&_}
 use mathlib.Core.List.{List, [], _∷_}
 use Prim.Native.Nat.{ℕ}
 use lib.Ieee.{Float, binary64, add, sub, mul, div, neg, lt, le}
 use Rattle.float.specs.Literals.{zero64, epsilon64, half64, one64, two64, four64}
-use Rattle.float.specs.Methods.{absOf, isFiniteOf, copysignOf, minOf, maxOf}
+use Rattle.float.specs.Methods.{absOf, isFiniteOf, copysignOf, minOf, maxOf, allFiniteOf}
 use Rattle.sqrt.specs.Root.{sqrtOf}
 use Rattle.equation.specs.declared.QuadraticSolution.{QuadraticSolution}
 use Rattle.equation.specs.declared.QuadraticSolution.the-variants.{Two, One, Linear, Degenerate, Empty}
@@ -94,11 +94,6 @@ solveQuadraticOf a b c confusion angular =
 
 -- ---- what document 01 refuses
 
--- every number of a list is finite
-abbrev pub areFinite : List Float → Bool
-areFinite [] = true
-areFinite (x ∷ l) = isFiniteOf x && areFinite l
-
 -- a refusal: its number, and no answer
 abbrev pub refusedBy : ℕ → QuadraticAnswer
 refusedBy n = record { number = n; solution = Empty }
@@ -107,4 +102,4 @@ refusedBy n = record { number = n; solution = Empty }
 unfoldable pub quadraticOf : Float → Float → Float → Float → Float → QuadraticAnswer
 quadraticOf a b c confusion angular =
     let s = solveQuadraticOf a b c confusion angular in
-    cond (areFinite (a ∷ b ∷ c ∷ [])) (cond (areFinite (valuesOf s)) (record { number = 0; solution = s }) (refusedBy 5)) (refusedBy 1)
+    cond (allFiniteOf (a ∷ b ∷ c ∷ [])) (cond (allFiniteOf (valuesOf s)) (record { number = 0; solution = s }) (refusedBy 5)) (refusedBy 1)

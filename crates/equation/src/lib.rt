@@ -6,8 +6,8 @@ ghost use mathlib.Core.List.{[], _∷_};
 ghost use Prim.Native.Nat.{_<_};
 ghost use lib.ListN.{getD};
 ghost use lib.Ieee.{nan};
-ghost use Rattle.float.specs.Methods.{isFiniteOf};
-ghost use Rattle.equation.specs.Quadratic.{numberOf, valuesOf, shiftedOf, touchingAtOf, quadraticCentreOf, linearOf, isGrazingOf, twoOf, solveQuadraticOf, areFinite, refusedBy, quadraticOf};
+ghost use Rattle.float.specs.Methods.{isFiniteOf, allFiniteOf};
+ghost use Rattle.equation.specs.Quadratic.{numberOf, valuesOf, shiftedOf, touchingAtOf, quadraticCentreOf, linearOf, isGrazingOf, twoOf, solveQuadraticOf, refusedBy, quadraticOf};
 ghost use Rattle.equation.specs.Crank.{unitOf, fAtOf, sampleOf, quarticOf, noCrank, crankFrontOf};
 
 pub enum QuadraticSolution {
@@ -23,7 +23,7 @@ pub enum QuadraticSolution {
 }
 
 fn both_finite(x: f64, y: f64) -> bool
-    ensures { λ r. ⌜ r ≡ areFinite (x ∷ y ∷ []) ⌝ }
+    ensures { λ r. ⌜ r ≡ allFiniteOf (x ∷ y ∷ []) ⌝ }
 {
     if float::is_finite(x) {
         return float::is_finite(y);
@@ -82,7 +82,7 @@ impl QuadraticSolution {
 
     // Whether all its places are finite.
     pub fn is_finite(self) -> bool
-        ensures { λ r. ⌜ r ≡ areFinite (valuesOf self) ⌝ }
+        ensures { λ r. ⌜ r ≡ allFiniteOf (valuesOf self) ⌝ }
     {
         match self {
             QuadraticSolution::Two(x, y) => both_finite(x, y),
@@ -209,7 +209,7 @@ fn refused(number: u32) -> QuadraticAnswer
 }
 
 fn three_finite(a: f64, b: f64, c: f64) -> bool
-    ensures { λ r. ⌜ r ≡ areFinite (a ∷ b ∷ c ∷ []) ⌝ }
+    ensures { λ r. ⌜ r ≡ allFiniteOf (a ∷ b ∷ c ∷ []) ⌝ }
 {
     if both_finite(a, b) {
         return float::is_finite(c);
@@ -327,7 +327,7 @@ fn no_crank(number: u32) -> Crank
 }
 
 fn five_finite(a: f64, b: f64, c: f64, d: f64, e: f64) -> bool
-    ensures { λ r. ⌜ r ≡ areFinite (a ∷ b ∷ c ∷ d ∷ e ∷ []) ⌝ }
+    ensures { λ r. ⌜ r ≡ allFiniteOf (a ∷ b ∷ c ∷ d ∷ e ∷ []) ⌝ }
 {
     if both_finite(a, b) {
         return three_finite(c, d, e);

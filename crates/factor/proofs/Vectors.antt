@@ -12,7 +12,7 @@ use Rattle.cbrt.specs.Root.{cbrtOf}
 use Rattle.angle.specs.Third.{thirdAngleOf}
 use Rattle.horner.proofs.Vectors.{computes as evaluates}
 use Rattle.square.specs.Square.{sizesOf, scaleOf, leastOf, largerOf, pivotOf, swapPivotOf, loseOf, reduceStep, reduceOf, restOf, substituteStep, substituteOf, solveFrom, solveSquareOf}
-use Rattle.refine.specs.Refine.{overOf, weightedOf, normOf, isSettledOf, weighRowOf, weighRowsOf, allFiniteOf, advancedOf, trialOf, noLessOf, keptOf, nextOf, refineOf}
+use Rattle.refine.specs.Refine.{overOf, weightedOf, normOf, isSettledOf, weighRowOf, weighRowsOf, advancedOf, trialOf, noLessOf, keptOf, nextOf, refineOf}
 use Rattle.refine.specs.Newton.{flatOf, noGainOf, newtonNext, newtonCubicOf}
 use Rattle.factor.specs.declared.LoneRoot.the-variants.{At, None}
 use Rattle.factor.specs.Cubic.{oneRootOf, threeRootsOf, depressedRootsOf, cubicClosedFormOf, isolationOf, betterOf, mostIsolatedOf, cubicFactorOf}
@@ -21,7 +21,7 @@ use Rattle.factor.specs.Isolated.{farRootOf, rootPairOf, isBetterOf, jud
 
 -- what has to unfold for the definitions to compute: a fact says `unfolding computes`
 unfoldable pub computes : ℕ
-unfolding evaluates Option·elim add sub mul div neg lt le eq ne isNan ofBits countUp countDown turnsOf absOf isFiniteOf isSignNegativeOf withSign copysignOf minOf maxOf clampOf totalLeOf powiOf sqrtOf cbrtOf thirdAngleOf sizesOf scaleOf leastOf largerOf pivotOf swapPivotOf loseOf reduceStep reduceOf restOf substituteStep substituteOf solveFrom solveSquareOf overOf weightedOf normOf isSettledOf weighRowOf weighRowsOf allFiniteOf advancedOf trialOf noLessOf keptOf nextOf refineOf flatOf noGainOf newtonNext newtonCubicOf oneRootOf threeRootsOf depressedRootsOf cubicClosedFormOf isolationOf betterOf mostIsolatedOf cubicFactorOf largestOf resolventOf isClearOf ferrariOf quarticFactorOf farRootOf rootPairOf isBetterOf judgedOf bestRootOf isolatedRootOf peelRootOf
+unfolding evaluates Option·elim add sub mul div neg lt le eq ne isNan ofBits countUp countDown turnsOf absOf isFiniteOf isSignNegativeOf withSign copysignOf minOf maxOf clampOf totalLeOf powiOf sqrtOf cbrtOf thirdAngleOf sizesOf scaleOf leastOf largerOf pivotOf swapPivotOf loseOf reduceStep reduceOf restOf substituteStep substituteOf solveFrom solveSquareOf overOf weightedOf normOf isSettledOf weighRowOf weighRowsOf advancedOf trialOf noLessOf keptOf nextOf refineOf flatOf noGainOf newtonNext newtonCubicOf oneRootOf threeRootsOf depressedRootsOf cubicClosedFormOf isolationOf betterOf mostIsolatedOf cubicFactorOf largestOf resolventOf isClearOf ferrariOf quarticFactorOf farRootOf rootPairOf isBetterOf judgedOf bestRootOf isolatedRootOf peelRootOf
 computes = 0
 
 abbrev bits : ℕ → Float

@@ -39,6 +39,7 @@ rootPairOf al be =
 abbrev pub distOf : Float → Float → Float → Float → Float
 distOf re im re' im' = add binary64 (powiOf (sub binary64 re re') 2) (powiOf (sub binary64 im im') 2)
 
+-- of the roots i and j
 abbrev pub distAt : List Float → List Float → ℕ → ℕ → Float
 distAt re im i j = distOf (getD re i nan) (getD im i nan) (getD re j nan) (getD im j nan)
 

@@ -35,8 +35,8 @@ promised : (g : List Float) (p : Monic) (small : ℕ) → small ≤ 4 → usable
 unfolding scaledOf
 promised g p small D U =
     let s = quotientOf g p small in
-    let F = usable-finite g p small U in
-    let P = usable-last g p small U in
+    let F = usable-finite g p small D U in
+    let P = usable-last g p small D U in
     record { held = f-held s small D F P; leading = f-leading s small D F P; small = f-small s small D F P }
 
 pub second-promised : (sc : Scaled) (out : Factors) → sc .d ≤ 4 → secondOf sc out .found ≡ true → Promised (secondOf sc out .sub)

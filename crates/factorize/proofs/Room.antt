@@ -8,7 +8,7 @@ use Rattle.facts.specs.Sort.{sortedBy}
 use Rattle.scaled.specs.declared.Scaled.{Scaled}
 use Rattle.factors.specs.declared.Factors.{Factors}
 use Rattle.factors.specs.Factors.{noFactors, degreeOf}
-use Rattle.factors.specs.Large.{unitsOf, noSmaller}
+use Rattle.factors.specs.Large.{factorUnitsOf, noSmaller}
 use Rattle.factors.specs.Quotient.{backLin, backQuad}
 use Rattle.factors.proofs.Room.{RoomForAll, large-room, lins-room, quads-room}
 use Rattle.factorize.specs.Factorize.{outOf, Second, secondOf, factorsFrom}
@@ -24,7 +24,7 @@ module _ (left : ℕ) (sc : Scaled) (D : sc .d ≤ 4) where
   out = outOf (sc .g) (sc .d)
 
   -- each unit finds room among the large factors, also past the one where the loop ends
-  pub units-find-room : RoomForAll noFactors (sortedBy noSmaller (unitsOf out))
+  pub units-find-room : RoomForAll noFactors (sortedBy noSmaller (factorUnitsOf out))
   units-find-room = large-room out (omega (arith, out-degree (sc .g) (sc .d) D))
 
   pub factors-find-room : secondOf sc out .found ≡ true → Merges (secondOf sc out) (factorsFrom left (secondOf sc out .sub))

@@ -1,6 +1,6 @@
 -- Worked values: what factorize of poly.rs gives in the reference build, computed from the definitions. Assumes nothing.
 use mathlib.Core.Path.{_≡_, refl}
-use mathlib.Core.List.{List, [], _∷_, flatMap}
+use mathlib.Core.List.{[], _∷_, flatMap}
 use Prim.Native.Nat.{ℕ}
 use lib.IntN.{pos}
 use lib.Ieee.{Float, binary64, ofBits, ofInt, size}
@@ -17,13 +17,13 @@ use Rattle.scaled.specs.Scaled.{topOf, shiftOf, coefficientOf, coefficientsOf, 
 use Rattle.split.specs.Hull.{crossOf, poppedOf, hullStep, hullOf, magOf}
 use Rattle.split.specs.Gap.{exp2Of, splitFrom, magnitudeSplitOf}
 use Rattle.factors.specs.Factors.{quadOf, pushLinOf, pushQuadOf}
-use Rattle.factors.specs.Large.{quadUnitsOf, unitsOf, endsOf, withUnit, largeFrom, largeOf}
-use Rattle.factors.specs.Quotient.{termOf, nextAt, mulOf, productOf, accOf, quotientOf, finiteBelow, usableOf, mergedOf}
+use Rattle.factors.specs.Large.{quadUnitsOf, factorUnitsOf, endsOf, withUnit, largeFrom, largeOf}
+use Rattle.factors.specs.Quotient.{termOf, nextAt, mulOf, productOf, accOf, quotientOf, usableOf, mergedOf}
 use Rattle.factorize.specs.Factorize.{cubicFactorsOf, pairedOf, quarticFactorsOf, outOf, secondOf, factorsFrom, factorizeOf}
 
 -- what has to unfold for the definitions to compute: a fact says `unfolding computes`
 unfoldable pub computes : ℕ
-unfolding factors-compute flatMap ofInt size insertedBy insertedAll sortedBy floorOf chain timesPowerOf ldexpOf greatest exponentOf heldAt heldBelow tooSmall scaleExponentOf topOf shiftOf coefficientOf coefficientsOf monicAt monicOf scaledOf crossOf poppedOf hullStep hullOf magOf exp2Of splitFrom magnitudeSplitOf pushLinOf pushQuadOf quadUnitsOf unitsOf endsOf withUnit largeFrom largeOf termOf nextAt mulOf productOf accOf quotientOf finiteBelow usableOf mergedOf cubicFactorsOf pairedOf quarticFactorsOf outOf secondOf factorsFrom factorizeOf
+unfolding factors-compute flatMap ofInt size insertedBy insertedAll sortedBy floorOf chain timesPowerOf ldexpOf greatest exponentOf heldAt heldBelow tooSmall scaleExponentOf topOf shiftOf coefficientOf coefficientsOf monicAt monicOf scaledOf crossOf poppedOf hullStep hullOf magOf exp2Of splitFrom magnitudeSplitOf pushLinOf pushQuadOf quadUnitsOf factorUnitsOf endsOf withUnit largeFrom largeOf termOf nextAt mulOf productOf accOf quotientOf usableOf mergedOf cubicFactorsOf pairedOf quarticFactorsOf outOf secondOf factorsFrom factorizeOf
 computes = 0
 
 abbrev bits : ℕ → Float

@@ -32,6 +32,7 @@ pairedOf b c d e quads (At r) =
     pushQuadOf (pushLinOf (pushLinOf noFactors (p .r)) (k .r)) (k .e) (k .f)
 pairedOf b c d e quads None = pushQuadOf (pushQuadOf noFactors (quads .al) (quads .be)) (quads .ga) (quads .de)
 
+-- the same, from the quartic's two quadratics and its lone root
 unfoldable pub quarticFactorsOf : Float → Float → Float → Float → Factors
 quarticFactorsOf b c d e = let quads = quarticFactorOf b c d e in pairedOf b c d e quads (isolatedRootOf quads)
 

@@ -9,8 +9,7 @@ use lib.ListN.{length, getD, take, length-set}
 use lib.Seq.{take-suc}
 use lib.Ieee.{Float, nan, binary64, div, lt, isNan}
 use Rattle.facts.specs.Cond.{either-way}
-use Rattle.facts.specs.Sort.{sumOf}
-use Rattle.roots.proofs.Arrays.{take-pushed}
+use Rattle.facts.specs.Lists.{sumOf, take-pushed, sum-append}
 use Rattle.float.specs.Literals.{zero64}
 use Rattle.float.specs.Methods.{absOf}
 use Rattle.sqrt.specs.Root.{sqrtOf}
@@ -21,7 +20,7 @@ use Rattle.factors.specs.declared.Unit.{Unit}
 use Rattle.factors.specs.declared.Units.{Units}
 use Rattle.factors.specs.declared.Factors.{Factors}
 use Rattle.factors.specs.Factors.{quadOf, degreeOf}
-use Rattle.factors.specs.Large.{unitOf, realUnit, quadUnitsOf, unitsOf, noUnits, addedOf, allAdded}
+use Rattle.factors.specs.Large.{unitOf, realUnit, quadUnitsOf, factorUnitsOf, noUnits, addedOf, allAdded}
 
 -- ---- the units of one quadratic factor
 module _ (u : Units) (al be disc : Float) (D : disc ≡ discriminantOf al be) where
@@ -67,10 +66,6 @@ one-or-two x = go (isNan (x .be))
     go true = (omega arith, omega arith)
     go false = (omega arith, omega arith)
 
-degrees-append : (l m : List Unit) → degrees (l ++ m) ≡ degrees l + degrees m
-degrees-append [] m = omega arith
-degrees-append (x ∷ l) m = omega (arith, degrees-append l m)
-
 length-degrees : (l : List Unit) → length l ≤ degrees l
 length-degrees [] = omega arith
 length-degrees (x ∷ l) = omega (arith, one-or-two x .0, length-degrees l)
@@ -112,24 +107,24 @@ splits-degrees : (quad : List Quad) (k : ℕ) → degrees (splits quad k) ≤ 2 
 unfolding flatMap splits
 splits-degrees quad zero = omega arith
 splits-degrees [] (suc k) = omega arith
-splits-degrees (q ∷ quad) (suc k) = omega (arith, splits-degrees quad k, quad-degrees q, degrees-append (quadUnitsOf q) (splits quad k))
+splits-degrees (q ∷ quad) (suc k) = omega (arith, splits-degrees quad k, quad-degrees q, sum-append unitDegree (quadUnitsOf q) (splits quad k))
 
 both-degrees : (lin : List Float) (n : ℕ) (quad : List Quad) (k : ℕ) → degrees (reals lin n ++ splits quad k) ≤ n + 2 * k
-both-degrees lin n quad k = omega (arith, degrees-append (reals lin n) (splits quad k), reals-degrees lin n, splits-degrees quad k)
+both-degrees lin n quad k = omega (arith, sum-append unitDegree (reals lin n) (splits quad k), reals-degrees lin n, splits-degrees quad k)
 
-pub units-are : (f : Factors) → reals (f .lin) (f .nlin) ++ splits (f .quad) (f .nquad) ≡ unitsOf f
-unfolding reals splits unitsOf
+pub units-are : (f : Factors) → reals (f .lin) (f .nlin) ++ splits (f .quad) (f .nquad) ≡ factorUnitsOf f
+unfolding reals splits factorUnitsOf
 units-are f = refl
 
-pub units-degrees : (f : Factors) → degrees (unitsOf f) ≤ degreeOf f
+pub units-degrees : (f : Factors) → degrees (factorUnitsOf f) ≤ degreeOf f
 units-degrees f = subst (λ (l : List Unit). degrees l ≤ degreeOf f) (units-are f) (both-degrees (f .lin) (f .nlin) (f .quad) (f .nquad))
 
 -- how many the array holds
 pub added-room : (l : List Unit) (u : Units) → u ≡ allAdded noUnits l → u .n ≤ degrees l
 added-room l u E = omega (arith, ap (λ (x : Units). x .n) E ∙ added-count noUnits l, length-degrees l)
 
-pub units-count : (f : Factors) → length (unitsOf f) ≤ degreeOf f
-units-count f = omega (arith, length-degrees (unitsOf f), units-degrees f)
+pub units-count : (f : Factors) → length (factorUnitsOf f) ≤ degreeOf f
+units-count f = omega (arith, length-degrees (factorUnitsOf f), units-degrees f)
 
 -- ---- the two loops
 module _ (lin : List Float) (i : ℕ) (u : Units) (E : u ≡ allAdded noUnits (reals lin i)) where

@@ -1,31 +1,30 @@
 -- What `usable` says of a quotient: s[0] to s[small] are finite doubles, and s[small] is not zero. Assumes nothing.
-use mathlib.Core.Path.{_≡_, subst}
-use mathlib.Core.Bool.{Bool, true, false, _&&_, false≢true}
+use mathlib.Core.Path.{_≡_, refl, sym, ap, _∙_}
+use mathlib.Core.Bool.{true, false, _&&_, false≢true}
 use mathlib.Core.List.{List, [], _∷_}
-use mathlib.Core.Logic.{⊎-elim}
 use Prim.Native.Nat.{ℕ, zero, suc, _+_, _-_, _≤_, _<_}
 use native.Mathlib.Omega.{arith}
 use native.Mathlib.Nat.{zero-lt-suc}
 use borrow.Author.Tests.{not-true}
 use lib.Dec.{T}
 use lib.IntN.{pos}
-use lib.ListN.{getD, set, replicate}
+use lib.ListN.{length, getD, set, take, replicate, length-set}
+use lib.Seq.{getD-take, length-take-le}
 use lib.Ieee.{Float, nan, inf, fin, binary64, fits, eq, ne, div, ofBits}
 use lib.Ieee.Bits.{is-true, ofBits-fits}
 use lib.Ieee.Fits.{nan-fits, div-fits}
-use Rattle.algebra.specs.NatOrder.{le-or-lt}
 use Rattle.facts.specs.Cond.{first-holds, second-holds}
 use Rattle.facts.specs.Count.{countUp}
-use Rattle.facts.specs.Sort.{AllOf}
+use Rattle.facts.specs.Lists.{AllOf, all-at}
 use Rattle.float.specs.Literals.{zero64}
-use Rattle.float.specs.Methods.{isFiniteOf}
-use Rattle.float.specs.Units.{unitsOf}
+use Rattle.float.specs.Methods.{isFiniteOf, allFiniteOf}
+use Rattle.float.specs.Units.{Finite, unitsOf}
+use Rattle.float.proofs.Bits.{of-true}
+use Rattle.float.proofs.Finite.{finite-at}
 use Rattle.decode.proofs.Class.{not-zero}
 use Rattle.decode.proofs.Fields.{units-pos}
-use Rattle.refine.specs.Refine.{allFiniteStep}
-use Rattle.scaled.proofs.Digits.{Finite, of-true}
 use Rattle.factors.specs.declared.Monic.{Monic}
-use Rattle.factors.specs.Quotient.{accOf, quotientStep, quotientOf, finiteBelow, usableOf}
+use Rattle.factors.specs.Quotient.{accOf, quotientStep, quotientOf, usableOf}
 
 -- ---- the quotient holds doubles
 abbrev Doubles : List Float → Type 0
@@ -36,40 +35,21 @@ doubles-set [] i x h t = h
 doubles-set (y ∷ s) zero x h t = (t, h .1)
 doubles-set (y ∷ s) (suc i) x h t = (h .0, doubles-set s i x (h .1) t)
 
-double-at : (s : List Float) (i : ℕ) → Doubles s → T (fits binary64 (getD s i nan))
-double-at [] i h = nan-fits binary64
-double-at (x ∷ s) zero h = h .0
-double-at (x ∷ s) (suc i) h = double-at s i (h .1)
-
-quotient-doubles : (g : List Float) (p : Monic) (small : ℕ) → Doubles (quotientOf g p small)
+-- and five of them
+quotient-doubles : (g : List Float) (p : Monic) (small : ℕ) → Doubles (quotientOf g p small) × (length (quotientOf g p small) ≡ 5)
 unfolding quotientOf countUp
-quotient-doubles g p small = go (small + 1) (replicate 5 zero64) (zeros 5)
+quotient-doubles g p small = go (small + 1) (replicate 5 zero64) (zeros 5) refl
   where
     zeros : (n : ℕ) → Doubles (replicate n zero64)
     zeros zero = tt
     zeros (suc n) = (ofBits-fits binary64 0, zeros n)
 
-    go : (k : ℕ) (s : List Float) → Doubles s → Doubles (countUp (small + 1) (quotientStep g p) k s)
-    go zero s h = h
-    go (suc k) s h = go k (quotientStep g p (small + 1 - suc k) s) (doubles-set s (small + 1 - suc k) (div binary64 (accOf g p s (small + 1 - suc k)) (getD (p .l) 0 nan)) h (div-fits binary64 (accOf g p s (small + 1 - suc k)) (getD (p .l) 0 nan)))
-
--- ---- all of them finite: k are left
-finite-from : (s : List Float) (n k : ℕ) (all : Bool) → countUp n (allFiniteStep s) k all ≡ true → (all ≡ true) × ((i : ℕ) → n ≤ i + k → i < n → isFiniteOf (getD s i nan) ≡ true)
-unfolding countUp
-finite-from s n zero all h = (h, λ i a b. absurd (none i n a b))
-  where
-    none : (i n : ℕ) → n ≤ i + 0 → i < n → ⊥
-    none i n a b = omega arith
-finite-from s n (suc k) all h = go (finite-from s n k (allFiniteStep s (n - suc k) all) h)
-  where
-    here : Bool
-    here = isFiniteOf (getD s (n - suc k) nan)
-
-    go : ((all && here) ≡ true) × ((i : ℕ) → n ≤ i + k → i < n → isFiniteOf (getD s i nan) ≡ true) → (all ≡ true) × ((i : ℕ) → n ≤ i + suc k → i < n → isFiniteOf (getD s i nan) ≡ true)
-    go r = (first-holds all here (r .0), λ i a b. ⊎-elim (λ l. r .1 i l b) (λ l. last i a l) (le-or-lt n (i + k)))
-      where
-        last : (i : ℕ) → n ≤ i + suc k → i + k < n → isFiniteOf (getD s i nan) ≡ true
-        last i a l = subst (λ (j : ℕ). isFiniteOf (getD s j nan) ≡ true) (let e : n - suc k ≡ i = omega arith in e) (second-holds all here (r .0))
+    go : (k : ℕ) (s : List Float) → Doubles s → length s ≡ 5 → Doubles (countUp (small + 1) (quotientStep g p) k s) × (length (countUp (small + 1) (quotientStep g p) k s) ≡ 5)
+    go zero s h l = (h, l)
+    go (suc k) s h l =
+        let i = small + 1 - suc k in
+        let x = div binary64 (accOf g p s i) (getD (p .l) 0 nan) in
+        go k (set s i x) (doubles-set s i x h (div-fits binary64 (accOf g p s i) (getD (p .l) 0 nan))) (length-set s i x ∙ l)
 
 -- ---- a finite double that is not zero has units
 pub some-units : (x : Float) → Finite x → ne x zero64 ≡ true → 0 < unitsOf x
@@ -80,20 +60,23 @@ some-units (fin s zero e) F h = absurd (not-zero s e (not-true (eq (fin s 0 e) (
 some-units (fin s (suc m) e) F h = units-pos s (suc m) e (of-true (F .held)) (zero-lt-suc m)
 
 -- ---- both, of a quotient
-module _ (g : List Float) (p : Monic) (small : ℕ) (U : usableOf (quotientOf g p small) small ≡ true) where
+module _ (g : List Float) (p : Monic) (small : ℕ) (D : small ≤ 4) (U : usableOf (quotientOf g p small) small ≡ true) where
   abbrev s : List Float
   s = quotientOf g p small
 
   pub usable-finite : (i : ℕ) → i ≤ small → Finite (getD s i nan)
-  unfolding usableOf finiteBelow
+  unfolding usableOf
   usable-finite i h =
+      let doubles = quotient-doubles g p small in
+      let all = first-holds (allFiniteOf (take (small + 1) s)) (ne (getD s 0 nan) zero64 && ne (getD s small nan) zero64) U in
+      let there = length-take-le (small + 1) s (omega (arith, doubles .1)) in
       record {
-        held = is-true (fits binary64 (getD s i nan)) (double-at s i (quotient-doubles g p small));
-        finite = finite-from s (small + 1) (small + 1) true (first-holds (finiteBelow s (small + 1)) (ne (getD s 0 nan) zero64 && ne (getD s small nan) zero64) U) .1 i (omega arith) (omega arith);
+        held = is-true (fits binary64 (getD s i nan)) (all-at (λ (x : Float). T (fits binary64 x)) s nan i (λ out. nan-fits binary64) (doubles .0));
+        finite = sym (ap isFiniteOf (getD-take (small + 1) s i nan (omega arith))) ∙ finite-at (take (small + 1) s) all i (omega (arith, there));
       }
 
   pub usable-last : 0 < unitsOf (getD s small nan)
   unfolding usableOf
   usable-last =
       some-units (getD s small nan) (usable-finite small (omega arith))
-      (second-holds (ne (getD s 0 nan) zero64) (ne (getD s small nan) zero64) (second-holds (finiteBelow s (small + 1)) (ne (getD s 0 nan) zero64 && ne (getD s small nan) zero64) U))
+      (second-holds (ne (getD s 0 nan) zero64) (ne (getD s small nan) zero64) (second-holds (allFiniteOf (take (small + 1) s)) (ne (getD s 0 nan) zero64 && ne (getD s small nan) zero64) U))

@@ -16,7 +16,7 @@ use Rattle.float.specs.Literals.{epsilon64}
 use Rattle.factors.specs.declared.Factors.{Factors}
 use Rattle.factors.specs.declared.Unit.{Unit}
 use Rattle.factors.specs.Factors.{quadOf, noFactors, pushLinOf, pushQuadOf, degreeOf, Sized}
-use Rattle.factors.specs.Large.{unitsOf, noSmaller, endsOf, withUnit, largeFrom, largeOf}
+use Rattle.factors.specs.Large.{factorUnitsOf, noSmaller, endsOf, withUnit, largeFrom, largeOf}
 use Rattle.factors.specs.Quotient.{backLin, backQuad, mergedOf}
 
 -- ---- no more than the arrays hold
@@ -53,7 +53,7 @@ from-sized want least f (x ∷ l) S = either-way Sized (endsOf x (degreeOf f) wa
 
 pub large-sized : (f : Factors) (want : ℕ) (threshold : Float) → Sized (largeOf f want threshold)
 unfolding largeOf
-large-sized f want threshold = from-sized want (mul binary64 threshold epsilon64) noFactors (sortedBy noSmaller (unitsOf f)) (none-sized noFactors refl)
+large-sized f want threshold = from-sized want (mul binary64 threshold epsilon64) noFactors (sortedBy noSmaller (factorUnitsOf f)) (none-sized noFactors refl)
 
 -- ---- a push that finds room
 pub record Counted (f : Factors) (lins quads : ℕ) : Type 0 where

@@ -12,7 +12,7 @@ use Rattle.facts.specs.Sort.{sortedBy, sum-sorted}
 use Rattle.factors.specs.declared.Factors.{Factors}
 use Rattle.factors.specs.declared.Unit.{Unit as RootUnit}
 use Rattle.factors.specs.Factors.{noFactors, pushLinOf, pushQuadOf, degreeOf}
-use Rattle.factors.specs.Large.{unitsOf, noSmaller, withUnit}
+use Rattle.factors.specs.Large.{factorUnitsOf, noSmaller, withUnit}
 use Rattle.factors.specs.Quotient.{backLin, backQuad}
 use Rattle.factors.proofs.Added.{unitDegree, degrees, units-degrees}
 use Rattle.factors.proofs.Counts.{Counted, lin-counted, quad-counted, lins-counted, quads-counted}
@@ -44,8 +44,8 @@ all-room f [] h = tt
 all-room f (x ∷ l) h = let w = with-degree f x (omega arith) in (w .0, all-room (withUnit f x) l (omega (arith, w .1)))
 
 -- the loop over the sorted units, which may end before the last
-pub large-room : (out : Factors) → degreeOf out ≤ 4 → RoomForAll noFactors (sortedBy noSmaller (unitsOf out))
-large-room out D = all-room noFactors (sortedBy noSmaller (unitsOf out)) (omega (arith, sum-sorted noSmaller unitDegree (unitsOf out), units-degrees out))
+pub large-room : (out : Factors) → degreeOf out ≤ 4 → RoomForAll noFactors (sortedBy noSmaller (factorUnitsOf out))
+large-room out D = all-room noFactors (sortedBy noSmaller (factorUnitsOf out)) (omega (arith, sum-sorted noSmaller unitDegree (factorUnitsOf out), units-degrees out))
 
 -- ---- merging: i linear factors are in, or all of them and i quadratic ones
 module _ (large inner : Factors) (e : ℤ) (R : degreeOf large + degreeOf inner ≤ 4) where

@@ -3,8 +3,9 @@ use mathlib.Core.Path.{_≡_, refl, sym, ap, _∙_}
 use mathlib.Core.Bool.{Bool, true, false}
 use mathlib.Core.List.{List, [], _∷_, map}
 use Prim.Native.Nat.{ℕ, zero, suc, _+_, _≤_, _<_}
+use native.Mathlib.Nat.{min-le-left}
 use native.Mathlib.Omega.{arith}
-use lib.ListN.{length, getD, take, drop}
+use lib.ListN.{length, getD, take, drop, length-map, length-take, drop-of-length-le}
 use lib.Ieee.{Float, nan, binary64, mul}
 use Rattle.facts.specs.Sort.{sortedBy}
 use Rattle.float.specs.Literals.{epsilon64}
@@ -15,7 +16,7 @@ use Rattle.factors.specs.declared.Factors.{Factors}
 use Rattle.factors.specs.declared.Unit.{Unit}
 use Rattle.factors.specs.declared.Units.{Units}
 use Rattle.factors.specs.Factors.{noFactors, degreeOf}
-use Rattle.factors.specs.Large.{unitOf, unitsOf, noSmaller, endsOf, withUnit, largeFrom, largeOf, noUnits, allAdded, inOrder}
+use Rattle.factors.specs.Large.{unitOf, factorUnitsOf, noSmaller, endsOf, withUnit, largeFrom, largeOf, noUnits, allAdded, inOrder}
 use Rattle.factors.proofs.Added.{added-list, added-room, units-degrees, units-count}
 
 abbrev pub unitAt : List Unit → ℕ → Unit
@@ -31,15 +32,15 @@ size-at at (suc (suc zero)) h = refl
 size-at at (suc (suc (suc zero))) h = refl
 size-at at (suc (suc (suc (suc i)))) h = absurd (omega (arith, h))
 
-module _ (f : Factors) (D : degreeOf f ≤ 4) (u : Units) (E : u ≡ allAdded noUnits (unitsOf f)) where
+module _ (f : Factors) (D : degreeOf f ≤ 4) (u : Units) (E : u ≡ allAdded noUnits (factorUnitsOf f)) where
   pub units-fit : u .n ≤ 4
-  units-fit = omega (arith, added-room (unitsOf f) u E, units-degrees f)
+  units-fit = omega (arith, added-room (factorUnitsOf f) u E, units-degrees f)
 
-  listed : take (u .n) (u .at) ≡ unitsOf f
-  listed = ap (λ (x : Units). take (x .n) (x .at)) E ∙ added-list noUnits (unitsOf f) (omega (arith, units-count f))
+  listed : take (u .n) (u .at) ≡ factorUnitsOf f
+  listed = ap (λ (x : Units). take (x .n) (x .at)) E ∙ added-list noUnits (factorUnitsOf f) (omega (arith, units-count f))
 
   -- the units by falling size
-  sorted : length (u .at) ≡ 4 → inOrder (u .at) (fallingOf (sizesOf (u .at)) (u .n)) (u .n) ≡ sortedBy noSmaller (unitsOf f)
+  sorted : length (u .at) ≡ 4 → inOrder (u .at) (fallingOf (sizesOf (u .at)) (u .n)) (u .n) ≡ sortedBy noSmaller (factorUnitsOf f)
   unfolding inOrder fallingOf
   sorted L =
       read-sorted (λ a b. totalLeOf b a) (λ (x : Unit). x .m) (sizesOf (u .at)) (u .at) (unitOf nan nan nan) (u .n) (omega (arith, L, units-fit)) (λ i h. size-at (u .at) i (omega (arith, units-fit)))
@@ -77,15 +78,6 @@ module _ (at : List Unit) (order : List ℕ) (n : ℕ) (N : n ≤ 4) (i : ℕ) (
 
 pub take-all : (at : List Unit) (order : List ℕ) (n i want : ℕ) (least : Float) (large : Factors) → n ≤ i → large ≡ largeFrom want least large (drop i (inOrder at order n))
 unfolding largeFrom inOrder
-take-all at order n i want least large h = sym (ap (largeFrom want least large) (none (take n order) i (omega (arith, few n order))))
-  where
-    few : (n : ℕ) (l : List ℕ) → length (take n l) ≤ n
-    few zero l = omega arith
-    few (suc n) [] = omega arith
-    few (suc n) (x ∷ l) = omega (arith, few n l)
-
-    none : (l : List ℕ) (i : ℕ) → length l ≤ i → drop i (map (unitAt at) l) ≡ []
-    none [] zero h = refl
-    none [] (suc i) h = refl
-    none (x ∷ l) zero h = absurd (omega (arith, h))
-    none (x ∷ l) (suc i) h = none l i (omega arith)
+take-all at order n i want least large h =
+    let few = length-map (take n order) (unitAt at) ∙ length-take n order in
+    sym (ap (largeFrom want least large) (drop-of-length-le (map (unitAt at) (take n order)) {i = i} (omega (arith, few, min-le-left n (length order)))))

@@ -9,6 +9,7 @@ use Rattle.float.specs.Literals.{zero64}
 use Rattle.factors.specs.declared.Quad.{Quad}
 use Rattle.factors.specs.declared.Factors.{Factors}
 
+-- (al, be)
 abbrev pub quadOf : Float → Float → Quad
 quadOf al be = record { al = al; be = be }
 

@@ -33,8 +33,8 @@ quadUnitsOf f =
     cond (lt zero64 disc) (realUnit q ∷ realUnit (div binary64 (f .be) q) ∷ []) (unitOf (sqrtOf (absOf (f .be))) (f .al) (f .be) ∷ [])
 
 -- units[..nu]: the linear factors in their order, then the quadratic ones
-unfoldable pub unitsOf : Factors → List Unit
-unitsOf f = map realUnit (linsOf f) ++ flatMap quadUnitsOf (quadsOf f)
+unfoldable pub factorUnitsOf : Factors → List Unit
+factorUnitsOf f = map realUnit (linsOf f) ++ flatMap quadUnitsOf (quadsOf f)
 
 -- `sort_unstable_by(|a, b| b.0.total_cmp(&a.0))`: by falling size, a NaN first; 'ties stay in their earlier order'
 abbrev pub noSmaller : Unit → Unit → Bool
@@ -55,7 +55,7 @@ largeFrom want least large (x ∷ l) = let rest = largeFrom want least (withUnit
 
 -- `large`: `want` is the Rust's sc.d - small, the number of large roots
 unfoldable pub largeOf : Factors → ℕ → Float → Factors
-largeOf out want threshold = largeFrom want (mul binary64 threshold epsilon64) noFactors (sortedBy noSmaller (unitsOf out))
+largeOf out want threshold = largeFrom want (mul binary64 threshold epsilon64) noFactors (sortedBy noSmaller (factorUnitsOf out))
 
 -- ---- the units in an array with a count
 abbrev pub noUnits : Units

@@ -1,16 +1,16 @@
 -- The product of the large factors, the quotient of g by it, and the way back from the second scaling. Definitions only.
-use mathlib.Core.Bool.{Bool, true, cond, _&&_}
+use mathlib.Core.Bool.{Bool, cond, _&&_}
 use mathlib.Core.List.{List, [], _∷_}
 use Prim.Native.Nat.{ℕ, _+_, _-_, min}
 use lib.Dec.{leb}
 use lib.IntN.{ℤ, pos, _*ℤ_}
-use lib.ListN.{length, getD, set, replicate}
+use lib.ListN.{length, getD, set, take, replicate}
 use lib.Ieee.{Float, nan, binary64, add, sub, mul, div, neg, ne}
 use Rattle.facts.specs.Arrays.{fromFn}
 use Rattle.facts.specs.Count.{countUp, countDown}
 use Rattle.float.specs.Literals.{zero64, one64}
+use Rattle.float.specs.Methods.{allFiniteOf}
 use Rattle.scale.specs.Scale.{ldexpOf}
-use Rattle.refine.specs.Refine.{allFiniteStep}
 use Rattle.factors.specs.declared.Factors.{Factors}
 use Rattle.factors.specs.declared.Monic.{Monic}
 use Rattle.factors.specs.Factors.{pushLinOf, pushQuadOf, linAt, quadAt}
@@ -34,6 +34,7 @@ mulLin f i p = mulOf p (neg (linAt f i) ∷ one64 ∷ [])
 abbrev pub mulQuad : Factors → ℕ → Monic → Monic
 mulQuad f i p = mulOf p (quadAt f i .be ∷ quadAt f i .al ∷ one64 ∷ [])
 
+-- L before any factor: `l[0] = 1.0`, `dl = 0`
 abbrev pub one : Monic
 one = record { l = one64 ∷ replicate 4 zero64; dl = 0 }
 
@@ -56,13 +57,9 @@ quotientStep g p i s = set s i (div binary64 (accOf g p s i) (getD (p .l) 0 nan)
 unfoldable pub quotientOf : List Float → Monic → ℕ → List Float
 quotientOf g p small = countUp (small + 1) (quotientStep g p) (small + 1) (replicate 5 zero64)
 
--- s[..n].iter().all(|v| v.is_finite())
-unfoldable pub finiteBelow : List Float → ℕ → Bool
-finiteBelow s n = countUp n (allFiniteStep s) n true
-
--- s[..=small] is finite, s[0] != 0.0 && s[small] != 0.0
+-- s[..=small].iter().all(|v| v.is_finite()) && s[0] != 0.0 && s[small] != 0.0
 unfoldable pub usableOf : List Float → ℕ → Bool
-usableOf s small = finiteBelow s (small + 1) && (ne (getD s 0 nan) zero64 && ne (getD s small nan) zero64)
+usableOf s small = allFiniteOf (take (small + 1) s) && (ne (getD s 0 nan) zero64 && ne (getD s small nan) zero64)
 
 -- merged.push_lin(ldexp(r, sub.e)) and merged.push_quad(ldexp(al, sub.e), ldexp(be, 2 * sub.e))
 abbrev pub backLin : Factors → ℤ → ℕ → Factors → Factors

@@ -3,12 +3,13 @@
 ghost use mathlib.Core.Path.{_≡_};
 ghost use Prim.Native.Nat.{_+_, _*_, _^_, _≤_, _<_, min};
 ghost use lib.IntN.{natAbs};
-ghost use lib.ListN.{length};
+ghost use lib.ListN.{length, take};
 ghost use lib.Ieee.{nan};
+ghost use Rattle.float.specs.Methods.{allFiniteOf};
 ghost use Rattle.order.specs.Order.{Places};
 ghost use Rattle.factors.specs.Factors.{quadOf, noFactors, pushLinOf, pushQuadOf, degreeOf, Sized};
-ghost use Rattle.factors.specs.Large.{unitOf, realUnit, quadUnitsOf, unitsOf, endsOf, withUnit, largeFrom, largeOf, noUnits, addedOf, allAdded, inOrder};
-ghost use Rattle.factors.specs.Quotient.{nextAt, mulOf, productOf, accOf, quotientOf, finiteBelow, usableOf, mergedOf};
+ghost use Rattle.factors.specs.Large.{unitOf, realUnit, quadUnitsOf, factorUnitsOf, endsOf, withUnit, largeFrom, largeOf, noUnits, addedOf, allAdded, inOrder};
+ghost use Rattle.factors.specs.Quotient.{nextAt, mulOf, productOf, accOf, quotientOf, usableOf, mergedOf};
 
 // y^2 + al*y + be
 pub struct Quad {
@@ -124,7 +125,7 @@ fn add_quad(u: Units, al: f64, be: f64) -> Units
 
 fn units_of(f: Factors) -> Units
     requires { ⌜ degreeOf f ≤ 4 ⌝ }
-    ensures { λ u. ⌜ u ≡ allAdded noUnits (unitsOf f) ⌝ }
+    ensures { λ u. ⌜ u ≡ allAdded noUnits (factorUnitsOf f) ⌝ }
 {
     let none = Unit {
         m: 0.0,
@@ -302,7 +303,7 @@ pub fn quotient(g: [f64; 5], p: Monic, small: usize) -> [f64; 5]
 
 fn finite_below(s: [f64; 5], n: usize) -> bool
     requires { ⌜ n ≤ 5 ⌝ }
-    ensures { λ r. ⌜ r ≡ finiteBelow s n ⌝ }
+    ensures { λ r. ⌜ r ≡ allFiniteOf (take n s) ⌝ }
 {
     let mut all = true;
     let mut i = 0;

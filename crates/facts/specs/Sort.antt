@@ -1,5 +1,5 @@
 -- A stable sort: each item in turn goes behind those that the test puts before it, so ties stay in their earlier order. It keeps the number of items, each sum over them,
--- and what holds of all of them; and to sort numbers of places by the keys there, and then to read, is to sort what is read. Assumes nothing.
+-- and what holds of all of them; it goes by what the test says of the items; and to sort numbers of places by the keys there, and then to read, is to sort what is read. Assumes nothing.
 use mathlib.Core.Path.{_≡_, refl, ap, _∙_}
 use mathlib.Core.Bool.{Bool, true, false, cond}
 use mathlib.Core.List.{List, [], _∷_, map}
@@ -7,6 +7,7 @@ use Prim.Native.Nat.{ℕ, suc, _+_}
 use native.Mathlib.Omega.{arith}
 use lib.ListN.{length}
 use Rattle.facts.specs.Cond.{either-way}
+use Rattle.facts.specs.Lists.{sumOf, AllOf}
 
 module _ {A : Type 0} (before : A → A → Bool) where
   unfoldable pub insertedBy : A → List A → List A
@@ -20,15 +21,6 @@ module _ {A : Type 0} (before : A → A → Bool) where
 
   unfoldable pub sortedBy : List A → List A
   sortedBy l = insertedAll [] l
-
-module _ {A : Type 0} where
-  abbrev pub sumOf : (A → ℕ) → List A → ℕ
-  sumOf size [] = 0
-  sumOf size (x ∷ l) = size x + sumOf size l
-
-  abbrev pub AllOf : (A → Type 0) → List A → Type 0
-  AllOf P [] = Unit {0}
-  AllOf P (x ∷ l) = P x × AllOf P l
 
 -- ---- what it keeps
 module _ {A : Type 0} (before : A → A → Bool) where
@@ -73,6 +65,23 @@ module _ {A : Type 0} (before : A → A → Bool) where
   pub all-sorted : (P : A → Type 0) (l : List A) → AllOf P l → AllOf P (sortedBy before l)
   unfolding sortedBy
   all-sorted P l h = all-all P [] l tt h
+
+-- ---- it goes by what the test says of the items
+module _ {A : Type 0} (P : A → Type 0) (f g : A → A → Bool) (same : (x y : A) → P x → P y → f x y ≡ g x y) where
+  inserted-same : (x : A) (l : List A) → P x → AllOf P l → insertedBy f x l ≡ insertedBy g x l
+  unfolding insertedBy
+  inserted-same x [] p h = refl
+  inserted-same x (y ∷ l) p h = rw (same y x (h .0) p, inserted-same x l p (h .1))
+
+  all-same : (s l : List A) → AllOf P s → AllOf P l → insertedAll f s l ≡ insertedAll g s l
+  unfolding insertedAll
+  all-same s [] a b = refl
+  all-same s (x ∷ l) a b =
+      ap (λ (m : List A). insertedAll f m l) (inserted-same x s (b .0) a) ∙ all-same (insertedBy g x s) l (all-inserted g P x s (b .0) a) (b .1)
+
+  pub sorted-same : (l : List A) → AllOf P l → sortedBy f l ≡ sortedBy g l
+  unfolding sortedBy
+  sorted-same l h = all-same [] l tt h
 
 -- ---- places in the order of their keys, and then what is there
 module _ {A B : Type 0} (before : B → B → Bool) (read : A → B) where

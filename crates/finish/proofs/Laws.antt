@@ -12,6 +12,7 @@ use lib.Seq.{drop-cons, getD-take}
 use lib.Ieee.{Float, binary64, sub}
 use Rattle.facts.specs.Arrays.{fillFrom, fromFn}
 use Rattle.facts.specs.Cond.{if-taken, if-left}
+use Rattle.facts.specs.Lists.{of-four}
 use Rattle.facts.specs.Sort.{sortedBy, length-sorted, sum-sorted}
 use Rattle.float.specs.Literals.{inf64}
 use Rattle.float.specs.Methods.{minOf, totalLeOf}
@@ -30,12 +31,7 @@ use Rattle.finish.specs.Finish.{valueAt, multiplicityAt, byValue, belowO
 module _ {A B : Type 0} (f : A → B) where
   -- an array read place by place
   pub read-four : (d : A) (l : List A) → length l ≡ 4 → f (getD l 0 d) ∷ f (getD l 1 d) ∷ f (getD l 2 d) ∷ f (getD l 3 d) ∷ [] ≡ map f l
-  read-four d (a ∷ b ∷ c ∷ e ∷ []) h = refl
-  read-four d [] h = absurd (omega (arith, h))
-  read-four d (a ∷ []) h = absurd (omega (arith, h))
-  read-four d (a ∷ b ∷ []) h = absurd (omega (arith, h))
-  read-four d (a ∷ b ∷ c ∷ []) h = absurd (omega (arith, h))
-  read-four d (a ∷ b ∷ c ∷ e ∷ x ∷ l) h = absurd (omega (arith, h))
+  read-four d l h = of-four (λ (l : List A). f (getD l 0 d) ∷ f (getD l 1 d) ∷ f (getD l 2 d) ∷ f (getD l 3 d) ∷ [] ≡ map f l) (λ a b c e. refl) l h
 
   take-map : (n : ℕ) (l : List A) → take n (map f l) ≡ map f (take n l)
   take-map zero l = refl

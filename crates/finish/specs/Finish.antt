@@ -47,6 +47,7 @@ pub record Ordered : Type 0 where
 abbrev pub nowhere : Ordered
 nowhere = record { value = nan; multiplicity = 0; gap = nan }
 
+-- at place k of the order
 unfoldable pub orderedAt : List RealRoot → ℕ → Ordered
 orderedAt l k = record { value = valueAt l k; multiplicity = multiplicityAt l k; gap = minOf (belowOf l k) (aboveOf l k) }
 
@@ -82,6 +83,7 @@ joinedFrom poly tol out a (b ∷ l) =
     let near = isNearOf poly (a .value) (b .value) tol in
     joinedFrom poly tol (cond near out (kept out a)) (cond near (joinOf a b) b) l
 
+-- all runs, the first begun by the first place
 unfoldable pub joinedOf : Scaled → Float → List RealRoot → List RealRoot
 joinedOf poly tol [] = []
 joinedOf poly tol (a ∷ l) = joinedFrom poly tol [] a l

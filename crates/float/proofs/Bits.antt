@@ -7,6 +7,10 @@ use lib.Dec.{T}
 use lib.Ieee.{Float, nan, inf, fin, binary64, div, fits, isNan, nanBits, ofBits, toBits}
 use lib.Ieee.Bits.{nanBits-is, nanBits-above, toBits-lt}
 
+-- a test that is passed, as the format's laws have it
+pub of-true : {b : Bool} → b ≡ true → T b
+of-true e = subst T (sym e) tt
+
 -- the one NaN
 pub is-nan : (x : Float) → isNan x ≡ true → nan ≡ x
 unfolding isNan

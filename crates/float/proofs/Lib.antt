@@ -1,5 +1,6 @@
 pub mod Bits
 pub mod Bytes
+pub mod Finite
 pub mod RoundDown
 pub mod Whole
 pub mod Zero

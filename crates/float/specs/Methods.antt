@@ -1,6 +1,7 @@
 -- The methods of Rust's f64 that the port calls and Rattle has not, on the values of lib.Ieee: one NaN, with no sign. Definitions only.
 -- is_nan is isNan of lib.Ieee.
 use mathlib.Core.Bool.{Bool, true, false, not, cond, _&&_, _||_}
+use mathlib.Core.List.{List, [], _∷_}
 use Prim.Native.Nat.{ℕ, zero, suc}
 use lib.Ieee.{Float, nan, inf, fin, binary64, mul, lt, eq, isNan}
 use Rattle.float.specs.Literals.{one64}
@@ -10,6 +11,11 @@ unfoldable pub isFiniteOf : Float → Bool
 isFiniteOf nan = false
 isFiniteOf (inf s) = false
 isFiniteOf (fin s m e) = true
+
+-- l.iter().all(|x| x.is_finite())
+abbrev pub allFiniteOf : List Float → Bool
+allFiniteOf [] = true
+allFiniteOf (x ∷ l) = isFiniteOf x && allFiniteOf l
 
 -- x.is_sign_negative(): the sign, of a zero too; false at NaN
 unfoldable pub isSignNegativeOf : Float → Bool

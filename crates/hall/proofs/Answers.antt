@@ -8,10 +8,11 @@ use Prim.Native.Nat.{ℕ, _-_, _<_, _≤_}
 use native.Mathlib.Nat.{eq-zero-or-pos}
 use native.Mathlib.Omega.{arith}
 use borrow.Author.Tests.{eqb-true}
-use lib.Dec.{eqb, leb, lit≤}
+use lib.Dec.{eqb, lit≤}
 use lib.ListN.{length}
 use lib.Ieee.{Float}
 use Rattle.facts.specs.Cond.{either-way}
+use Rattle.float.specs.Methods.{allFiniteOf}
 use Rattle.roots.specs.declared.RealRoot.{RealRoot}
 use Rattle.roots.specs.declared.Roots.{Roots}
 use Rattle.roots.specs.Roots.{listOf, rootsOf, noRoots}
@@ -21,17 +22,18 @@ use Rattle.roots.proofs.Sums.{counted, length-counted, within-none}
 use Rattle.poly.specs.declared.Answer.{Answer}
 use Rattle.equation.specs.declared.QuadraticAnswer.{QuadraticAnswer}
 use Rattle.crank.specs.declared.CrankAnswer.{CrankAnswer}
-use Rattle.poly.specs.Coefficients.{allFiniteOf, trimmedOf, refusalBy, degreeLeft}
+use Rattle.poly.specs.Coefficients.{trimmedOf, degreeLeft}
 use Rattle.poly.specs.Solve.{solveOf}
 use Rattle.poly.specs.RealRoots.{unscaledAll, answerOf, realRootsOf}
-use Rattle.poly.proofs.Refusals.{trimmed-is, number-most, no-root, stands-for}
+use Rattle.poly.proofs.Refusals.{trimmed-is, number-most, no-root, stands-for, refusal-most}
 use Rattle.poly.proofs.Sums.{answer-within}
-use Rattle.equation.specs.Quadratic.{valuesOf, solveQuadraticOf, areFinite, quadraticOf}
+use Rattle.equation.specs.Quadratic.{valuesOf, solveQuadraticOf, quadraticOf}
 use Rattle.equation.specs.declared.Crank.{Crank}
 use Rattle.equation.specs.Crank.{crankFrontOf}
 use Rattle.inquiry.proofs.Fresh.{start-number}
 use Rattle.crank.specs.Crank.{trigQuarticOf, solveTrigOf, crankStartOf, crankOf}
 use Rattle.crank.specs.Claims.{Cranks}
+use Rattle.crank.proofs.Answer as answers
 use Rattle.crank.proofs.Theorem.{cranks}
 use Rattle.hall.specs.Printable.{Printable}
 
@@ -82,8 +84,8 @@ pub quadratic-short : (a b c confusion angular : Float) → quadraticOf a b c co
 unfolding quadraticOf
 quadratic-short a b c confusion angular =
     let s = solveQuadraticOf a b c confusion angular in
-    either-way (λ (r : QuadraticAnswer). r .number < 100) (areFinite (a ∷ b ∷ c ∷ []))
-    (either-way (λ (r : QuadraticAnswer). r .number < 100) (areFinite (valuesOf s)) (omega arith) (omega arith))
+    either-way (λ (r : QuadraticAnswer). r .number < 100) (allFiniteOf (a ∷ b ∷ c ∷ []))
+    (either-way (λ (r : QuadraticAnswer). r .number < 100) (allFiniteOf (valuesOf s)) (omega arith) (omega arith))
     (omega arith)
 
 -- ---- cranks
@@ -92,23 +94,19 @@ pub record CrankShort (a : CrankAnswer) : Type 0 where
   pub eighth : a .k < 8
   pub roots : Printable (a .roots)
 
-refusal-short : (finite : Bool) (n : ℕ) → refusalBy finite n < 100
-unfolding refusalBy
-refusal-short finite n =
-    either-way (λ (k : ℕ). k < 100) finite (either-way (λ (k : ℕ). k < 100) (leb n 1) (omega arith) (either-way (λ (k : ℕ). k < 100) (leb n 5) (omega arith) (omega arith))) (omega arith)
-
 front-short : (a2 b2 c1 d1 e : Float) → crankFrontOf a2 b2 c1 d1 e .number < 100
 unfolding crankFrontOf
 front-short a2 b2 c1 d1 e =
-    either-way (λ (x : Crank). x .number < 100) (areFinite (a2 ∷ b2 ∷ c1 ∷ d1 ∷ e ∷ []))
-    (either-way (λ (x : Crank). x .number < 100) (areFinite (trigQuarticOf a2 b2 c1 d1 e)) (omega arith) (omega arith))
+    either-way (λ (x : Crank). x .number < 100) (allFiniteOf (a2 ∷ b2 ∷ c1 ∷ d1 ∷ e ∷ []))
+    (either-way (λ (x : Crank). x .number < 100) (allFiniteOf (trigQuarticOf a2 b2 c1 d1 e)) (omega arith) (omega arith))
     (omega arith)
 
 start-short : (confusion a2 b2 c1 d1 e : Float) → crankStartOf confusion a2 b2 c1 d1 e .number < 100
 unfolding crankStartOf
 start-short confusion a2 b2 c1 d1 e =
+    let front = crankFrontOf a2 b2 c1 d1 e .q in
     either-way (λ (k : ℕ). k < 100) (eqb (crankFrontOf a2 b2 c1 d1 e .number) 0)
-    (subst (λ (k : ℕ). k < 100) (sym (start-number (crankFrontOf a2 b2 c1 d1 e .q) confusion)) (refusal-short (allFiniteOf (crankFrontOf a2 b2 c1 d1 e .q)) (trimmedOf (crankFrontOf a2 b2 c1 d1 e .q))))
+    (omega (arith, start-number front confusion, refusal-most (allFiniteOf front) (trimmedOf front)))
     (front-short a2 b2 c1 d1 e)
 
 pub crank-short : (confusion a2 b2 c1 d1 e : Float) → CrankShort (crankOf confusion a2 b2 c1 d1 e)
@@ -122,8 +120,7 @@ crank-short confusion a2 b2 c1 d1 e = go (eqb (crankStartOf confusion a2 b2 c1 d
     l = solveTrigOf (λ k u. false) confusion a2 b2 c1 d1 e .1
 
     go : (b : Bool) → eqb (crankStartOf confusion a2 b2 c1 d1 e .number) 0 ≡ b
-        → CrankShort (cond b (record { number = 0; k = solveTrigOf (λ k u. false) confusion a2 b2 c1 d1 e .0; roots = rootsOf l })
-        (record { number = crankStartOf confusion a2 b2 c1 d1 e .number; k = 0; roots = noRoots }))
+        → CrankShort (cond b (answers.listed confusion a2 b2 c1 d1 e) (answers.refused confusion a2 b2 c1 d1 e))
     go true z = record {
       number = omega arith;
       eighth = subst (λ (k : ℕ). k < 8) (all .k-is (eqb-true (crankStartOf confusion a2 b2 c1 d1 e .number) 0 z) (λ k u. false)) (all .eighths);

@@ -5,7 +5,7 @@ use mathlib.Core.List.{List, [], _∷_, _++_, map}
 use Prim.Native.Nat.{ℕ, _+_}
 use lib.ListN.{replicate}
 use Rattle.text.specs.Digits.{decimalWithin, decimal}
-use Rattle.poly.specs.Coefficients.{allFiniteOf, trimmedFrom, trimmedOf, refusalBy}
+use Rattle.poly.specs.Coefficients.{trimmedFrom, trimmedOf, refusalBy}
 use Rattle.poly.specs.Solve.{solveOf}
 use Rattle.poly.specs.RealRoots.{unscaledAll, answerOf, realRootsOf}
 use Rattle.lent.specs.Bytes.{f64sAt}
@@ -51,5 +51,5 @@ unfolding listing linesFrom
 empty = refl
 
 goes-on : listing (pl ++ (replicate 9 0 ++ (88 ∷ 88 ∷ []))) ≡ line 1 pl 2 ++ line 2 unknown 6
-unfolding listing linesFrom recordAt kindAt isMark recordOf polynomialRecord heldOf lineOf markOf wordsOf answerText polynomialText polynomialAt f64sAt realRootsOf answerOf unscaledAll solveOf refusalBy allFiniteOf trimmedOf trimmedFrom refusedText decimal decimalWithin
+unfolding listing linesFrom recordAt kindAt isMark recordOf polynomialRecord heldOf lineOf markOf wordsOf answerText polynomialText polynomialAt f64sAt realRootsOf answerOf unscaledAll solveOf refusalBy trimmedOf trimmedFrom refusedText decimal decimalWithin
 goes-on = refl

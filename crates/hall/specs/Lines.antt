@@ -59,6 +59,7 @@ solutionText (Linear x) = linear ++ placeText x
 solutionText Degenerate = degenerate
 solutionText Empty = empty
 
+-- or `refused`
 unfoldable pub quadraticText : QuadraticAnswer → List ℕ
 unfolding solutionText refusedText
 quadraticText a = orRefused (a .number) (solutionText (a .solution))

@@ -15,6 +15,7 @@ use Rattle.hall.specs.Refusals.{unknownMark, cut, many}
 unfoldable pub isMark : List ℕ → List ℕ → ℕ → Bool
 isMark mark s at = eqb (getD s at 0) (getD mark 0 0) && eqb (getD s (at + 1) 0) (getD mark 1 0)
 
+-- the kind by the mark at a record's start
 unfoldable pub kindAt : List ℕ → ℕ → Kind
 unfolding isMark
 kindAt s at = cond (isMark pl s at) Polynomial (cond (isMark qd s at) Quadratic (cond (isMark tg s at) Crank Unknown))

@@ -9,6 +9,7 @@ use lib.IntN.{ℤ}
 use lib.ListN.{length}
 use lib.Ieee.{Float, binary64, add, sub, mul, lt}
 use borrow.Author.Tests.{eqb-true, eqb-false}
+use Rattle.facts.specs.Lists.{length-snoc, sum-snoc, all-snoc}
 use Rattle.float.specs.Literals.{half64}
 use Rattle.float.specs.Methods.{isFiniteOf}
 use Rattle.scaled.specs.declared.Scaled.{Scaled}
@@ -16,7 +17,6 @@ use Rattle.roots.specs.declared.RealRoot.{RealRoot}
 use Rattle.roots.specs.declared.Pair.{Pair}
 use Rattle.roots.specs.Roots.{root}
 use Rattle.roots.specs.Listed.{multiplicities, Listed}
-use Rattle.roots.proofs.Arrays.{length-snoc}
 use Rattle.band.specs.declared.TurningPoint.{TurningPoint}
 use Rattle.band.specs.declared.TurningPoint.the-variants.{At, None}
 use Rattle.band.specs.Critical.{extremumOf}
@@ -26,7 +26,7 @@ use Rattle.asking.specs.Within.{Within}
 use Rattle.asking.proofs.Within.{weaken, either-within, then-within, each-within}
 use Rattle.inquiry.specs.declared.Chain.{Chain}
 use Rattle.inquiry.specs.Touching.{touchesAt, pairOrder, reachOf, allApart, apartOf, pairAt, pairTurn, ordered, noChain, openedBy, extendedBy, contactOf, emitted, parted, linkAt, itemTurn, chained, touching}
-use Rattle.inquiry.proofs.Lists.{sum-snoc, all-snoc, length-byValue, multiplicities-byValue, length-pairOrder}
+use Rattle.inquiry.proofs.Lists.{length-byValue, multiplicities-byValue, length-pairOrder}
 
 length-ordered : (ps : List Pair) (its : List RealRoot) → length (ordered ps its) ≡ length its
 unfolding ordered
@@ -63,7 +63,7 @@ emitted-keeps e out c d a = go (eqb (c .mult) 0) (isFiniteOf x) refl refl
     go false true z h =
         let s = a .1 in
         let some = eqb-false (c .mult) 0 z in
-        (all-snoc _ out (root x (c .mult)) (a .0) (h, omega (arith, some)), omega (arith, sum-snoc out (root x (c .mult)), s))
+        (all-snoc _ out (root x (c .mult)) (a .0) (h, omega (arith, some)), omega (arith, sum-snoc (λ (r : RealRoot). r .multiplicity) out (root x (c .mult)), s))
 
 module _ (poly : Scaled) (tol : Float) where
   -- while pairs are left: the items will be at most k, k - 1 questions are kept for their links, and a pair may add 2
@@ -88,7 +88,7 @@ module _ (poly : Scaled) (tol : Float) where
       more : (m x : ℕ) → n ≤ m → x ≤ 2 → (y : Float) → Q m (its ++ root y x ∷ [])
       more m x h t y =
           let a = length-snoc its (root y x) in
-          let b = sum-snoc its (root y x) in
+          let b = sum-snoc (λ (r : RealRoot). r .multiplicity) its (root y x) in
           (omega arith, omega arith, omega arith)
 
       go : (f : TurningPoint) → Within (suc n) (pairAt poly tol its f) Q

@@ -8,7 +8,8 @@ use borrow.Author.Tests.{lt-ltb}
 use lib.ListN.{length, take, drop, getD}
 use lib.Ieee.{lt}
 use Rattle.facts.specs.Cond.{either-way}
-use Rattle.facts.specs.Sort.{AllOf, length-sorted, sum-sorted}
+use Rattle.facts.specs.Lists.{length-snoc, left-cons, left-nil}
+use Rattle.facts.specs.Sort.{length-sorted, sum-sorted}
 use Rattle.float.specs.Methods.{totalLeOf}
 use Rattle.roots.specs.declared.RealRoot.{RealRoot}
 use Rattle.roots.specs.declared.Roots.{Roots}
@@ -16,7 +17,6 @@ use Rattle.roots.specs.declared.Pair.{Pair}
 use Rattle.roots.specs.declared.Pairs.{Pairs}
 use Rattle.roots.specs.Roots.{listOf, rootsOf, held, pairListOf, pushedOf}
 use Rattle.roots.specs.Listed.{multiplicities, Fits, PairsFit, blankPair}
-use Rattle.roots.proofs.Arrays.{length-snoc, left-cons, left-nil}
 use Rattle.roots.proofs.Laws.{length-list, pushed-fits, pushed-list, list-roots, pushed-roots, pairs-cons, pairs-nil}
 use Rattle.finish.specs.Finish.{byValue}
 use Rattle.inquiry.specs.declared.Replies.{Replies}
@@ -62,14 +62,6 @@ length-pairOrder (p ∷ q ∷ []) = either-way (λ (l : List Pair). length l ≡
 length-pairOrder (p ∷ q ∷ r ∷ l) = refl
 
 -- ---- one root more, where there is room
-pub sum-snoc : (l : List RealRoot) (r : RealRoot) → multiplicities (l ++ r ∷ []) ≡ multiplicities l + r .multiplicity
-sum-snoc [] r = omega arith
-sum-snoc (x ∷ l) r = omega (arith, sum-snoc l r)
-
-pub all-snoc : (P : RealRoot → Type 0) (l : List RealRoot) (r : RealRoot) → AllOf P l → P r → AllOf P (l ++ r ∷ [])
-all-snoc P [] r h p = (p, tt)
-all-snoc P (x ∷ l) r h p = (h .0, all-snoc P l r (h .1) p)
-
 held-more : (l : List RealRoot) (r : RealRoot) → length l < 4 → held l r ≡ l ++ r ∷ []
 unfolding held
 held-more l r h = simp (lt-ltb (length l) 4 h)

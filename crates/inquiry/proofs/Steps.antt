@@ -9,6 +9,7 @@ use lib.Dec.{ltb}
 use lib.IntN.{ℤ}
 use lib.ListN.{drop, getD}
 use lib.Ieee.{Float, binary64, add, sub, mul, lt}
+use Rattle.facts.specs.Lists.{sum-snoc}
 use Rattle.float.specs.Literals.{zero64, half64}
 use Rattle.float.specs.Methods.{absOf, isFiniteOf, minOf}
 use Rattle.scaled.specs.declared.Scaled.{Scaled}
@@ -29,7 +30,7 @@ use Rattle.inquiry.specs.declared.Chain.{Chain}
 use Rattle.inquiry.specs.Touching.{touchesAt, pairOrder, reachOf, apartBy, allApart, apartOf, pairAt, pairTurn, ordered, noChain, doubleOf, openedBy, extendedBy, contactOf, emitted, parted, linkAt, itemTurn, chained, touching}
 use Rattle.inquiry.specs.Inquiry.{shown}
 use Rattle.inquiry.specs.Walk.{stageOf, PairAdds}
-use Rattle.inquiry.proofs.Lists.{sum-snoc, pushed-more}
+use Rattle.inquiry.proofs.Lists.{pushed-more}
 
 -- ---- stages
 module _ {A : Type 0} where
@@ -126,7 +127,7 @@ pair-added poly tol s s′ y place m asking reply rs left fits room e em ea far 
     let grown = pushed-more s (root y m) fits room in
     let list : listOf s′ ≡ listOf s ++ root y m ∷ [] = ap (λ (t : Roots). listOf t) e ∙ grown .0 in
     let len : s′ .len ≡ s .len + 1 = ap (λ (t : Roots). t .len) e ∙ grown .2 in
-    let sum : multiplicities (listOf s′) ≡ multiplicities (listOf s) + m = ap multiplicities list ∙ sum-snoc (listOf s) (root y m) in
+    let sum : multiplicities (listOf s′) ≡ multiplicities (listOf s) + m = ap multiplicities list ∙ sum-snoc (λ (r : RealRoot). r .multiplicity) (listOf s) (root y m) in
     let two : m ≤ 2 = rw em (at-most-two reply) in (
       ap (λ (l : List RealRoot). ended l left) (list ∙ ap (λ (k : ℕ). listOf s ++ root y k ∷ []) em)
           ∙ ended-done _ _

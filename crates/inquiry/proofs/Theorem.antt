@@ -10,11 +10,11 @@ use lib.ListN.{length, take, getD, set, length-set, length-map}
 use lib.Seq.{length-take-le, take-suc, take-suc-set, take-length}
 use lib.Ieee.{Float, nan}
 use Rattle.facts.specs.Cond.{if-taken}
+use Rattle.facts.specs.Lists.{length-snoc}
 use Rattle.roots.specs.declared.RealRoot.{RealRoot}
 use Rattle.roots.specs.Roots.{listOf, pairListOf}
 use Rattle.roots.specs.Listed.{multiplicities}
 use Rattle.roots.specs.Listed as roots
-use Rattle.roots.proofs.Arrays.{length-snoc}
 use Rattle.roots.proofs.Laws.{length-pairList}
 use Rattle.roots.proofs.Sums.{counted, length-counted}
 use Rattle.poly.specs.Coefficients.{degreeLeft}

@@ -58,6 +58,7 @@ askedOf q = cond (soundOf q) (shown (walked (repliesOf (q .replies)) (asking q))
 abbrev pub repliedBy : Replies → Bool → Replies
 repliedBy s r = record { reply = set (s .reply) (s .count) r; count = s .count + 1 }
 
+-- the inquiry with one reply more
 abbrev pub withReply : Inquiry → Bool → Inquiry
 withReply q r = record { poly = q .poly; tol = q .tol; roots = q .roots; pairs = q .pairs; replies = repliedBy (q .replies) r }
 

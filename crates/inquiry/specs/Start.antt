@@ -36,6 +36,7 @@ placesTouchingOf touches coeffs tol = placesAsked touches (realRootsTouching coe
 abbrev pub freshBy : Solved → Inquiry
 freshBy s = record { poly = s .poly; tol = s .tol; roots = s .roots; pairs = s .pairs; replies = record { reply = replicate 4 false; count = 0 } }
 
+-- `start`: the inquiry and 0, or the number of the refusal
 unfoldable pub startOf : List Float → Float → Started
 startOf coeffs tol = let s = solveOf coeffs tol in record { number = s .number; inquiry = freshBy s }
 

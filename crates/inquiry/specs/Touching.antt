@@ -76,6 +76,7 @@ noChain = record { first = zero64; last = zero64; at = zero64; touching = 0; mul
 abbrev pub doubleOf : ℕ → ℕ
 doubleOf m = cond (ltb 1 m) 1 0
 
+-- the chain of one item
 abbrev pub openedBy : RealRoot → Chain
 openedBy it = record { first = it .value; last = it .value; at = it .value; touching = doubleOf (it .multiplicity); mult = it .multiplicity }
 
@@ -121,6 +122,7 @@ module _ (poly : Scaled) (tol : Float) where
       (done (openedBy it, out))
       (linkAt (poly .e) out c it (extremumOf poly (mul binary64 half64 (add binary64 (c .last) (it .value))) (c .last) (it .value) tol)))
 
+  -- the loop over the items; the chain at hand ends with the last of them
   unfoldable pub chained : List RealRoot → Asking (List RealRoot)
   unfolding _then_ each
   chained its = each itemTurn (noChain, []) its then λ s. done (emitted (poly .e) (s .1) (s .0))

@@ -80,5 +80,6 @@ unfoldable pub linesFrom : ℕ → List ℕ → ℕ → List ℕ
 linesFrom zero s at = []
 linesFrom (suc f) s at = cond (ltb at (length s)) (lineThen (recordOf s at) (linesFrom f s (at + 14))) []
 
+-- all lines of a file
 unfoldable pub linesOf : List ℕ → List ℕ
 linesOf s = linesFrom (length s) s 0

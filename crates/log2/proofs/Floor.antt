@@ -8,7 +8,7 @@ use borrow.Author.Tests.{leb-false}
 use lib.Dec.{T, leb, lit≤}
 use lib.Pow.{pow-pos, pow-mono, shl-lt}
 use lib.IntN.{ℤ, pos, negsuc, _+ℤ_, natAbs, -ℤ-+ℤ-cancel}
-use lib.Ieee.{Float, nan, inf, fin, binary64, fits, minus, size, round}
+use lib.Ieee.{Float, nan, inf, fin, binary64, fits, minus, size}
 use lib.Ieee.Digits.{size-lt, size-le, size-reaches}
 use lib.Ieee.Exact.{HasValue, round-exact}
 use lib.Ieee.Positive.{positive}

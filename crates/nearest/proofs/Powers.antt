@@ -9,6 +9,7 @@ use lib.Dec.{leb, eqb, leb→le, le→leb}
 use lib.Pow.{pow-add, pow-pos, pow-mono}
 use lib.Ieee.{odd, size}
 use lib.Ieee.Digits.{size-lt}
+use Rattle.algebra.specs.NatOrder.{pow2-join}
 use Rattle.decode.specs.Shape.{Normal}
 use Rattle.nearest.specs.Greatest.{greatest, nearestOf, Floor, Half}
 use Rattle.nearest.proofs.ByTest.{Monotone, Sized, by-test, floor-bounds, half-of-floor, half-bounds}
@@ -49,12 +50,9 @@ on-units n w k d p q l i v s =
     eq-of-mul-eq-mul-right (2 ^ p) (pow-pos p) (n * 2 ^ l) (w * 2 ^ d * 2 ^ q * 2 ^ i)
     (mul-right-comm n (2 ^ l) (2 ^ p)
     ∙ ap (λ (x : ℕ). x * 2 ^ l) (sym v)
-    ∙ joined w k l
+    ∙ pow2-join w k l
     ∙ ap (λ (x : ℕ). w * 2 ^ x) s
-    ∙ sym (ap (λ (x : ℕ). x * 2 ^ p) (ap (λ (x : ℕ). x * 2 ^ i) (joined w d q) ∙ joined w (d + q) i) ∙ joined w (d + q + i) p))
-  where
-    joined : (w a b : ℕ) → w * 2 ^ a * 2 ^ b ≡ w * 2 ^ (a + b)
-    joined w a b = mul-assoc w (2 ^ a) (2 ^ b) ∙ ap (λ (x : ℕ). w * x) (sym (pow-add 2 a b))
+    ∙ sym (ap (λ (x : ℕ). x * 2 ^ p) (ap (λ (x : ℕ). x * 2 ^ i) (pow2-join w d q) ∙ pow2-join w (d + q) i) ∙ pow2-join w (d + q + i) p))
 
 module _ (e : ℕ) (f : ℕ → ℕ) (P : Power e f) where
   pub monotone : (n : ℕ) → Monotone (atRoot f n)

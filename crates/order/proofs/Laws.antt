@@ -5,22 +5,24 @@ use mathlib.Core.List.{List, [], _∷_, _++_, map}
 use Prim.Native.Nat.{ℕ, zero, suc, _+_, _-_, _≤_, _<_}
 use native.Mathlib.Numerals.{add-one}
 use native.Mathlib.Omega.{arith}
-use lib.ListN.{length, take, drop, getD, length-map}
+use lib.ListN.{length, take, drop, getD, length-map, List·getD-map}
 use lib.Seq.{take-at, drop-append-add, drop-cons, getD-take, length-take-le}
 use lib.Ieee.{Float, nan}
-use Rattle.facts.specs.Cond.{either-way}
-use Rattle.facts.specs.Sort.{insertedBy, insertedAll, sortedBy, AllOf, length-sorted, all-sorted, map-sorted}
+use Rattle.facts.specs.Lists.{AllOf, all-append, all-at, of-four}
+use Rattle.facts.specs.Sort.{insertedBy, insertedAll, sortedBy, length-sorted, all-sorted, sorted-same, map-sorted}
 use Rattle.order.specs.Order.{numbersFrom, keysBefore, orderOf, firstFrom, placeOf, entryOf, Places}
 
 -- ---- the first number at which a test fails, as a loop finds it
 module _ (test : ℕ → Bool) where
-  pub first-go : (i p : ℕ) → p < i → test p ≡ true → firstFrom test p (i - p) ≡ firstFrom test (p + 1) (i - (p + 1))
+  first-turn : (i p : ℕ) → p < i → firstFrom test p (i - p) ≡ cond (test p) (firstFrom test (p + 1) (i - (p + 1))) p
   unfolding firstFrom
-  first-go i p h t = let e : i - p ≡ suc (i - (p + 1)) = omega arith in ap (λ (k : ℕ). firstFrom test p k) e ∙ simp t
+  first-turn i p h = let e : i - p ≡ suc (i - (p + 1)) = omega arith in ap (λ (k : ℕ). firstFrom test p k) e
+
+  pub first-go : (i p : ℕ) → p < i → test p ≡ true → firstFrom test p (i - p) ≡ firstFrom test (p + 1) (i - (p + 1))
+  first-go i p h t = first-turn i p h ∙ simp t
 
   pub first-stop : (i p : ℕ) → p < i → test p ≡ false → firstFrom test p (i - p) ≡ p
-  unfolding firstFrom
-  first-stop i p h t = let e : i - p ≡ suc (i - (p + 1)) = omega arith in ap (λ (k : ℕ). firstFrom test p k) e ∙ simp t
+  first-stop i p h t = first-turn i p h ∙ simp t
 
   pub first-end : (i p : ℕ) → i ≤ p → firstFrom test p (i - p) ≡ p
   unfolding firstFrom
@@ -29,15 +31,6 @@ module _ (test : ℕ → Bool) where
 -- ---- one number more
 abbrev pub entriesOf : List ℕ → ℕ → ℕ → List ℕ
 entriesOf at i p = entryOf at i p 0 ∷ entryOf at i p 1 ∷ entryOf at i p 2 ∷ entryOf at i p 3 ∷ []
-
--- an array of four is known by its places
-of-four : (P : List ℕ → Type 0) → ((a b c d : ℕ) → P (a ∷ b ∷ c ∷ d ∷ [])) → (at : List ℕ) → length at ≡ 4 → P at
-of-four P f (a ∷ b ∷ c ∷ d ∷ []) e = f a b c d
-of-four P f [] e = absurd (omega (arith, e))
-of-four P f (a ∷ []) e = absurd (omega (arith, e))
-of-four P f (a ∷ b ∷ []) e = absurd (omega (arith, e))
-of-four P f (a ∷ b ∷ c ∷ []) e = absurd (omega (arith, e))
-of-four P f (a ∷ b ∷ c ∷ d ∷ x ∷ l) e = absurd (omega (arith, e))
 
 -- i put in at its place among the first i is i inserted: by i, and by which of them stand before it
 module _ (before : Float → Float → Bool) (key : List Float) where
@@ -78,16 +71,6 @@ all-numbers : (n i k : ℕ) → i + k ≤ n → AllOf (λ (j : ℕ). j < n) (num
 all-numbers n i zero h = tt
 all-numbers n i (suc k) h = (omega arith, all-numbers n (i + 1) k (omega arith))
 
-module _ {A : Type 0} (P : A → Type 0) where
-  all-append : (l m : List A) → AllOf P l → AllOf P m → AllOf P (l ++ m)
-  all-append [] m g h = h
-  all-append (x ∷ l) m g h = (g .0, all-append l m (g .1) h)
-
-  all-at : (l : List A) (d : A) → P d → AllOf P l → (k : ℕ) → P (getD l k d)
-  all-at [] d p h k = p
-  all-at (x ∷ l) d p h zero = h .0
-  all-at (x ∷ l) d p h (suc k) = all-at l d p (h .1) k
-
 module _ (before : Float → Float → Bool) (key : List Float) where
   abbrev sortedNumbers : ℕ → List ℕ
   sortedNumbers n = sortedBy (keysBefore before key) (numbersFrom 0 n)
@@ -125,41 +108,16 @@ module _ (before : Float → Float → Bool) (key : List Float) where
       let left : 4 - i ≡ suc (4 - (i + 1)) = omega arith in
       rw (take-order i, drop-order i 1, left, sorted-next i h)
 
-  -- each entry is one of four, and each of the first n is below n
+  -- each entry is one of four
   pub order-places : (n : ℕ) → n ≤ 4 → Places (orderOf before key n)
   unfolding orderOf
   order-places n h =
-      all-at (λ (j : ℕ). j < 4) (orderOf before key n) 0 (omega arith)
+      λ k. all-at (λ (j : ℕ). j < 4) (orderOf before key n) 0 k (λ out. omega arith)
       (all-append (λ (j : ℕ). j < 4) (sortedNumbers n) (numbersFrom n (4 - n))
       (all-sorted (keysBefore before key) (λ (j : ℕ). j < 4) (numbersFrom 0 n) (all-numbers 4 0 n (omega arith)))
       (all-numbers 4 n (4 - n) (omega arith)))
 
-  pub order-below : (n k : ℕ) → k < n → getD (orderOf before key n) k 0 < n
-  order-below n k h =
-      rw (sym (getD-take n (orderOf before key n) k 0 h), take-order n)
-      (all-at (λ (j : ℕ). j < n) (sortedNumbers n) 0 (omega arith) (all-sorted (keysBefore before key) (λ (j : ℕ). j < n) (numbersFrom 0 n) (all-numbers n 0 n (omega arith))) k)
-
 -- ---- reading through the order
-module _ {A : Type 0} (P : A → Type 0) (f g : A → A → Bool) (same : (x y : A) → P x → P y → f x y ≡ g x y) where
-  inserted-same : (x : A) (l : List A) → P x → AllOf P l → (insertedBy f x l ≡ insertedBy g x l) × AllOf P (insertedBy g x l)
-  unfolding insertedBy
-  inserted-same x [] p h = (refl, (p, tt))
-  inserted-same x (y ∷ l) p h =
-      let i = inserted-same x l p (h .1) in
-      (rw (same y x (h .0) p, i .0), either-way (AllOf P) (g y x) (h .0, i .1) (p, h))
-
-  all-same : (s l : List A) → AllOf P s → AllOf P l → insertedAll f s l ≡ insertedAll g s l
-  unfolding insertedAll
-  all-same s [] a b = refl
-  all-same s (x ∷ l) a b =
-      let i = inserted-same x s (b .0) a in
-      ap (λ (m : List A). insertedAll f m l) (i .0) ∙ all-same (insertedBy g x s) l (i .1) (b .1)
-
-  -- a sort goes by what the test says of the items
-  sorted-same : (l : List A) → AllOf P l → sortedBy f l ≡ sortedBy g l
-  unfolding sortedBy
-  sorted-same l h = all-same [] l tt h
-
 module _ {A : Type 0} (a : List A) (d : A) where
   read-numbers : (i k : ℕ) → i + k ≤ length a → map (λ (j : ℕ). getD a j d) (numbersFrom i k) ≡ take k (drop i a)
   read-numbers i zero h = refl
@@ -179,12 +137,7 @@ read-sorted {A} before key keys a d n h k =
 
 -- ---- a turn of a loop that reads so
 module _ {A : Type 0} (f : ℕ → A) where
-  read-at : (l : List ℕ) (k d : ℕ) → getD (map f l) k (f d) ≡ f (getD l k d)
-  read-at [] k d = refl
-  read-at (x ∷ l) zero d = refl
-  read-at (x ∷ l) (suc k) d = read-at l k d
-
   pub read-cons : (at : List ℕ) (n k : ℕ) → n ≤ length at → k < n → drop k (map f (take n at)) ≡ f (getD at k 0) ∷ drop (k + 1) (map f (take n at))
   read-cons at n k h t =
       let e = length-map (take n at) f ∙ length-take-le n at h in
-      rw (add-one k, drop-cons (map f (take n at)) k (f 0) (omega (arith, e)), read-at (take n at) k 0, getD-take n at k 0 t)
+      rw (add-one k, drop-cons (map f (take n at)) k (f 0) (omega (arith, e)), List·getD-map f (take n at) k 0, getD-take n at k 0 t)

@@ -14,6 +14,7 @@ abbrev pub numbersFrom : ℕ → ℕ → List ℕ
 numbersFrom i k = fillFrom i k (λ j. j)
 
 module _ (before : Float → Float → Bool) (key : List Float) where
+  -- place i goes before place j, or is level with it
   abbrev pub keysBefore : ℕ → ℕ → Bool
   keysBefore i j = before (getD key i nan) (getD key j nan)
 

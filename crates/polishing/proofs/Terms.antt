@@ -14,7 +14,7 @@ use lib.Dec.{eqb}
 use lib.ListN.{getD}
 use lib.Ieee.{Float, nan, unlike}
 use Rattle.facts.specs.Arrays.{fillFrom}
-use Rattle.facts.specs.Sort.{sumOf}
+use Rattle.facts.specs.Lists.{sumOf}
 use Rattle.float.specs.Methods.{isSignNegativeOf}
 use Rattle.float.specs.Units.{unitsOf}
 use Rattle.rounding.specs.Units.{oneUnits}

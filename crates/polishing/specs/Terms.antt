@@ -9,7 +9,7 @@ use lib.ListN.{getD}
 use lib.Ieee.{Float, nan, unlike}
 use Rattle.algebra.specs.NatOrder.{dist}
 use Rattle.facts.specs.Arrays.{fromFn}
-use Rattle.facts.specs.Sort.{sumOf}
+use Rattle.facts.specs.Lists.{sumOf}
 use Rattle.float.specs.Methods.{isSignNegativeOf}
 use Rattle.float.specs.Units.{unitsOf}
 use Rattle.rounding.specs.Units.{oneUnits}

@@ -66,7 +66,7 @@ module _ (poly : Scaled) (f : Factors) (tol : Float) where
 
 -- ---- the roots in x
 module _ (e : ℤ) where
-  unscaled-length : (l : List RealRoot) → length (unscaledAll e l) ≤ length l
+  pub unscaled-length : (l : List RealRoot) → length (unscaledAll e l) ≤ length l
   unfolding unscaledAll
   unscaled-length [] = omega arith
   unscaled-length (r ∷ l) = go (isFiniteOf (unscaledOf e (r .value))) (unscaled-length l)

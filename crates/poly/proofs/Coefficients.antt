@@ -1,6 +1,6 @@
 -- The coefficients that count, one place of each recursion as a loop has it; and of those left at least one is no zero. Assumes nothing.
 use mathlib.Core.Path.{_≡_, refl, sym, ap, _∙_, subst}
-use mathlib.Core.Bool.{Bool, true, false, cond, _&&_}
+use mathlib.Core.Bool.{Bool, true, false, cond}
 use mathlib.Core.List.{List, [], _∷_}
 use Prim.Native.Nat.{ℕ, zero, suc, _+_, _-_, _≤_, _<_}
 use native.Mathlib.Numerals.{add-one}
@@ -11,23 +11,20 @@ use lib.ListN.{length, drop, getD, drop-of-length-le}
 use lib.Seq.{drop-cons}
 use lib.Ieee.{Float, nan, eq}
 use Rattle.facts.specs.Cond.{either-way}
+use Rattle.facts.specs.Lists.{drop-next}
 use Rattle.float.specs.Literals.{zero64}
-use Rattle.float.specs.Methods.{isFiniteOf}
-use Rattle.poly.specs.Coefficients.{allFiniteOf, trimmedFrom, trimmedOf, zerosOf, refusalBy}
+use Rattle.float.specs.Methods.{isFiniteOf, allFiniteOf}
+use Rattle.float.proofs.Finite.{finite-turn}
+use Rattle.poly.specs.Coefficients.{trimmedFrom, trimmedOf, zerosOf, refusalBy}
 
 -- ---- all finite
-finite-turn : (s : List Float) (i : ℕ) → i < length s → allFiniteOf (drop i s) ≡ (isFiniteOf (getD s i nan) && allFiniteOf (drop (i + 1) s))
-unfolding allFiniteOf
-finite-turn s i h = rw (add-one, drop-cons s i nan)
-
 pub finite-stop : (s : List Float) (i : ℕ) → i < length s → isFiniteOf (getD s i nan) ≡ false → allFiniteOf (drop i s) ≡ false
-finite-stop s i h t = finite-turn s i h ∙ simp t
+finite-stop s i h t = sym (finite-turn true (drop i s) _ _ refl (drop-next s i nan h)) ∙ simp t
 
 pub finite-go : (s : List Float) (i : ℕ) → i < length s → isFiniteOf (getD s i nan) ≡ true → allFiniteOf (drop i s) ≡ allFiniteOf (drop (i + 1) s)
-finite-go s i h t = finite-turn s i h ∙ simp t
+finite-go s i h t = sym (finite-turn true (drop i s) _ _ refl (drop-next s i nan h)) ∙ simp t
 
 pub finite-end : (s : List Float) (i : ℕ) → length s ≤ i → allFiniteOf (drop i s) ≡ true
-unfolding allFiniteOf
 finite-end s i h = ap allFiniteOf (drop-of-length-le s {i = i} h)
 
 -- ---- trailing zeros

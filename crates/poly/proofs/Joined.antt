@@ -2,13 +2,14 @@
 -- And the factors add up to the degree. Assumes nothing.
 use mathlib.Core.Bool.{Bool, true, false, cond}
 use mathlib.Core.List.{List, [], _∷_, map}
-use Prim.Native.Nat.{ℕ, zero, suc, _+_, _≤_, _<_}
+use Prim.Native.Nat.{ℕ, zero, suc, _+_, _≤_}
 use native.Mathlib.Nat.{le-of-eq}
 use native.Mathlib.Omega.{arith}
-use lib.ListN.{length, getD}
+use lib.ListN.{length}
 use lib.Ieee.{Float}
 use Rattle.facts.specs.Arrays.{fillFrom}
-use Rattle.facts.specs.Sort.{AllOf, length-sorted, all-sorted}
+use Rattle.facts.specs.Lists.{all-at}
+use Rattle.facts.specs.Sort.{length-sorted, all-sorted}
 use Rattle.float.specs.Methods.{totalLeOf}
 use Rattle.scaled.specs.declared.Scaled.{Scaled}
 use Rattle.factors.specs.Factors.{degreeOf}
@@ -22,16 +23,11 @@ use Rattle.finish.specs.Finish.{byValue, orderedAt, orderedOf, polishedAt, poli
 use Rattle.finish.proofs.Laws.{sum-polished}
 
 -- ---- each place counts
-all-at : {A : Type 0} (P : A → Type 0) (l : List A) (d : A) → AllOf P l → (k : ℕ) → k < length l → P (getD l k d)
-all-at P [] d h k t = absurd (omega (arith, t))
-all-at P (x ∷ l) d h zero t = h .0
-all-at P (x ∷ l) d h (suc k) t = all-at P l d (h .1) k (omega arith)
-
 counted-placed : (n : ℕ) (poly : Scaled) (l : List RealRoot) → Counted l → (i k : ℕ) → i + k ≤ length l → Counted (map (polishedAt n poly) (fillFrom i k (orderedAt l)))
 unfolding polishedAt orderedAt
 counted-placed n poly l h i zero t = tt
 counted-placed n poly l h i (suc k) t =
-    (all-at (λ (r : RealRoot). 1 ≤ r .multiplicity) l blank h i (omega arith), counted-placed n poly l h (i + 1) k (omega arith))
+    (all-at (λ (r : RealRoot). 1 ≤ r .multiplicity) l blank i (λ out. absurd (omega (arith, out, t))) h, counted-placed n poly l h (i + 1) k (omega arith))
 
 counted-polished : (n : ℕ) (poly : Scaled) (c : List RealRoot) → Counted c → Counted (polishedOf n poly (orderedOf c))
 unfolding polishedOf orderedOf byValue

@@ -10,25 +10,19 @@ use borrow.Author.Tests.{eqb-true, eq-eqb, ne-eqb, leb-true, leb-false, le-leb, 
 use lib.Dec.{leb, eqb}
 use lib.ListN.{length, getD}
 use lib.Ieee.{Float, nan, eq}
-use Rattle.facts.specs.Cond.{first-holds, second-holds, either-way}
+use Rattle.facts.specs.Cond.{either-way}
 use Rattle.float.specs.Literals.{zero64}
-use Rattle.float.specs.Methods.{isFiniteOf, maxOf}
+use Rattle.float.specs.Methods.{isFiniteOf, maxOf, allFiniteOf}
+use Rattle.float.proofs.Finite.{finite-at}
 use Rattle.roots.specs.Roots.{noRoots}
-use Rattle.poly.specs.Coefficients.{allFiniteOf, trimmedFrom, trimmedOf, zerosOf, refusalBy, refusalOf, polyOf}
+use Rattle.poly.specs.Coefficients.{trimmedFrom, trimmedOf, zerosOf, refusalBy, refusalOf, polyOf}
 use Rattle.poly.specs.Solve.{finishedOf, refusedBy, solveOf}
 use Rattle.poly.specs.RealRoots.{unscaledAll, answerOf, realRootsOf}
 use Rattle.poly.specs.Conditions.{Trimmed, AllFinite, SomeNotFinite, Exactly}
 use Rattle.poly.proofs.Coefficients.{last-left, trimmed-most}
 
 -- ---- finite, or not
-all-finite : (s : List Float) → allFiniteOf s ≡ true → AllFinite s
-unfolding allFiniteOf
-all-finite [] e i h = absurd (omega (arith, h))
-all-finite (c ∷ s) e zero h = first-holds (isFiniteOf c) (allFiniteOf s) e
-all-finite (c ∷ s) e (suc i) h = all-finite s (second-holds (isFiniteOf c) (allFiniteOf s) e) i (omega arith)
-
 some-not : (s : List Float) → allFiniteOf s ≡ false → SomeNotFinite s
-unfolding allFiniteOf
 some-not [] e = absurd (true≢false e)
 some-not (c ∷ s) e = go (isFiniteOf c) refl e (some-not s)
   where
@@ -47,7 +41,7 @@ not-all : (s : List Float) → SomeNotFinite s → allFiniteOf s ≡ false
 not-all s r = go (allFiniteOf s) refl
   where
     go : (b : Bool) → allFiniteOf s ≡ b → allFiniteOf s ≡ false
-    go true e = absurd (true≢false (sym (all-finite s e (r .0) (r .1)) ∙ r .2))
+    go true e = absurd (true≢false (sym (finite-at s e (r .0) (r .1)) ∙ r .2))
     go false e = e
 
 -- ---- the trimmed length
@@ -78,9 +72,9 @@ told s = go (allFiniteOf s) (leb (trimmedOf s) 1) (leb (trimmedOf s) 5) refl ref
   where
     go : (f a b : Bool) → allFiniteOf s ≡ f → leb (trimmedOf s) 1 ≡ a → leb (trimmedOf s) 5 ≡ b → Told s (cond f (cond a 2 (cond b 0 3)) 1)
     go false a b e p q = some-not s e
-    go true true b e p q = (all-finite s e, leb-true (trimmedOf s) 1 p)
-    go true false true e p q = (all-finite s e, leb-false (trimmedOf s) 1 p, leb-true (trimmedOf s) 5 q)
-    go true false false e p q = (all-finite s e, leb-false (trimmedOf s) 5 q)
+    go true true b e p q = (finite-at s e, leb-true (trimmedOf s) 1 p)
+    go true false true e p q = (finite-at s e, leb-false (trimmedOf s) 1 p, leb-true (trimmedOf s) 5 q)
+    go true false false e p q = (finite-at s e, leb-false (trimmedOf s) 5 q)
 
 -- the condition gives the number, for those there are
 number-of : (s : List Float) (k : ℕ) → k ≤ 3 → Told s k → refusalOf s ≡ k
@@ -91,7 +85,7 @@ number-of s (suc (suc zero)) h t = rw (finite-all s (t .0), le-leb (trimmedOf s)
 number-of s (suc (suc (suc zero))) h t = rw (finite-all s (t .0), lt-leb (trimmedOf s) 1 (omega (arith, t .1)), lt-leb (trimmedOf s) 5 (t .1))
 number-of s (suc (suc (suc (suc k)))) h t = absurd (omega (arith, h))
 
-refusal-most : (finite : Bool) (n : ℕ) → refusalBy finite n ≤ 3
+pub refusal-most : (finite : Bool) (n : ℕ) → refusalBy finite n ≤ 3
 unfolding refusalBy
 refusal-most finite n =
     either-way (λ (k : ℕ). k ≤ 3) finite (either-way (λ (k : ℕ). k ≤ 3) (leb n 1) (omega arith) (either-way (λ (k : ℕ). k ≤ 3) (leb n 5) (omega arith) (omega arith))) (omega arith)

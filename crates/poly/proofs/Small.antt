@@ -8,14 +8,14 @@ use borrow.Author.Tests.{lt-ltb}
 use lib.ListN.{length, getD}
 use lib.Ieee.{Float, nan, eq, ne}
 use Rattle.float.specs.Literals.{zero64, two64}
-use Rattle.float.specs.Units.{unitsOf}
+use Rattle.float.specs.Units.{unitsOf, Finite}
+use Rattle.float.specs.Methods.{allFiniteOf}
 use Rattle.scaled.specs.Scaled.{scaledOf}
-use Rattle.scaled.proofs.Digits.{Finite}
 use Rattle.scaled.proofs.Promise.{f-small}
 use Rattle.factors.proofs.Checked.{some-units}
 use Rattle.polishing.specs.Claims.{atMost, AllAtMost}
 use Rattle.poly.specs.declared.Solved.{Solved}
-use Rattle.poly.specs.Coefficients.{allFiniteOf, trimmedOf, zerosOf, refusalOf, middleAt, middleOf, polyOf}
+use Rattle.poly.specs.Coefficients.{trimmedOf, zerosOf, refusalOf, middleAt, middleOf, polyOf}
 use Rattle.poly.specs.Solve.{finishedOf, solveOf}
 use Rattle.poly.specs.Conditions.{AllDoubles}
 use Rattle.poly.proofs.Coefficients.{room}

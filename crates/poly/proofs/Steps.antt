@@ -6,7 +6,7 @@ use Prim.Native.Nat.{ℕ, _-_}
 use borrow.Author.Tests.{eq-eqb, ne-eqb}
 use lib.Ieee.{Float}
 use Rattle.float.specs.Literals.{zero64}
-use Rattle.float.specs.Methods.{maxOf}
+use Rattle.float.specs.Methods.{maxOf, allFiniteOf}
 use Rattle.scaled.specs.declared.Scaled.{Scaled}
 use Rattle.scaled.specs.Scaled.{scaledOf}
 use Rattle.factorize.specs.Factorize.{factorizeOf}
@@ -18,7 +18,7 @@ use Rattle.band.specs.declared.Found.{Found}
 use Rattle.band.specs.Quadratic.{foundOf}
 use Rattle.finish.specs.Finish.{finishOf}
 use Rattle.poly.specs.declared.Solved.{Solved}
-use Rattle.poly.specs.Coefficients.{allFiniteOf, trimmedOf, zerosOf, refusalBy, middleOf, polyOf}
+use Rattle.poly.specs.Coefficients.{trimmedOf, zerosOf, refusalBy, middleOf, polyOf}
 use Rattle.poly.specs.Solve.{candidatesOf, finishedOf, refusedBy, solveOf}
 use Rattle.poly.specs.RealRoots.{unscaledAll, answerOf, realRootsOf}
 

@@ -12,7 +12,7 @@ use lib.Ieee.{Float}
 use Rattle.facts.specs.Cond.{either-way}
 use Rattle.facts.specs.Count.{countUp}
 use Rattle.float.specs.Literals.{zero64}
-use Rattle.float.specs.Methods.{isFiniteOf, maxOf}
+use Rattle.float.specs.Methods.{isFiniteOf, maxOf, allFiniteOf}
 use Rattle.scaled.specs.declared.Scaled.{Scaled}
 use Rattle.scaled.specs.Scaled.{scaledOf}
 use Rattle.factors.specs.declared.Factors.{Factors}
@@ -28,10 +28,11 @@ use Rattle.band.specs.declared.Found.{Found}
 use Rattle.band.specs.Quadratic.{foundOf}
 use Rattle.band.proofs.Lists.{quadratic-adds}
 use Rattle.finish.specs.Finish.{finishOf}
-use Rattle.poly.specs.Coefficients.{allFiniteOf, trimmedOf, zerosOf, refusalOf, degreeLeft, polyOf}
+use Rattle.poly.specs.Coefficients.{trimmedOf, zerosOf, refusalOf, degreeLeft, polyOf}
 use Rattle.poly.specs.Solve.{zeroRootsOf, withLin, withQuad, candidatesOf, finishedOf, refusedBy, solveOf}
 use Rattle.poly.specs.declared.Solved.{Solved}
 use Rattle.poly.specs.RealRoots.{unscaledOf, unscaledAll, answerOf, realRootsOf}
+use Rattle.poly.proofs.Arrays.{unscaled-length}
 use Rattle.poly.proofs.Coefficients.{room}
 use Rattle.poly.proofs.Joined.{finish-within, degree-fits}
 
@@ -97,7 +98,7 @@ finished-shared poly zeros tol h =
     rw (list-roots (finishOf poly (c .0) tol), list-pairs (c .1))
     (record { four = w .four; listed = w .listed; two = s .two; sum = omega arith })
 
-poly-degree : (coeffs : List Float) → polyOf coeffs .d ≡ trimmedOf coeffs - zerosOf coeffs - 1
+pub poly-degree : (coeffs : List Float) → polyOf coeffs .d ≡ trimmedOf coeffs - zerosOf coeffs - 1
 unfolding polyOf scaledOf
 poly-degree coeffs = refl
 
@@ -136,14 +137,14 @@ unscaled-within : (e : ℤ) (d : ℕ) (l : List RealRoot) → Within d l → Wit
 unfolding unscaledAll
 unscaled-within e d l w =
     let u = go l (counted l (w .listed)) in
-    let a = u .0 in
+    let a = unscaled-length e l in
     let f = w .four in
-    let b = u .2 in
+    let b = u .1 in
     let s = w .sum in
-    record { four = omega arith; listed = u .1; sum = omega arith }
+    record { four = omega arith; listed = u .0; sum = omega arith }
   where
-    go : (l : List RealRoot) → Counted l → (length (unscaledAll e l) ≤ length l) × Listed (unscaledAll e l) × (multiplicities (unscaledAll e l) ≤ multiplicities l)
-    go [] h = (omega arith, tt, omega arith)
+    go : (l : List RealRoot) → Counted l → Listed (unscaledAll e l) × (multiplicities (unscaledAll e l) ≤ multiplicities l)
+    go [] h = (tt, omega arith)
     go (r ∷ l) h = step (go l (h .1)) (isFiniteOf (unscaledOf e (r .value))) refl
       where
         rest : List RealRoot
@@ -152,10 +153,10 @@ unscaled-within e d l w =
         here : RealRoot
         here = root (unscaledOf e (r .value)) (r .multiplicity)
 
-        step : (length rest ≤ length l) × Listed rest × (multiplicities rest ≤ multiplicities l) → (b : Bool) → isFiniteOf (unscaledOf e (r .value)) ≡ b
-            → (length (cond b (here ∷ rest) rest) ≤ suc (length l)) × Listed (cond b (here ∷ rest) rest) × (multiplicities (cond b (here ∷ rest) rest) ≤ r .multiplicity + multiplicities l)
-        step i true t = (let n = i .0 in omega arith, ((t, h .0), i .1), let s = i .2 in omega arith)
-        step i false t = (let n = i .0 in omega arith, i .1, let s = i .2 in omega arith)
+        step : Listed rest × (multiplicities rest ≤ multiplicities l) → (b : Bool) → isFiniteOf (unscaledOf e (r .value)) ≡ b
+            → Listed (cond b (here ∷ rest) rest) × (multiplicities (cond b (here ∷ rest) rest) ≤ r .multiplicity + multiplicities l)
+        step i true t = (((t, h .0), i .0), let s = i .1 in omega arith)
+        step i false t = (i .0, let s = i .1 in omega arith)
 
 pub answer-within : (coeffs : List Float) (tol : Float) → Within (degreeLeft coeffs) (listOf (realRootsOf coeffs tol .roots))
 unfolding realRootsOf answerOf

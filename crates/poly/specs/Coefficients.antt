@@ -1,5 +1,5 @@
 -- The coefficients that count: Scaled::solve of poly.rs up to Scaled::new, and what it refuses. Definitions only.
-use mathlib.Core.Bool.{Bool, true, cond, _&&_}
+use mathlib.Core.Bool.{Bool, cond}
 use mathlib.Core.List.{List, [], _∷_}
 use Prim.Native.Nat.{ℕ, zero, suc, _+_, _-_}
 use lib.Dec.{ltb, leb}
@@ -7,14 +7,9 @@ use lib.ListN.{length, getD}
 use lib.Ieee.{Float, nan, eq}
 use Rattle.facts.specs.Arrays.{fromFn}
 use Rattle.float.specs.Literals.{zero64}
-use Rattle.float.specs.Methods.{isFiniteOf}
+use Rattle.float.specs.Methods.{allFiniteOf}
 use Rattle.scaled.specs.declared.Scaled.{Scaled}
 use Rattle.scaled.specs.Scaled.{scaledOf}
-
--- not `coeffs.iter().any(|c| !c.is_finite())`
-unfoldable pub allFiniteOf : List Float → Bool
-allFiniteOf [] = true
-allFiniteOf (c ∷ l) = isFiniteOf c && allFiniteOf l
 
 -- `while n > 0 && coeffs[n - 1] == 0.0 { n -= 1 }`: 'Trailing zeros, −0 too, are dropped'
 unfoldable pub trimmedFrom : List Float → ℕ → ℕ
@@ -34,6 +29,7 @@ zerosOf (c ∷ l) = cond (eq c zero64) (suc (zerosOf l)) 0
 unfoldable pub refusalBy : Bool → ℕ → ℕ
 refusalBy finite n = cond finite (cond (leb n 1) 2 (cond (leb n 5) 0 3)) 1
 
+-- finite: not `coeffs.iter().any(|c| !c.is_finite())`
 abbrev pub refusalOf : List Float → ℕ
 refusalOf coeffs = refusalBy (allFiniteOf coeffs) (trimmedOf coeffs)
 
@@ -45,6 +41,7 @@ degreeLeft coeffs = trimmedOf coeffs - 1
 unfoldable pub middleAt : List Float → ℕ → ℕ → ℕ → Float
 middleAt coeffs from to i = cond (ltb i (to - from)) (getD coeffs (from + i) nan) zero64
 
+-- all five
 unfoldable pub middleOf : List Float → ℕ → ℕ → List Float
 middleOf coeffs from to = fromFn 5 (middleAt coeffs from to)
 

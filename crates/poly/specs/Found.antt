@@ -9,6 +9,7 @@ use Rattle.roots.specs.Roots.{root, keptIn}
 use Rattle.band.specs.declared.Found.{Found}
 use Rattle.band.specs.Quadratic.{pushQuadraticIn}
 
+-- withLin and withQuad, in the arrays
 abbrev pub withLinIn : Factors → ℕ → Roots → Roots
 withLinIn f i s = keptIn s (root (linAt f i) 1)
 

@@ -27,5 +27,6 @@ unscaledAll e (r ∷ l) =
 unfoldable pub answerOf : Solved → Answer
 answerOf s = record { number = s .number; roots = rootsOf (unscaledAll (s .poly .e) (listOf (s .roots))) }
 
+-- `real_roots`
 unfoldable pub realRootsOf : List Float → Float → Answer
 realRootsOf coeffs tol = answerOf (solveOf coeffs tol)

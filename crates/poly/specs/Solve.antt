@@ -34,6 +34,7 @@ withLin f i l = kept l (root (linAt f i) 1)
 abbrev pub withQuad : Scaled → Factors → Float → ℕ → List RealRoot × List Pair → List RealRoot × List Pair
 withQuad poly f tol i s = pushQuadraticOf poly (quadAt f i .al) (quadAt f i .be) tol (s .0) (s .1)
 
+-- the zero roots, the linear factors, and then the quadratic ones
 unfoldable pub candidatesOf : Scaled → ℕ → Factors → Float → List RealRoot × List Pair
 candidatesOf poly zeros f tol = countUp (f .nquad) (withQuad poly f tol) (f .nquad) (countUp (f .nlin) (withLin f) (f .nlin) (zeroRootsOf zeros), [])
 
@@ -47,6 +48,7 @@ finishedOf poly zeros tol =
 abbrev pub noPoly : Scaled
 noPoly = record { f = replicate 5 zero64; g = replicate 5 zero64; lg = replicate 5 zero64; d = 0; e = pos 0; unit = zero64 }
 
+-- a refusal by its number
 abbrev pub refusedBy : ℕ → Solved
 refusedBy number = record { number = number; poly = noPoly; tol = zero64; roots = noRoots; pairs = noPairs }
 

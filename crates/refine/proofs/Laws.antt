@@ -7,11 +7,12 @@ use Prim.Native.Nat.{ℕ}
 use lib.ListN.{getD}
 use lib.Ieee.{Float, nan, binary64, sub, div}
 use Rattle.facts.specs.Arrays.{fromFn}
+use Rattle.float.specs.Methods.{allFiniteOf}
 use Rattle.float.specs.Literals.{zero64}
 use Rattle.horner.specs.Horner.{valueSlopeOf}
 use Rattle.horner.specs.declared.ValueSlope.{ValueSlope}
 use Rattle.square.specs.Square.{solveSquareOf}
-use Rattle.refine.specs.Refine.{System, weightedOf, normOf, isSettledOf, weighRowsOf, allFiniteOf, advancedOf, trialOf, noLessOf, keptOf, nextOf}
+use Rattle.refine.specs.Refine.{System, weightedOf, normOf, isSettledOf, weighRowsOf, advancedOf, trialOf, noLessOf, keptOf, nextOf}
 use Rattle.refine.specs.Weighed.{weigh3Of, weigh4Of}
 use Rattle.refine.specs.Newton.{flatOf, noGainOf, newtonNext}
 use Rattle.refine.specs.declared.Weighed3.{Weighed3}

@@ -1,5 +1,5 @@
 -- `refine` of poly.rs: Newton's method on a square system of any size n, each equation weighted by the magnitude of its terms. Definitions only.
-use mathlib.Core.Bool.{Bool, true, cond, not, _&&_, _||_}
+use mathlib.Core.Bool.{Bool, cond, not, _&&_, _||_}
 use mathlib.Core.List.{List, []}
 use mathlib.Core.Option.{Option, none, some}
 use Prim.Native.Nat.{ℕ}
@@ -9,7 +9,7 @@ use Rattle.facts.specs.Arrays.{fromFn}
 use Rattle.facts.specs.Count.{countUp}
 use Rattle.facts.specs.Turns.{turnsOf}
 use Rattle.float.specs.Literals.{zero64, halfEpsilon64}
-use Rattle.float.specs.Methods.{isFiniteOf}
+use Rattle.float.specs.Methods.{isFiniteOf, allFiniteOf}
 use Rattle.square.specs.Square.{sizesOf, solveSquareOf}
 
 -- Equations in x, the closures `res` and `jac`: their residuals, the magnitudes of the residuals' terms, and the rows of derivatives.
@@ -46,13 +46,6 @@ weighRowsStep mag i j = set j i (weighRowOf (getD j i []) (getD mag i nan))
 
 unfoldable pub weighRowsOf : ℕ → List (List Float) → List Float → List (List Float)
 weighRowsOf n j mag = countUp n (weighRowsStep mag) n j
-
--- s.iter().all(|v| v.is_finite())
-abbrev pub allFiniteStep : List Float → ℕ → Bool → Bool
-allFiniteStep s i all = all && isFiniteOf (getD s i nan)
-
-unfoldable pub allFiniteOf : List Float → Bool
-allFiniteOf s = countUp (length s) (allFiniteStep s) (length s) true
 
 -- `next`, the place to try: x less the step, if there is one and it is finite
 unfoldable pub advancedOf : ℕ → List Float → Option (List Float) → Option (List Float)

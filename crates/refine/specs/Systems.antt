@@ -10,6 +10,7 @@ use Rattle.refine.specs.Refine.{System}
 abbrev at : List Float → ℕ → Float
 at x i = getD x i nan
 
+-- the sizes of a residual's terms, added from the left
 abbrev pub size2Of : Float → Float → Float
 size2Of a b = add binary64 (absOf a) (absOf b)
 
@@ -21,6 +22,7 @@ size4Of a b c d = add binary64 (size3Of a b c) (absOf d)
 
 -- ---- y^3 + b*y^2 + c*y + d = (y - x0) * (y^2 + x1*y + x2)
 
+-- `res`, by falling powers: the residuals, and the magnitudes of their terms; `jac`: the derivatives by x0, x1 and x2
 abbrev pub cubicResidualOf : Float → Float → Float → List Float → List Float
 cubicResidualOf b c d x =
     sub binary64 (sub binary64 (at x 1) (at x 0)) b
@@ -47,6 +49,7 @@ cubicSystem b c d = record { res = cubicResidualOf b c d; mag = cubicMagnitudeOf
 
 -- ---- y^4 + b*y^3 + c*y^2 + d*y + e = (y^2 + x0*y + x1) * (y^2 + x2*y + x3)
 
+-- `res` and `jac`, likewise
 abbrev pub quarticResidualOf : Float → Float → Float → Float → List Float → List Float
 quarticResidualOf b c d e x =
     sub binary64 (add binary64 (at x 0) (at x 2)) b
@@ -76,6 +79,7 @@ quarticSystem b c d e = record { res = quarticResidualOf b c d e; mag = quarticM
 
 -- ---- y^4 + b*y^3 + c*y^2 + d*y + e = (y - x0) * (y^3 + x1*y^2 + x2*y + x3)
 
+-- `res` and `jac`, likewise
 abbrev pub peelResidualOf : Float → Float → Float → Float → List Float → List Float
 peelResidualOf b c d e x =
     sub binary64 (sub binary64 (at x 1) (at x 0)) b

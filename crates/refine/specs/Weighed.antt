@@ -5,6 +5,7 @@ use Rattle.refine.specs.Refine.{weightedOf, normOf}
 use Rattle.refine.specs.declared.Weighed3.{Weighed3}
 use Rattle.refine.specs.declared.Weighed4.{Weighed4}
 
+-- at the residuals r
 unfoldable pub weigh3Of : List Float → List Float → Weighed3
 weigh3Of r mag = let w = weightedOf 3 r mag in record { mag = mag; w = w; norm = normOf w }
 

@@ -1,8 +1,9 @@
 // Newton's method on square systems: `refine` of poly.rs at sizes 3 and 4, for the factors of a cubic, the two quadratics of a quartic, and a quartic with one root
 // peeled off; and `newton_cubic`. It rests on `square` (elimination), `horner` (evaluation), `float` and `facts`; factoring rests on it.
 ghost use mathlib.Core.Path.{_≡_};
+ghost use Rattle.float.specs.Methods.{allFiniteOf};
 ghost use Rattle.square.specs.Step.{step3, step4};
-ghost use Rattle.refine.specs.Refine.{overOf, isSettledOf, weighRowOf, weighRowsOf, allFiniteOf, trialOf, noLessOf, refineOf};
+ghost use Rattle.refine.specs.Refine.{overOf, isSettledOf, weighRowOf, weighRowsOf, trialOf, noLessOf, refineOf};
 ghost use Rattle.refine.specs.Systems.{size2Of, size3Of, size4Of, cubicResidualOf, cubicMagnitudeOf, cubicJacobianOf, cubicSystem, quarticResidualOf, quarticMagnitudeOf, quarticJacobianOf, quarticSystem, peelResidualOf, peelMagnitudeOf, peelJacobianOf, peelSystem};
 ghost use Rattle.refine.specs.Weighed.{weigh3Of, weigh4Of};
 ghost use Rattle.refine.specs.Newton.{flatOf, noGainOf, newtonCubicOf};

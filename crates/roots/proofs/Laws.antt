@@ -9,6 +9,7 @@ use lib.Dec.{ltb}
 use lib.ListN.{length, drop, getD, set, length-set}
 use lib.Seq.{length-take-le, take-append-seam}
 use Rattle.facts.specs.Cond.{either-way}
+use Rattle.facts.specs.Lists.{length-snoc, left-cons, left-nil, take-pushed, length-padded, padded-push}
 use Rattle.float.specs.Methods.{isFiniteOf}
 use Rattle.roots.specs.declared.RealRoot.{RealRoot}
 use Rattle.roots.specs.declared.Roots.{Roots}
@@ -16,7 +17,6 @@ use Rattle.roots.specs.declared.Pair.{Pair}
 use Rattle.roots.specs.declared.Pairs.{Pairs}
 use Rattle.roots.specs.Roots.{noRoot, listOf, rootsOf, held, kept, pushedOf, keptIn, noPair, pairListOf, pairsOf, paired, pairedIn}
 use Rattle.roots.specs.Listed.{Fits, PairsFit, blank, blankPair}
-use Rattle.roots.proofs.Arrays.{length-snoc, left-cons, left-nil, take-pushed, length-padded, padded-push}
 
 -- ---- a loop over the roots
 pub roots-cons : (s : Roots) (k : ℕ) → Fits s → k < s .len → drop k (listOf s) ≡ getD (s .root) k blank ∷ drop (k + 1) (listOf s)
@@ -48,14 +48,6 @@ pushed-list s r f = go (ltb (s .len) 4) refl ∙ ap (λ (k : ℕ). cond (ltb k 4
 pub kept-fits : (s : Roots) (r : RealRoot) → Fits s → Fits (keptIn s r)
 unfolding keptIn
 kept-fits s r f = either-way Fits (isFiniteOf (r .value)) (pushed-fits s r f) f
-
-pub kept-list : (s : Roots) (r : RealRoot) → Fits s → listOf (keptIn s r) ≡ kept (listOf s) r
-unfolding keptIn kept
-kept-list s r f = go (isFiniteOf (r .value))
-  where
-    go : (b : Bool) → listOf (cond b (pushedOf s r) s) ≡ cond b (held (listOf s) r) (listOf s)
-    go true = pushed-list s r f
-    go false = refl
 
 -- ---- a list in an array
 pub list-roots : (l : List RealRoot) → listOf (rootsOf l) ≡ l
@@ -98,18 +90,6 @@ paired-fits s p f = go (isFiniteOf (p .centre)) (ltb (s .len) 2) refl
     go true true t = let h = ltb-true (s .len) 2 t in (length-set (s .pair) (s .len) p ∙ f .0, omega arith)
     go true false t = f
     go false b t = f
-
-pub paired-list : (s : Pairs) (p : Pair) → PairsFit s → pairListOf (pairedIn s p) ≡ paired (pairListOf s) p
-unfolding pairedIn paired
-paired-list s p f =
-    go (isFiniteOf (p .centre)) (ltb (s .len) 2) refl
-    ∙ ap (λ (k : ℕ). cond (isFiniteOf (p .centre) && ltb k 2) (pairListOf s ++ p ∷ []) (pairListOf s)) (sym (length-pairList s f))
-  where
-    go : (c b : Bool) → ltb (s .len) 2 ≡ b
-        → pairListOf (cond (c && b) (record { pair = set (s .pair) (s .len) p; len = s .len + 1 }) s) ≡ cond (c && b) (pairListOf s ++ p ∷ []) (pairListOf s)
-    go true true t = let h = ltb-true (s .len) 2 t in let e = f .0 in take-pushed (s .pair) (s .len) p (omega arith)
-    go true false t = refl
-    go false b t = refl
 
 pub list-pairs : (l : List Pair) → pairListOf (pairsOf l) ≡ l
 list-pairs l = take-append-seam l _

@@ -8,22 +8,12 @@ use borrow.Author.Tests.{ltb-true}
 use lib.Dec.{ltb}
 use lib.ListN.{length}
 use Rattle.facts.specs.Cond.{either-way}
-use Rattle.facts.specs.Sort.{sumOf, AllOf}
+use Rattle.facts.specs.Lists.{AllOf, length-snoc, sum-snoc, all-snoc}
 use Rattle.float.specs.Methods.{isFiniteOf}
 use Rattle.roots.specs.declared.RealRoot.{RealRoot}
 use Rattle.roots.specs.declared.Pair.{Pair}
 use Rattle.roots.specs.Roots.{held, kept, paired}
 use Rattle.roots.specs.Listed.{multiplicities, Counted, Listed, Within, Shared}
-use Rattle.roots.proofs.Arrays.{length-snoc}
-
-module _ {A : Type 0} where
-  sum-snoc : (size : A → ℕ) (l : List A) (x : A) → sumOf size (l ++ x ∷ []) ≡ sumOf size l + size x
-  sum-snoc size [] x = omega arith
-  sum-snoc size (y ∷ l) x = let i = sum-snoc size l x in omega arith
-
-  all-snoc : (P : A → Type 0) (l : List A) (x : A) → AllOf P l → P x → AllOf P (l ++ x ∷ [])
-  all-snoc P [] x h p = (p, tt)
-  all-snoc P (y ∷ l) x h p = (h .0, all-snoc P l x (h .1) p)
 
 -- ---- counts
 pub counted : (l : List RealRoot) → Listed l → Counted l

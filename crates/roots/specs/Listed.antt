@@ -5,7 +5,7 @@ use mathlib.Core.List.{List}
 use Prim.Native.Nat.{ℕ, _+_, _*_, _≤_}
 use lib.ListN.{length}
 use lib.Ieee.{nan}
-use Rattle.facts.specs.Sort.{sumOf, AllOf}
+use Rattle.facts.specs.Lists.{sumOf, AllOf}
 use Rattle.float.specs.Methods.{isFiniteOf}
 use Rattle.roots.specs.declared.RealRoot.{RealRoot}
 use Rattle.roots.specs.declared.Roots.{Roots}

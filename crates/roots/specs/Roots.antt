@@ -16,6 +16,7 @@ use Rattle.roots.specs.declared.Pairs.{Pairs}
 abbrev pub root : Float → ℕ → RealRoot
 root y m = record { value = y; multiplicity = m }
 
+-- what stands in a place that does not count
 abbrev pub noRoot : RealRoot
 noRoot = root zero64 0
 
@@ -52,6 +53,7 @@ keptIn s r = cond (isFiniteOf (r .value)) (pushedOf s r) s
 abbrev pub pair : Float → Float → Pair
 pair c h = record { centre = c; half = h }
 
+-- likewise
 abbrev pub noPair : Pair
 noPair = pair zero64 zero64
 

@@ -3,7 +3,7 @@
 use mathlib.Core.Path.{_≡_, refl, sym, ap, _∙_, subst}
 use mathlib.Core.Logic.{_⊎_, inl, inr}
 use Prim.Native.Nat.{ℕ, zero, suc, _+_, _-_, _*_, _%_, _^_, _≤_, _<_, zero-le}
-use native.Mathlib.Nat.{le-trans, le-of-eq, le-of-lt, le-of-suc-le-suc, lt-of-le-of-lt, lt-of-not-le, not-le-of-lt, ne-of-lt, mul-one, one-mul, zero-mul, mul-zero, zero-add, add-zero, sub-zero, mul-sub, sub-add-cancel, mul-pos, mul-assoc, mul-comm, mul-le-mul-right, le-of-mul-le-mul-right, eq-of-mul-eq-mul-right}
+use native.Mathlib.Nat.{le-trans, le-of-eq, le-of-lt, le-of-suc-le-suc, lt-of-le-of-lt, lt-of-not-le, not-le-of-lt, ne-of-lt, mul-one, one-mul, zero-mul, mul-zero, zero-add, add-zero, sub-zero, sub-add-cancel, mul-pos, mul-assoc, mul-le-mul-right, le-of-mul-le-mul-right, eq-of-mul-eq-mul-right}
 use native.Mathlib.Omega.{arith}
 use mathlib.Core.Bool.{Bool, true, false, not, cond, _&&_, true≢false}
 use lib.Dec.{T, ltb, leb, eqb, ltb→lt, nltb→le, leb→le, eqb→eq, lit<, lit≤}
@@ -13,6 +13,7 @@ use lib.Ieee.{Float, nan, inf, fin, binary64, up, down, round, sum, add, neg, mu
 use lib.Ieee.Fits.{down-pos, round-is, and-l, and-r}
 use lib.Ieee.Exact.{HasValue, units-val}
 use lib.Ieee.Order.{drop, kept}
+use Rattle.algebra.specs.NatOrder.{sub-mul}
 use Rattle.rounding.specs.Units.{oneUnits}
 use Rattle.rounding.specs.Rounded.{Rounded, rounded, same-fraction}
 
@@ -143,10 +144,7 @@ round-below num den P N d DEN D h e l =
 difference-units : (a b c p q : ℕ) → 0 < c → a * oneUnits ≡ p * c → b * oneUnits ≡ q * c → a ≤ b → (p ≤ q) × ((b - a) * oneUnits * 1 ≡ (q - p) * c)
 difference-units a b c p q C x y h =
     let l : p ≤ q = le-of-mul-le-mul-right (omega (arith, mul-le-mul-right oneUnits h)) C in
-    (l, mul-one ((b - a) * oneUnits) ∙ times-sub b a oneUnits ∙ ap (λ (z : ℕ). z - a * oneUnits) y ∙ ap (λ (z : ℕ). q * c - z) x ∙ sym (times-sub q p c))
-  where
-    times-sub : (m n k : ℕ) → (m - n) * k ≡ m * k - n * k
-    times-sub m n k = mul-comm (m - n) k ∙ mul-sub k m n ∙ ap (λ (z : ℕ). z - k * n) (mul-comm k m) ∙ ap (λ (z : ℕ). m * k - z) (mul-comm k n)
+    (l, mul-one ((b - a) * oneUnits) ∙ sub-mul b a oneUnits ∙ ap (λ (z : ℕ). z - a * oneUnits) y ∙ ap (λ (z : ℕ). q * c - z) x ∙ sym (sub-mul q p c))
 
 sum-units : (a b c p q : ℕ) → a * oneUnits ≡ p * c → b * oneUnits ≡ q * c → (a + b) * oneUnits * 1 ≡ (p + q - 0) * c
 sum-units a b c p q x y =

@@ -4,21 +4,18 @@ use mathlib.Core.Bool.{true, false}
 use mathlib.Core.Logic.{⊎-elim}
 use Prim.Native.Nat.{ℕ, zero, suc, _+_, _-_, _*_, _^_, _≤_, _<_}
 use native.Mathlib.Omega.{arith}
-use native.Mathlib.Nat.{mul-assoc, mul-one, one-mul, mul-le-mul-left, le-trans, le-of-eq, le-of-lt, lt-of-le-of-lt, le-of-mul-le-mul-right, le-antisymm, sub-add-cancel, eq-of-mul-eq-mul-right}
+use native.Mathlib.Nat.{mul-one, one-mul, mul-le-mul-left, le-trans, le-of-eq, le-of-lt, lt-of-le-of-lt, le-of-mul-le-mul-right, le-antisymm, sub-add-cancel, eq-of-mul-eq-mul-right}
 use lib.Dec.{lit<}
 use lib.Pow.{pow-add, pow-pos, pow-mono}
 use lib.IntN.{pos, negsuc, _-ℤ_}
 use lib.Ieee.{Float, binary64, mul}
-use Rattle.algebra.specs.NatOrder.{le-or-lt}
-use Rattle.float.specs.Units.{unitsOf}
+use Rattle.algebra.specs.NatOrder.{le-or-lt, pow2-join}
+use Rattle.float.specs.Units.{unitsOf, Finite}
 use Rattle.scale.specs.Scale.{pow2Of, scaledOf, ldexpOf}
 use Rattle.scale.proofs.Chain.{all-last, all-step, by-sign}
-use Rattle.scaled.proofs.Digits.{Finite, digits, units-under}
+use Rattle.scaled.proofs.Digits.{digits, units-under}
 use Rattle.scaled.proofs.Rounds.{times, kept-above, kept-below}
 use Rattle.scaled.proofs.Held.{above, below}
-
-join : (a i j : ℕ) → a * 2 ^ i * 2 ^ j ≡ a * 2 ^ (i + j)
-join a i j = mul-assoc a (2 ^ i) (2 ^ j) ∙ ap (λ (x : ℕ). a * x) (sym (pow-add 2 i j))
 
 -- ---- y is x / 2^n, rounded once or more: it keeps bounds
 record Shrunk (x y : Float) (n : ℕ) : Type 0 where
@@ -31,8 +28,8 @@ shrink x n F =
     let P = times x (negsuc n) F 1 2097 (lit< tt) (lit< tt) (le-trans (le-of-eq (mul-one (unitsOf x))) (le-trans (le-of-lt (units-under x F)) room)) in
     record {
       finite = P .finite;
-      over = λ w g W h. kept-above (pow-pos (suc n)) (P .rounds) w g W (le-trans (le-of-eq (mul-one (unitsOf x))) (le-trans h (le-of-eq (sym (join w g (suc n))))));
-      under = λ w g W h. kept-below (pow-pos (suc n)) (P .rounds) w g W (le-trans (le-of-eq (join w g (suc n))) (le-trans h (le-of-eq (sym (mul-one (unitsOf x))))));
+      over = λ w g W h. kept-above (pow-pos (suc n)) (P .rounds) w g W (le-trans (le-of-eq (mul-one (unitsOf x))) (le-trans h (le-of-eq (sym (pow2-join w g (suc n))))));
+      under = λ w g W h. kept-below (pow-pos (suc n)) (P .rounds) w g W (le-trans (le-of-eq (pow2-join w g (suc n))) (le-trans h (le-of-eq (sym (mul-one (unitsOf x))))));
     }
   where
     room : 2 ^ 2098 ≤ 1 * 2 ^ 2097 * 2 ^ suc n
@@ -76,7 +73,7 @@ grow x n F h =
     let w = d .0 in
     let g = d .1 + n in
     let W = d .2 .short in
-    let e : unitsOf x * 2 ^ n ≡ w * 2 ^ g = ap (λ (u : ℕ). u * 2 ^ n) (sym (d .2 .value)) ∙ join w (d .1) n in
+    let e : unitsOf x * 2 ^ n ≡ w * 2 ^ g = ap (λ (u : ℕ). u * 2 ^ n) (sym (d .2 .value)) ∙ pow2-join w (d .1) n in
     let e₁ : unitsOf x * 2 ^ n ≡ w * 2 ^ g * 1 = e ∙ sym (mul-one (w * 2 ^ g)) in
     let P = times x (pos n) F w g W (subst (λ (u : ℕ). u < 2 ^ 2098) e h) (le-of-eq e₁) in
     record {
@@ -93,7 +90,7 @@ rise-step n x F b h rest =
     let y = mul binary64 x (pow2Of (pos 1000)) in
     let m = n - 1000 in
     let P = grow x 1000 F (lt-of-le-of-lt (mul-le-mul-left (unitsOf x) (pow-mono (le-of-lt h))) b) in
-    let e : unitsOf y * 2 ^ m ≡ unitsOf x * 2 ^ n = ap (λ (u : ℕ). u * 2 ^ m) (P .is) ∙ join (unitsOf x) 1000 m ∙ (let q : 1000 + (n - 1000) ≡ n = omega arith in ap (λ (k : ℕ). unitsOf x * 2 ^ k) q) in
+    let e : unitsOf y * 2 ^ m ≡ unitsOf x * 2 ^ n = ap (λ (u : ℕ). u * 2 ^ m) (P .is) ∙ pow2-join (unitsOf x) 1000 m ∙ (let q : 1000 + (n - 1000) ≡ n = omega arith in ap (λ (k : ℕ). unitsOf x * 2 ^ k) q) in
     let Q = rest y (P .finite) (subst (λ (u : ℕ). u < 2 ^ 2098) (sym e) b) in
     subst (λ (z : Float). Grown x z n) (sym (all-step false n x h)) (record { finite = Q .finite; is = Q .is ∙ e })
 
@@ -113,20 +110,20 @@ bounded x p q w g F W O h = ⊎-elim up-there down-there (le-or-lt q p)
     up-there : q ≤ p → Bounded x (ldexpOf x (pos p -ℤ pos q)) p q w g
     up-there l =
         let n = p - q in
-        let e : unitsOf x * 2 ^ n * 2 ^ q ≡ unitsOf x * 2 ^ p = join (unitsOf x) n q ∙ ap (λ (k : ℕ). unitsOf x * 2 ^ k) (sub-add-cancel l) in
-        let b : unitsOf x * 2 ^ n ≤ w * 2 ^ g = le-of-mul-le-mul-right (le-trans (le-of-eq e) (le-trans h (le-of-eq (sym (join w g q))))) (pow-pos q) in
+        let e : unitsOf x * 2 ^ n * 2 ^ q ≡ unitsOf x * 2 ^ p = pow2-join (unitsOf x) n q ∙ ap (λ (k : ℕ). unitsOf x * 2 ^ k) (sub-add-cancel l) in
+        let b : unitsOf x * 2 ^ n ≤ w * 2 ^ g = le-of-mul-le-mul-right (le-trans (le-of-eq e) (le-trans h (le-of-eq (sym (pow2-join w g q))))) (pow-pos q) in
         let P = rise n n (omega arith) x F (lt-of-le-of-lt b O) in
         rw (above p q l, by-sign false n x)
         (record {
           finite = P .finite;
           over = le-trans (le-of-eq (P .is)) b;
-          exact = λ k. P .is ∙ eq-of-mul-eq-mul-right (2 ^ q) (pow-pos q) (unitsOf x * 2 ^ n) (w * 2 ^ g) (e ∙ k ∙ sym (join w g q));
+          exact = λ k. P .is ∙ eq-of-mul-eq-mul-right (2 ^ q) (pow-pos q) (unitsOf x * 2 ^ n) (w * 2 ^ g) (e ∙ k ∙ sym (pow2-join w g q));
         })
 
     down-there : p < q → Bounded x (ldexpOf x (pos p -ℤ pos q)) p q w g
     down-there l =
         let n = q - suc p in
-        let e : w * 2 ^ (g + suc n) * 2 ^ p ≡ w * 2 ^ (g + q) = join w (g + suc n) p ∙ (let d : g + suc (q - suc p) + p ≡ g + q = omega arith in ap (λ (k : ℕ). w * 2 ^ k) d) in
+        let e : w * 2 ^ (g + suc n) * 2 ^ p ≡ w * 2 ^ (g + q) = pow2-join w (g + suc n) p ∙ (let d : g + suc (q - suc p) + p ≡ g + q = omega arith in ap (λ (k : ℕ). w * 2 ^ k) d) in
         let P = fall n n (omega arith) x F in
         let b = P .over w g W (le-of-mul-le-mul-right (le-trans h (le-of-eq (sym e))) (pow-pos p)) in
         rw (below p q l, by-sign true (suc n) x)

@@ -6,7 +6,6 @@ use Prim.Native.Nat.{ℕ, _+_, _*_, _/_, _^_, _≤_, _<_}
 use native.Mathlib.Omega.{arith}
 use native.Mathlib.Nat.{lt-of-lt-of-le, mul-assoc, mul-div-cancel}
 use borrow.Author.Tests.{le-leb, lt-leb}
-use lib.Dec.{T}
 use lib.Pow.{pow-mono, shl-lt}
 use lib.IntN.{ℤ, natAbs}
 use lib.Ieee.{Float, nan, inf, fin, binary64, fits, minus, size, up, down}
@@ -16,17 +15,11 @@ use Rattle.algebra.specs.NatOrder.{le-or-lt}
 use Rattle.rounding.specs.Units.{oneUnits}
 use Rattle.rounding.proofs.Value.{exponent, fits-says}
 use Rattle.float.specs.Methods.{isFiniteOf}
-use Rattle.float.specs.Units.{unitsOf}
+use Rattle.float.specs.Units.{unitsOf, Finite}
+use Rattle.float.proofs.Bits.{of-true}
 use Rattle.decode.specs.Exponent.{exponentOf}
 use Rattle.decode.specs.Shape.{Whole}
 use Rattle.decode.proofs.Fields.{shape}
-
-pub record Finite (x : Float) : Type 0 where
-  pub held : fits binary64 x ≡ true
-  pub finite : isFiniteOf x ≡ true
-
-pub of-true : {b : Bool} → b ≡ true → T b
-of-true e = subst T (sym e) tt
 
 pub digits : (x : Float) → Finite x → (w : ℕ) × (k : ℕ) × Whole (unitsOf x) w k
 unfolding isFiniteOf

@@ -5,8 +5,9 @@ use mathlib.Core.Path.{_≡_, sym, ap, _∙_, subst}
 use Prim.Native.Nat.{ℕ, zero, suc, _+_, _-_, _*_, _/_, _^_, _≤_, _<_, zero-le}
 use native.Mathlib.Omega.{arith}
 use native.Mathlib.Nat.{mul-assoc, mul-comm, mul-le-mul-right, mul-le-mul-left, mul-lt-mul-of-pos-right, le-trans, le-of-eq, lt-of-le-of-lt, suc-mul, zero-mul, div-mul-le-self, pow-succ', zero-lt-suc, le-div-iff-mul-le, lt-of-not-le, lt-irrefl}
-use lib.Pow.{pow-add, pow-pos, pow-mono}
+use lib.Pow.{pow-pos, pow-mono}
 use lib.Ieee.{Float}
+use Rattle.algebra.specs.NatOrder.{pow2-join}
 use Rattle.float.specs.Units.{unitsOf}
 use Rattle.decode.specs.Shape.{Normal, Decoded}
 use Rattle.decode.proofs.Class.{decoded-irregular, decoded-normal, irregular-units}
@@ -40,9 +41,6 @@ at-most x j (suc k) J h C =
     let l : k * j < x = subst (λ (y : ℕ). y * j < x) (less-one k) (C .below (zero-lt-suc k)) in
     lt-of-not-le (λ (g : 4196 ≤ k). lt-irrefl x (lt-of-le-of-lt (le-trans h (le-trans (let w : 2098 + 2098 * j ≤ 4196 * j = omega arith in w) (mul-le-mul-right j g))) l))
 
-join : (a i j : ℕ) → a * 2 ^ i * 2 ^ j ≡ a * 2 ^ (i + j)
-join a i j = mul-assoc a (2 ^ i) (2 ^ j) ∙ ap (λ (x : ℕ). a * x) (sym (pow-add 2 i j))
-
 module _ (w k w' k' j : ℕ) (J : 0 < j) where
   -- 2^x brings the leading coefficient up, and 2^(x - 1) does not
   from-power : (x : ℕ) → 0 < x → x ≤ 2098 + 2098 * j → w' * 2 ^ (k' + 2098 * j) ≤ w * 2 ^ (k + x) → w * 2 ^ (k + (x - 1)) < w' * 2 ^ (k' + 2098 * j)
@@ -51,9 +49,9 @@ module _ (w k w' k' j : ℕ) (J : 0 < j) where
       let r = (x + (j - 1)) / j in
       let C = ceiling x j J X in
       record {
-        holds = le-trans (le-of-eq (join w' k' (2098 * j))) (le-trans lo (le-trans (mul-le-mul-left w (pow-mono (omega (arith, C .above)))) (le-of-eq (sym (join w k (r * j))))));
-        least = λ p. subst (λ (y : ℕ). w * 2 ^ k * 2 ^ ((r - 1) * j) < y) (sym (join w' k' (2098 * j)))
-            (lt-of-le-of-lt (le-of-eq (join w k ((r - 1) * j))) (lt-of-le-of-lt (mul-le-mul-left w (pow-mono (within ((r - 1) * j) (C .below p)))) hi));
+        holds = le-trans (le-of-eq (pow2-join w' k' (2098 * j))) (le-trans lo (le-trans (mul-le-mul-left w (pow-mono (omega (arith, C .above)))) (le-of-eq (sym (pow2-join w k (r * j))))));
+        least = λ p. subst (λ (y : ℕ). w * 2 ^ k * 2 ^ ((r - 1) * j) < y) (sym (pow2-join w' k' (2098 * j)))
+            (lt-of-le-of-lt (le-of-eq (pow2-join w k ((r - 1) * j))) (lt-of-le-of-lt (mul-le-mul-left w (pow-mono (within ((r - 1) * j) (C .below p)))) hi));
         bound = at-most x j r J B C;
       }
     where

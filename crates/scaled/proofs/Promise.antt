@@ -18,18 +18,18 @@ use lib.Ieee.Bits.{is-true}
 use lib.Ieee.Fits.{down-pos}
 use lib.Ieee.Order.{le-of-values}
 use Rattle.algebra.specs.RingInt.{ringℤ, _:+_, _:-_, _:*_, _:=_}
-use Rattle.algebra.specs.NatOrder.{le-or-lt}
+use Rattle.algebra.specs.NatOrder.{le-or-lt, pow2-join}
 use Rattle.facts.specs.Arrays.{fillFrom}
 use Rattle.facts.specs.Cond.{both-hold}
 use Rattle.float.specs.Literals.{two64}
 use Rattle.float.specs.Methods.{absOf, isFiniteOf}
-use Rattle.float.specs.Units.{unitsOf}
+use Rattle.float.specs.Units.{unitsOf, Finite}
 use Rattle.decode.specs.Shape.{Whole, Normal}
 use Rattle.decode.proofs.Fields.{shifted}
 use Rattle.decode.proofs.Highest.{exponent-is}
 use Rattle.scaled.specs.Exponent.{scaleExponentOf}
 use Rattle.scaled.specs.Scaled.{topOf, shiftOf, coefficientOf, coefficientsOf, scaledOf}
-use Rattle.scaled.proofs.Digits.{Finite, digits, units-fraction}
+use Rattle.scaled.proofs.Digits.{digits, units-fraction}
 use Rattle.scaled.proofs.Held.{parts, out-of, times}
 use Rattle.scaled.proofs.Smallest.{regular, exponent-holds}
 use Rattle.scaled.proofs.Chained.{Bounded, bounded}
@@ -126,15 +126,12 @@ module _ (a : List Float) (d : ℕ) (D : d ≤ 4) (F : (i : ℕ) → i ≤ d →
       ∙ (let m : d ≡ i + (d - i) = omega arith in ap (λ (k : ℕ). (pos p -ℤ pos q) *ℤ pos i -ℤ ((pos t -ℤ pos 1074) +ℤ (pos p -ℤ pos q) *ℤ pos k)) m)
       ∙ shift-is p q t i (d - i)
 
-  join : (x i j : ℕ) → x * 2 ^ i * 2 ^ j ≡ x * 2 ^ (i + j)
-  join x i j = mul-assoc x (2 ^ i) (2 ^ j) ∙ ap (λ (y : ℕ). x * y) (sym (pow-add 2 i j))
-
   lead-is : unitsOf lead * 2 ^ 1074 ≡ w * 2 ^ (1022 + t)
   lead-is =
-      sym (join (unitsOf lead) 52 1022)
+      sym (pow2-join (unitsOf lead) 52 1022)
       ∙ ap (λ (x : ℕ). x * 2 ^ 1022) (sym (N .value))
       ∙ mul-right-comm w (2 ^ t) (2 ^ 1022)
-      ∙ join w 1022 t
+      ∙ pow2-join w 1022 t
 
   -- |a_i| ≤ |a_d|·2^(e(d − i))
   held : (i : ℕ) → i ≤ d → unitsOf (getD a i nan) * 2 ^ (q * (d - i)) ≤ unitsOf lead * 2 ^ (p * (d - i))
@@ -152,11 +149,11 @@ module _ (a : List Float) (d : ℕ) (D : d ≤ 4) (F : (i : ℕ) → i ≤ d →
   bound i l =
       let j = d - i in
       let u = unitsOf (getD a i nan) in
-      le-trans (le-of-eq (sym (join u 1074 (q * j)) ∙ mul-right-comm u (2 ^ 1074) (2 ^ (q * j))))
+      le-trans (le-of-eq (sym (pow2-join u 1074 (q * j)) ∙ mul-right-comm u (2 ^ 1074) (2 ^ (q * j))))
       (le-trans (mul-le-mul-right (2 ^ 1074) (held i l)) (le-of-eq (scaled j)))
     where
       scaled : (j : ℕ) → unitsOf lead * 2 ^ (p * j) * 2 ^ 1074 ≡ w * 2 ^ (1022 + (t + p * j))
-      scaled j = mul-right-comm (unitsOf lead) (2 ^ (p * j)) (2 ^ 1074) ∙ ap (λ (x : ℕ). x * 2 ^ (p * j)) lead-is ∙ join w (1022 + t) (p * j) ∙ (let s : 1022 + t + p * j ≡ 1022 + (t + p * j) = omega arith in ap (λ (k : ℕ). w * 2 ^ k) s)
+      scaled j = mul-right-comm (unitsOf lead) (2 ^ (p * j)) (2 ^ 1074) ∙ ap (λ (x : ℕ). x * 2 ^ (p * j)) lead-is ∙ pow2-join w (1022 + t) (p * j) ∙ (let s : 1022 + t + p * j ≡ 1022 + (t + p * j) = omega arith in ap (λ (k : ℕ). w * 2 ^ k) s)
 
   room : w * 2 ^ 1022 < 2 ^ 2098
   room = lt-of-lt-of-le (shl-lt 53 1022 (N .short)) (lit≤ tt)

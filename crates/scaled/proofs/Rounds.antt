@@ -16,10 +16,10 @@ use lib.Ieee.Order.{drop, kept}
 use Rattle.algebra.specs.NatOrder.{le-or-lt, pow2-finer, pow2-twice}
 use Rattle.rounding.specs.Rounded.{Rounded, rounded, same-fraction}
 use Rattle.float.specs.Methods.{isFiniteOf}
-use Rattle.float.specs.Units.{unitsOf}
+use Rattle.float.specs.Units.{unitsOf, Finite}
 use Rattle.scale.specs.Scale.{pow2Of}
 use Rattle.nearest.proofs.Best.{units-of}
-use Rattle.scaled.proofs.Digits.{Finite, units-fraction}
+use Rattle.scaled.proofs.Digits.{units-fraction}
 
 -- ---- n / d, rounded to r, and w * 2^g
 module _ {n d r : ℕ} (D : 0 < d) (R : Rounded n d r) (w g : ℕ) (W : w < 2 ^ 53) where

@@ -17,13 +17,13 @@ use lib.Ieee.{Float, nan, up, down}
 use Rattle.algebra.specs.RingInt.{ringℤ, #, _:+_, _:-_, _:=_}
 use Rattle.algebra.specs.IntOrder.{+ℤ-mono, ≤ℤ-or}
 use Rattle.facts.specs.Cond.{both-hold}
-use Rattle.float.specs.Units.{unitsOf}
+use Rattle.float.specs.Units.{unitsOf, Finite}
 use Rattle.decode.specs.Exponent.{regularOf}
 use Rattle.decode.proofs.Class.{irregular-units}
 use Rattle.nearest.specs.Greatest.{greatest}
 use Rattle.nearest.proofs.Search.{found}
 use Rattle.scaled.specs.Exponent.{heldAt, heldBelow, candidate, tooSmall, scaleExponentOf}
-use Rattle.scaled.proofs.Digits.{Finite, units-under}
+use Rattle.scaled.proofs.Digits.{units-under}
 use Rattle.scaled.proofs.Held.{held, not-held, held-more, held-one}
 use Rattle.scaled.proofs.Best.{exponent-is}
 

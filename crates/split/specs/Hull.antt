@@ -34,6 +34,7 @@ hullStep lg i s =
     let h = poppedOf lg (s .at) i (s .h) in
     cond (isFiniteOf (getD lg i nan)) (record { at = set (s .at) h i; h = h + 1 }) s
 
+-- no point
 abbrev pub noHull : Hull
 noHull = record { at = replicate 5 0; h = 0 }
 

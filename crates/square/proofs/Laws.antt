@@ -1,12 +1,12 @@
 -- One column of elimination by what its test found, and the end of the columns, at any size: the shared facts of the sizes. Assumes nothing.
-use mathlib.Core.Path.{_≡_, ap, sym, _∙_}
-use mathlib.Core.Bool.{Bool, true, false, cond}
-use mathlib.Core.List.{List, []}
-use mathlib.Core.Option.{Option, none, some}
+use mathlib.Core.Path.{_≡_, ap, _∙_}
+use mathlib.Core.Bool.{true, false, cond}
+use mathlib.Core.List.{[]}
+use mathlib.Core.Option.{none, some}
 use Prim.Native.Nat.{ℕ, suc, _+_, _-_, _≤_, _<_}
 use native.Mathlib.Omega.{arith}
 use lib.ListN.{getD}
-use lib.Ieee.{Float, nan, lt, le}
+use lib.Ieee.{Float, lt, le}
 use Rattle.facts.specs.Cond.{either-way}
 use Rattle.float.specs.Methods.{absOf}
 use Rattle.square.specs.Square.{largerOf, Lines, entry, swapPivotOf, reduceOf, substituteOf, solveFrom}

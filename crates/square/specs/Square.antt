@@ -44,6 +44,7 @@ pub record Lines : Type 0 where
   pub m : List (List Float)
   pub b : List Float
 
+-- rows m and right-hand side b
 abbrev pub lines : List (List Float) → List Float → Lines
 lines m b = record { m = m; b = b }
 

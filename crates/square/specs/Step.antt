@@ -8,6 +8,7 @@ use Rattle.float.specs.Literals.{zero64}
 use Rattle.square.specs.declared.Step3.{Step3}
 use Rattle.square.specs.declared.Step4.{Step4}
 
+-- Some(x), or None
 unfoldable pub step3 : Option (List Float) → Step3
 step3 o = record { ok = isSome o; x = Option·getD o (replicate 3 zero64) }
 

@@ -1,29 +1,35 @@
 -- `factors::finite_below` is its definition: the numbers left, with what was found so far, give the result. Assumes nothing.
-use mathlib.Core.Path.{_≡_, sym, _∙_}
+use mathlib.Core.Path.{_≡_, refl}
+use mathlib.Core.Bool.{_&&_}
 use Prim.Native.Nat.{_-_, _≤_}
-use native.Mathlib.Nat.{sub-zero}
-use Rattle.facts.specs.Count.{countUp, up-turn, up-end}
-use Rattle.refine.specs.Refine.{allFiniteStep}
-use Rattle.factors.specs.Quotient.{finiteBelow}
+use lib.ListN.{take, drop}
+use lib.Ieee.{nan}
+use Rattle.facts.specs.Lists.{left-cons, left-nil}
+use Rattle.float.specs.Methods.{allFiniteOf}
+use Rattle.float.proofs.Finite.{finite-turn, finite-end}
 use borrow.Author.Needs.{needs}
 use Rattle.factors.proofs.finite_below.Statement.{statement}
 use Rattle.factors.proofs.finite_below.Tie as tie
 
 abbrev Inv-loop : tie.InvT-loop
-Inv-loop n s all₀ i₀ all i = (i ≤ n) × (countUp n (allFiniteStep s) (n - i) all ≡ finiteBelow s n)
+Inv-loop n s all₀ i₀ all i = (i ≤ n) × ((all && allFiniteOf (drop i (take n s))) ≡ allFiniteOf (take n s))
 
 abbrev μ-loop : tie.MeasureT-loop
 μ-loop n s all₀ i₀ all i = n - i
 
 loop-holds : tie.Need-loop-holds Inv-loop μ-loop
-unfolding finiteBelow
-loop-holds c = (search needs, simp sub-zero)
+loop-holds c = (search needs, refl)
 
 loop-again : tie.Need-loop-again Inv-loop μ-loop
-loop-again c = (search needs, rw (c .is-finite .ensures) (sym (up-turn _ _ _ _ (search needs)) ∙ c .before .before .loop .inv .1))
+loop-again c =
+    let a = c .before .before .before .args in
+    let l = c .before .before .loop in
+    (search needs, rw (c .is-finite .ensures) (finite-turn (l .all) (drop (l .i) (take (a .n) (a .t1))) _ _ (l .inv .1) (left-cons (a .t1) (a .n) (l .i) nan (search needs) (c .before .loop-test .taken))))
 
 returns : tie.Need-returns Inv-loop μ-loop
-returns c = sym (up-end _ _ _ _ (search needs)) ∙ c .before .loop .inv .1
+returns c =
+    let a = c .before .before .args in
+    finite-end _ _ (c .before .loop .inv .1) (left-nil (a .t1) (a .n) _ (search needs) (c .loop-test .left))
 
 pub finite-below-spec : {M : Type 1} → statement M
 finite-below-spec =

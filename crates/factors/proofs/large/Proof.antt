@@ -1,5 +1,5 @@
 -- `factors::large` is its definition. Assumes nothing.
-use Rattle.roots.proofs.Arrays.{length-mapped}
+use Rattle.facts.specs.Lists.{length-mapped}
 use Rattle.factors.proofs.Taken.{units-fit, large-is}
 use borrow.Author.Needs.{needs}
 use Rattle.factors.proofs.large.Statement.{statement}

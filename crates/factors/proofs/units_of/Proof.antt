@@ -3,7 +3,7 @@ use mathlib.Core.Path.{_≡_, refl, ap, _∙_}
 use Prim.Native.Nat.{_+_, _-_, _≤_}
 use native.Mathlib.Omega.{arith}
 use mathlib.Core.List.{_++_}
-use Rattle.roots.proofs.Arrays.{length-mapped}
+use Rattle.facts.specs.Lists.{length-mapped}
 use Rattle.factors.specs.Large.{noUnits, allAdded}
 use Rattle.factors.proofs.Added.{reals, splits, reals-room, real-added, reals-all, splits-room, quad-added, splits-all, units-are}
 use borrow.Author.Needs.{needs}

@@ -1,6 +1,6 @@
 -- `above` is its definition, by its test. Assumes nothing.
 use mathlib.Core.Path.{_∙_}
-use Rattle.roots.proofs.Arrays.{length-mapped}
+use Rattle.facts.specs.Lists.{length-mapped}
 use Rattle.roots.proofs.Laws.{length-list}
 use Rattle.finish.proofs.Laws.{above-next, above-last}
 use borrow.Author.Needs.{needs}

@@ -1,10 +1,10 @@
 -- `finish` is its definition: ordered, polished, joined. Assumes nothing.
 use mathlib.Core.Path.{ap, _∙_}
 use mathlib.Core.List.{List}
+use Rattle.facts.specs.Lists.{length-mapped}
 use Rattle.roots.specs.Roots.{rootsOf}
 use Rattle.roots.specs.Listed.{Fits}
 use Rattle.roots.specs.declared.RealRoot.{RealRoot}
-use Rattle.roots.proofs.Arrays.{length-mapped}
 use Rattle.finish.specs.Finish.{joinedOf, finishOf}
 use Rattle.finish.proofs.Laws.{placed-list, placed-bound}
 use borrow.Author.Needs.{needs}

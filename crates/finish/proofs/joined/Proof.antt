@@ -2,9 +2,9 @@
 use mathlib.Core.Path.{_≡_, sym, _∙_}
 use Prim.Native.Nat.{_+_, _-_, _^_, _≤_, _<_}
 use lib.ListN.{drop}
+use Rattle.facts.specs.Lists.{length-mapped}
 use Rattle.roots.specs.Roots.{listOf, rootsOf}
 use Rattle.roots.specs.Listed.{Fits, multiplicities}
-use Rattle.roots.proofs.Arrays.{length-mapped}
 use Rattle.finish.specs.Finish.{joinedOf}
 use Rattle.finish.specs.Run.{runsOf}
 use Rattle.finish.proofs.Runs.{joined-none, joined-start, start-bound, runs-end, runs-turn, join-bound, turn-bound}

@@ -1,6 +1,6 @@
 -- `ordered` reads the candidates in the order of their values. Assumes nothing.
 use mathlib.Core.Path.{refl}
-use Rattle.roots.proofs.Arrays.{length-mapped}
+use Rattle.facts.specs.Lists.{length-mapped}
 use Rattle.finish.proofs.Laws.{read-in-order}
 use borrow.Author.Needs.{needs}
 use Rattle.finish.proofs.ordered.Statement.{statement}

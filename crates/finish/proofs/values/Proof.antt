@@ -1,7 +1,7 @@
 -- `values` reads the four places of the array. Assumes nothing.
+use Rattle.facts.specs.Lists.{length-mapped}
 use Rattle.roots.specs.Listed.{blank}
 use Rattle.roots.specs.declared.RealRoot.{RealRoot}
-use Rattle.roots.proofs.Arrays.{length-mapped}
 use Rattle.finish.proofs.Laws.{read-four}
 use borrow.Author.Needs.{needs}
 use Rattle.finish.proofs.values.Statement.{statement}

@@ -18,9 +18,6 @@ Inv-loop s out₀ at₀ n₀ w₀ out at n w = Sofar out₀ s out at n w
 abbrev μ-loop : tie.MeasureT-loop
 μ-loop s out₀ at₀ n₀ w₀ out at n w = length s - at
 
-ended-requires : tie.Need-ended-requires Inv-loop μ-loop
-ended-requires c κs = search needs
-
 put-line-requires : tie.Need-put-line-requires Inv-loop μ-loop
 put-line-requires c κs =
     let start = c .before .before .before .before .before in
@@ -93,7 +90,7 @@ list-file-spec =
     (tie.spec
     Inv-loop
     μ-loop
-    ended-requires
+    (λ c κs. search needs)
     put-line-requires
     same-length
     returns

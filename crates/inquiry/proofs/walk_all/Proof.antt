@@ -1,9 +1,9 @@
 -- `walk_all` meets its contract: the walk over the pairs, and from there over the items, sorted where there is a pair. Assumes nothing.
 use mathlib.Core.Path.{_∙_, ap}
 use native.Mathlib.Omega.{arith}
+use Rattle.facts.specs.Lists.{length-mapped}
 use Rattle.roots.specs.Roots.{listOf, pairListOf}
 use Rattle.roots.specs.Listed.{multiplicities}
-use Rattle.roots.proofs.Arrays.{length-mapped}
 use Rattle.inquiry.proofs.Lists.{pairs-none, pairs-some, multiplicities-byValue}
 use Rattle.inquiry.proofs.Steps.{ask-asks, ask-ends, ordered-none, ordered-some}
 use borrow.Author.Needs.{needs}

@@ -5,12 +5,6 @@ use borrow.Author.Needs.{needs}
 use Rattle.order.proofs.entry.Statement.{statement}
 use Rattle.order.proofs.entry.Tie as tie
 
-mul-result : tie.Need-mul-result
-mul-result c = search needs
-
-array-read-result : tie.Need-array-read-result
-array-read-result c = search needs
-
 returns : tie.Need-returns
 unfolding entryOf
 returns c = simp (lt-ltb _ _ (c .if1 .taken))
@@ -19,24 +13,9 @@ returns-2 : tie.Need-returns-2
 unfolding entryOf
 returns-2 c = simp (le-ltb _ _ (c .before .if1 .left), eq-eqb _ _ (c .if2 .taken))
 
-sub-result : tie.Need-sub-result
-sub-result c = search needs
-
-mul-result-2 : tie.Need-mul-result-2
-mul-result-2 c = search needs
-
-array-read-result-2 : tie.Need-array-read-result-2
-array-read-result-2 c = search needs
-
 returns-3 : tie.Need-returns-3
 unfolding entryOf
 returns-3 c = simp (le-ltb _ _ (c .before .before .if1 .left), ne-eqb _ _ (c .before .if2 .left), le-leb _ _ (c .if3 .taken))
-
-mul-result-3 : tie.Need-mul-result-3
-mul-result-3 c = search needs
-
-array-read-result-3 : tie.Need-array-read-result-3
-array-read-result-3 c = search needs
 
 returns-4 : tie.Need-returns-4
 unfolding entryOf
@@ -46,14 +25,14 @@ pub entry-spec : {M : Type 1} → statement M
 entry-spec =
     tie.close
     (tie.spec
-    mul-result
-    array-read-result
+    (λ c. search needs)
+    (λ c. search needs)
     returns
     returns-2
-    sub-result
-    mul-result-2
-    array-read-result-2
+    (λ c. search needs)
+    (λ c. search needs)
+    (λ c. search needs)
     returns-3
-    mul-result-3
-    array-read-result-3
+    (λ c. search needs)
+    (λ c. search needs)
     returns-4)

@@ -4,12 +4,9 @@ use borrow.Author.Needs.{needs}
 use Rattle.order.proofs.falling.Statement.{statement}
 use Rattle.order.proofs.falling.Tie as tie
 
-order-requires : tie.Need-order-requires
-order-requires c κs = search needs
-
 returns : tie.Need-returns
 unfolding fallingOf beforeOf
 returns c = c .order .ensures
 
 pub falling-spec : {M : Type 1} → statement M
-falling-spec = tie.close (tie.spec order-requires returns)
+falling-spec = tie.close (tie.spec (λ c κs. search needs) returns)

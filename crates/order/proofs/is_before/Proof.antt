@@ -5,19 +5,13 @@ use borrow.Author.Needs.{needs}
 use Rattle.order.proofs.is_before.Statement.{statement}
 use Rattle.order.proofs.is_before.Tie as tie
 
-total-le-requires : tie.Need-total-le-requires
-total-le-requires c κs = search needs
-
 returns : tie.Need-returns
 unfolding beforeOf
 returns c = if-taken _ _ (c .before .if1 .taken) (c .total-le .ensures)
-
-total-le-requires-2 : tie.Need-total-le-requires-2
-total-le-requires-2 c κs = search needs
 
 returns-2 : tie.Need-returns-2
 unfolding beforeOf
 returns-2 c = if-left _ _ (c .before .if1 .left) (c .total-le2 .ensures)
 
 pub is-before-spec : {M : Type 1} → statement M
-is-before-spec = tie.close (tie.spec total-le-requires returns total-le-requires-2 returns-2)
+is-before-spec = tie.close (tie.spec (λ c κs. search needs) returns (λ c κs. search needs) returns-2)

@@ -19,12 +19,6 @@ loop-holds c = (search needs, sym (order-none _ _))
 insert-requires : tie.Need-insert-requires Inv-loop μ-loop
 insert-requires c κs = (search needs, subst Places (sym (c .before .loop .inv .1)) (order-places _ _ _ (search needs)))
 
-add-i : tie.Need-add-i Inv-loop μ-loop
-add-i c = search needs
-
-loop-less : tie.Need-loop-less Inv-loop μ-loop
-loop-less c = search needs
-
 loop-again : tie.Need-loop-again Inv-loop μ-loop
 loop-again c = (search needs, c .insert .ensures ∙ rw (c .before .before .loop .inv .1) (order-turn _ _ _ (search needs)))
 
@@ -37,4 +31,4 @@ returns c =
 pub order-spec : {M : Type 1} → statement M
 order-spec =
     tie.close
-    (tie.spec Inv-loop μ-loop loop-holds insert-requires add-i loop-less loop-again returns)
+    (tie.spec Inv-loop μ-loop loop-holds insert-requires (λ c. search needs) (λ c. search needs) loop-again returns)

@@ -19,32 +19,11 @@ loop-holds : tie.Need-loop-holds Inv-loop μ-loop
 unfolding placeOf
 loop-holds c = (search needs, simp sub-zero)
 
-mul-j : tie.Need-mul-j Inv-loop μ-loop
-mul-j c = search needs
-
-array-read-j : tie.Need-array-read-j Inv-loop μ-loop
-array-read-j c = search needs
-
 mul-is-before : tie.Need-mul-is-before Inv-loop μ-loop
 mul-is-before c = let h = c .before .before .pre .1 (c .before .loop .p) in search needs
 
 array-read-is-before : tie.Need-array-read-is-before Inv-loop μ-loop
 array-read-is-before c = let h = c .before .before .pre .1 (c .before .loop .p) in search needs
-
-mul-is-before-2 : tie.Need-mul-is-before-2 Inv-loop μ-loop
-mul-is-before-2 c = search needs
-
-array-read-is-before-2 : tie.Need-array-read-is-before-2 Inv-loop μ-loop
-array-read-is-before-2 c = search needs
-
-is-before-requires : tie.Need-is-before-requires Inv-loop μ-loop
-is-before-requires c κs = search needs
-
-add-p : tie.Need-add-p Inv-loop μ-loop
-add-p c = search needs
-
-loop-less : tie.Need-loop-less Inv-loop μ-loop
-loop-less c = search needs
 
 loop-again : tie.Need-loop-again Inv-loop μ-loop
 loop-again c = (search needs, sym (first-go _ _ _ (search needs) (sym (c .before .is-before .ensures) ∙ c .if1 .taken)) ∙ c .before .before .before .loop .inv .1)
@@ -62,15 +41,15 @@ place-spec =
     Inv-loop
     μ-loop
     loop-holds
-    mul-j
-    array-read-j
+    (λ c. search needs)
+    (λ c. search needs)
     mul-is-before
     array-read-is-before
-    mul-is-before-2
-    array-read-is-before-2
-    is-before-requires
-    add-p
-    loop-less
+    (λ c. search needs)
+    (λ c. search needs)
+    (λ c κs. search needs)
+    (λ c. search needs)
+    (λ c. search needs)
     loop-again
     returns
     returns-2)

@@ -4,12 +4,9 @@ use borrow.Author.Needs.{needs}
 use Rattle.order.proofs.rising.Statement.{statement}
 use Rattle.order.proofs.rising.Tie as tie
 
-order-requires : tie.Need-order-requires
-order-requires c κs = search needs
-
 returns : tie.Need-returns
 unfolding risingOf beforeOf
 returns c = c .order .ensures
 
 pub rising-spec : {M : Type 1} → statement M
-rising-spec = tie.close (tie.spec order-requires returns)
+rising-spec = tie.close (tie.spec (λ c κs. search needs) returns)

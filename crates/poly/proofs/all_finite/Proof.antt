@@ -4,7 +4,7 @@ use Prim.Native.Nat.{_-_, _≤_}
 use borrow.Author.Needs.{needs}
 use borrow.Author.Tests.{not-true, not-false}
 use lib.ListN.{length, drop}
-use Rattle.poly.specs.Coefficients.{allFiniteOf}
+use Rattle.float.specs.Methods.{allFiniteOf}
 use Rattle.poly.proofs.Coefficients.{finite-stop, finite-go, finite-end}
 use Rattle.poly.proofs.all_finite.Statement.{statement}
 use Rattle.poly.proofs.all_finite.Tie as tie

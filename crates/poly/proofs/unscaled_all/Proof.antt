@@ -7,9 +7,9 @@ use borrow.Author.Needs.{needs}
 use lib.ListN.{take}
 use mir.Syntax.{w32}
 use mir.Val.{toZ}
+use Rattle.facts.specs.Lists.{length-mapped}
 use Rattle.roots.specs.Roots.{listOf, rootsOf}
 use Rattle.roots.specs.Listed.{Fits}
-use Rattle.roots.proofs.Arrays.{length-mapped}
 use Rattle.poly.specs.RealRoots.{unscaledAll}
 use Rattle.poly.proofs.Arrays.{unscaled-turn, unscaled-end}
 use Rattle.poly.proofs.unscaled_all.Statement.{statement}

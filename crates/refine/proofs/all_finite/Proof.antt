@@ -1,29 +1,33 @@
 -- `all_finite` is its definition: the numbers left, with what was found so far, give the result. Assumes nothing.
-use mathlib.Core.Path.{_≡_, sym, _∙_}
+use mathlib.Core.Path.{_≡_, refl}
+use mathlib.Core.Bool.{_&&_}
 use Prim.Native.Nat.{_-_, _≤_}
-use native.Mathlib.Nat.{sub-zero}
-use lib.ListN.{length}
-use Rattle.facts.specs.Count.{countUp, up-turn, up-end}
-use Rattle.refine.specs.Refine.{allFiniteStep, allFiniteOf}
+use lib.ListN.{length, drop, drop-of-length-le}
+use lib.Ieee.{nan}
+use Rattle.facts.specs.Lists.{drop-next}
+use Rattle.float.specs.Methods.{allFiniteOf}
+use Rattle.float.proofs.Finite.{finite-turn, finite-end}
 use borrow.Author.Needs.{needs}
 use Rattle.refine.proofs.all_finite.Statement.{statement}
 use Rattle.refine.proofs.all_finite.Tie as tie
 
 abbrev Inv-loop : tie.InvT-loop
-Inv-loop s all₀ i₀ all i = (i ≤ length s) × (countUp (length s) (allFiniteStep s) (length s - i) all ≡ allFiniteOf s)
+Inv-loop s all₀ i₀ all i = (i ≤ length s) × ((all && allFiniteOf (drop i s)) ≡ allFiniteOf s)
 
 abbrev μ-loop : tie.MeasureT-loop
 μ-loop s all₀ i₀ all i = length s - i
 
 loop-holds : tie.Need-loop-holds Inv-loop μ-loop
-unfolding allFiniteOf
-loop-holds c = (search needs, simp sub-zero)
+loop-holds c = (search needs, refl)
 
 loop-again : tie.Need-loop-again Inv-loop μ-loop
-loop-again c = (search needs, rw (c .is-finite .ensures) (sym (up-turn _ _ _ _ (search needs)) ∙ c .before .before .before .loop .inv .1))
+loop-again c =
+    let s = c .before .before .before .before .before .args .s .now in
+    let l = c .before .before .before .loop in
+    (search needs, rw (c .is-finite .ensures) (finite-turn (l .all) (drop (l .i) s) _ _ (l .inv .1) (drop-next s (l .i) nan (c .before .before .loop-test .taken))))
 
 returns : tie.Need-returns Inv-loop μ-loop
-returns c = sym (up-end _ _ _ _ (search needs)) ∙ c .before .loop .inv .1
+returns c = finite-end _ _ (c .before .loop .inv .1) (drop-of-length-le _ (c .loop-test .left))
 
 pub all-finite-spec : {M : Type 1} → statement M
 all-finite-spec =

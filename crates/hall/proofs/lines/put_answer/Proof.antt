@@ -9,9 +9,6 @@ use borrow.Author.Needs.{needs}
 use Rattle.hall.proofs.lines.put_answer.Statement.{statement}
 use Rattle.hall.proofs.lines.put_answer.Tie as tie
 
-enum-told : tie.Need-enum-told
-enum-told c = search needs
-
 polynomial-at-requires : tie.Need-polynomial-at-requires
 polynomial-at-requires c κs =
     let start = c .before .before .before .before .before in
@@ -21,9 +18,6 @@ put-polynomial-requires : tie.Need-put-polynomial-requires
 put-polynomial-requires c κs =
     let start = c .before .before .before .before .before .before in
     (start .pre .0, polynomial-prints (start .args .s .now) (start .args .at) (c .polynomial-at .result) (c .polynomial-at .ensures))
-
-enum-told-2 : tie.Need-enum-told-2
-enum-told-2 c = search needs
 
 quadratic-at-requires : tie.Need-quadratic-at-requires
 quadratic-at-requires c κs =
@@ -35,9 +29,6 @@ put-quadratic-requires c κs =
     let start = c .before .before .before .before .before .before in
     (start .pre .0, quadratic-prints (start .args .s .now) (start .args .at) (c .quadratic-at .result) (c .quadratic-at .ensures))
 
-enum-told-3 : tie.Need-enum-told-3
-enum-told-3 c = search needs
-
 crank-at-requires : tie.Need-crank-at-requires
 crank-at-requires c κs =
     let start = c .before .before .before .before .before in
@@ -48,12 +39,6 @@ put-crank-requires c κs =
     let start = c .before .before .before .before .before .before in
     (start .pre .0, crank-prints (start .args .s .now) (start .args .at) (c .crank-at .result) (c .crank-at .ensures))
 
-enum-told-4 : tie.Need-enum-told-4
-enum-told-4 c = search needs
-
-same-length : tie.Need-same-length
-same-length c = search needs
-
 returns : tie.Need-returns
 returns c =
     let after-put-polynomial = c .before .before in
@@ -62,9 +47,6 @@ returns c =
     let start = after-enum-told .before .before .before .before in
     written-as (polynomial-text (start .args .s .now) (start .args .at) _ _ (after-enum-told .enum-told .given .1) (after-polynomial-at .polynomial-at .ensures)) (after-put-polynomial .put-polynomial .ensures)
 
-same-length-2 : tie.Need-same-length-2
-same-length-2 c = search needs
-
 returns-2 : tie.Need-returns-2
 returns-2 c =
     let after-put-quadratic = c .before .before in
@@ -72,9 +54,6 @@ returns-2 c =
     let after-enum-told = after-quadratic-at .before .before in
     let start = after-enum-told .before .before .before .before in
     written-as (quadratic-text (start .args .s .now) (start .args .at) _ _ (after-enum-told .enum-told2 .given .1) (after-quadratic-at .quadratic-at .ensures)) (after-put-quadratic .put-quadratic .ensures)
-
-same-length-3 : tie.Need-same-length-3
-same-length-3 c = search needs
 
 returns-3 : tie.Need-returns-3
 returns-3 c =
@@ -93,20 +72,20 @@ pub put-answer-spec : {M : Type 1} → statement M
 put-answer-spec =
     tie.close
     (tie.spec
-    enum-told
+    (λ c. search needs)
     polynomial-at-requires
     put-polynomial-requires
-    enum-told-2
+    (λ c. search needs)
     quadratic-at-requires
     put-quadratic-requires
-    enum-told-3
+    (λ c. search needs)
     crank-at-requires
     put-crank-requires
-    enum-told-4
-    same-length
+    (λ c. search needs)
+    (λ c. search needs)
     returns
-    same-length-2
+    (λ c. search needs)
     returns-2
-    same-length-3
+    (λ c. search needs)
     returns-3
     returns-4)

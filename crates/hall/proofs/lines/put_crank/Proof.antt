@@ -9,24 +9,9 @@ use borrow.Author.Needs.{needs}
 use Rattle.hall.proofs.lines.put_crank.Statement.{statement}
 use Rattle.hall.proofs.lines.put_crank.Tie as tie
 
-put-refused-requires : tie.Need-put-refused-requires
-put-refused-requires c κs = search needs
-
-same-length : tie.Need-same-length
-same-length c = search needs
-
 returns : tie.Need-returns
 unfolding crankText
 returns c = written-as (refusal _ _ (c .before .before .before .before .if1 .taken)) (c .before .before .put-refused .ensures)
-
-slice-aggregate-put-bytes : tie.Need-slice-aggregate-put-bytes
-slice-aggregate-put-bytes c = search needs
-
-put-bytes-requires : tie.Need-put-bytes-requires
-put-bytes-requires c κs = search needs
-
-cast-put-decimal : tie.Need-cast-put-decimal
-cast-put-decimal c = search needs
 
 put-decimal-requires : tie.Need-put-decimal-requires
 put-decimal-requires c κs =
@@ -42,9 +27,6 @@ put-roots-requires : tie.Need-put-roots-requires
 put-roots-requires c κs =
     let start = c .before .before .before .before .before .before .before .before .before .before .before .before .before .before .before .before .before .before .before in
     (omega (arith, decimal-length 1 (start .args .a .k) (omega arith) (omega (arith, start .pre .1 .1 .0))), start .pre .1 .1 .1)
-
-same-length-2 : tie.Need-same-length-2
-same-length-2 c = search needs
 
 returns-2 : tie.Need-returns-2
 unfolding crankText
@@ -63,14 +45,14 @@ pub put-crank-spec : {M : Type 1} → statement M
 put-crank-spec =
     tie.close
     (tie.spec
-    put-refused-requires
-    same-length
+    (λ c κs. search needs)
+    (λ c. search needs)
     returns
-    slice-aggregate-put-bytes
-    put-bytes-requires
-    cast-put-decimal
+    (λ c. search needs)
+    (λ c κs. search needs)
+    (λ c. search needs)
     put-decimal-requires
     put-byte-requires
     put-roots-requires
-    same-length-2
+    (λ c. search needs)
     returns-2)

@@ -38,9 +38,6 @@ put-byte-requires-3 c κs =
     let start = c .before .before .before .before .before .before .before .before .before .before .before .before .before .before .before .before .before .before .before .before .before .before .before in
     omega (arith, decimal-length 5 (start .args .n) (omega arith) (start .pre .1 .0), mark-length (start .args .found .kind), words-length (start .args .s .now) (start .args .at) (start .args .found) (start .pre .1 .1 .short))
 
-same-length : tie.Need-same-length
-same-length c = search needs
-
 returns : tie.Need-returns
 unfolding lineOf
 returns c =
@@ -66,5 +63,5 @@ put-line-spec =
     put-byte-requires-2
     put-words-requires
     put-byte-requires-3
-    same-length
+    (λ c. search needs)
     returns)

@@ -8,18 +8,6 @@ use borrow.Author.Needs.{needs}
 use Rattle.hall.proofs.lines.put_place.Statement.{statement}
 use Rattle.hall.proofs.lines.put_place.Tie as tie
 
-put-byte-requires : tie.Need-put-byte-requires
-put-byte-requires c κs = search needs
-
-to-bits-requires : tie.Need-to-bits-requires
-to-bits-requires c κs = search needs
-
-put-hex-requires : tie.Need-put-hex-requires
-put-hex-requires c κs = search needs
-
-same-length : tie.Need-same-length
-same-length c = search needs
-
 returns : tie.Need-returns
 unfolding placeText
 returns c =
@@ -30,4 +18,4 @@ returns c =
 
 pub put-place-spec : {M : Type 1} → statement M
 put-place-spec =
-    tie.close (tie.spec put-byte-requires to-bits-requires put-hex-requires same-length returns)
+    tie.close (tie.spec (λ c κs. search needs) (λ c κs. search needs) (λ c κs. search needs) (λ c. search needs) returns)

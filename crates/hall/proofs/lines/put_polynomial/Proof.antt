@@ -7,27 +7,9 @@ use borrow.Author.Needs.{needs}
 use Rattle.hall.proofs.lines.put_polynomial.Statement.{statement}
 use Rattle.hall.proofs.lines.put_polynomial.Tie as tie
 
-put-refused-requires : tie.Need-put-refused-requires
-put-refused-requires c κs = search needs
-
-same-length : tie.Need-same-length
-same-length c = search needs
-
 returns : tie.Need-returns
 unfolding polynomialText
 returns c = written-as (refusal _ _ (c .before .before .before .before .if1 .taken)) (c .before .before .put-refused .ensures)
-
-slice-aggregate-put-bytes : tie.Need-slice-aggregate-put-bytes
-slice-aggregate-put-bytes c = search needs
-
-put-bytes-requires : tie.Need-put-bytes-requires
-put-bytes-requires c κs = search needs
-
-put-roots-requires : tie.Need-put-roots-requires
-put-roots-requires c κs = search needs
-
-same-length-2 : tie.Need-same-length-2
-same-length-2 c = search needs
 
 returns-2 : tie.Need-returns-2
 unfolding polynomialText
@@ -41,11 +23,11 @@ pub put-polynomial-spec : {M : Type 1} → statement M
 put-polynomial-spec =
     tie.close
     (tie.spec
-    put-refused-requires
-    same-length
+    (λ c κs. search needs)
+    (λ c. search needs)
     returns
-    slice-aggregate-put-bytes
-    put-bytes-requires
-    put-roots-requires
-    same-length-2
+    (λ c. search needs)
+    (λ c κs. search needs)
+    (λ c κs. search needs)
+    (λ c. search needs)
     returns-2)

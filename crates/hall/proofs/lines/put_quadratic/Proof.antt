@@ -7,21 +7,9 @@ use borrow.Author.Needs.{needs}
 use Rattle.hall.proofs.lines.put_quadratic.Statement.{statement}
 use Rattle.hall.proofs.lines.put_quadratic.Tie as tie
 
-put-refused-requires : tie.Need-put-refused-requires
-put-refused-requires c κs = search needs
-
-same-length : tie.Need-same-length
-same-length c = search needs
-
 returns : tie.Need-returns
 unfolding quadraticText
 returns c = written-as (refusal _ _ (c .before .before .before .before .if1 .taken)) (c .before .before .put-refused .ensures)
-
-put-solution-requires : tie.Need-put-solution-requires
-put-solution-requires c κs = search needs
-
-same-length-2 : tie.Need-same-length-2
-same-length-2 c = search needs
 
 returns-2 : tie.Need-returns-2
 unfolding quadraticText
@@ -31,9 +19,9 @@ pub put-quadratic-spec : {M : Type 1} → statement M
 put-quadratic-spec =
     tie.close
     (tie.spec
-    put-refused-requires
-    same-length
+    (λ c κs. search needs)
+    (λ c. search needs)
     returns
-    put-solution-requires
-    same-length-2
+    (λ c κs. search needs)
+    (λ c. search needs)
     returns-2)

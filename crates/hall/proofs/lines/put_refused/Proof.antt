@@ -8,19 +8,10 @@ use borrow.Author.Needs.{needs}
 use Rattle.hall.proofs.lines.put_refused.Statement.{statement}
 use Rattle.hall.proofs.lines.put_refused.Tie as tie
 
-slice-aggregate-put-bytes : tie.Need-slice-aggregate-put-bytes
-slice-aggregate-put-bytes c = search needs
-
-put-bytes-requires : tie.Need-put-bytes-requires
-put-bytes-requires c κs = search needs
-
 put-decimal-requires : tie.Need-put-decimal-requires
 put-decimal-requires c κs =
     let start = c .before .before .before .before .before .before .before in
     omega (arith, decimal-length 2 (start .args .number) (omega arith) (start .pre .1))
-
-same-length : tie.Need-same-length
-same-length c = search needs
 
 returns : tie.Need-returns
 unfolding refusedText
@@ -30,8 +21,8 @@ pub put-refused-spec : {M : Type 1} → statement M
 put-refused-spec =
     tie.close
     (tie.spec
-    slice-aggregate-put-bytes
-    put-bytes-requires
+    (λ c. search needs)
+    (λ c κs. search needs)
     put-decimal-requires
-    same-length
+    (λ c. search needs)
     returns)

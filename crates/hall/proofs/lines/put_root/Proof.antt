@@ -9,22 +9,13 @@ use borrow.Author.Needs.{needs}
 use Rattle.hall.proofs.lines.put_root.Statement.{statement}
 use Rattle.hall.proofs.lines.put_root.Tie as tie
 
-put-place-requires : tie.Need-put-place-requires
-put-place-requires c κs = search needs
-
 put-byte-requires : tie.Need-put-byte-requires
 put-byte-requires c κs = omega (arith, place-length (c .before .before .before .before .before .before .args .root .value))
-
-cast-put-decimal : tie.Need-cast-put-decimal
-cast-put-decimal c = search needs
 
 put-decimal-requires : tie.Need-put-decimal-requires
 put-decimal-requires c κs =
     let start = c .before .before .before .before .before .before .before .before .before .before .before in
     omega (arith, place-length (start .args .root .value), decimal-length 2 (start .args .root .multiplicity) (omega arith) (start .pre .1))
-
-same-length : tie.Need-same-length
-same-length c = search needs
 
 returns : tie.Need-returns
 unfolding rootText
@@ -38,9 +29,9 @@ pub put-root-spec : {M : Type 1} → statement M
 put-root-spec =
     tie.close
     (tie.spec
-    put-place-requires
+    (λ c κs. search needs)
     put-byte-requires
-    cast-put-decimal
+    (λ c. search needs)
     put-decimal-requires
-    same-length
+    (λ c. search needs)
     returns)

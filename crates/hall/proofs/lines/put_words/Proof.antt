@@ -7,12 +7,6 @@ use borrow.Author.Needs.{needs}
 use Rattle.hall.proofs.lines.put_words.Statement.{statement}
 use Rattle.hall.proofs.lines.put_words.Tie as tie
 
-put-refused-requires : tie.Need-put-refused-requires
-put-refused-requires c κs = search needs
-
-same-length : tie.Need-same-length
-same-length c = search needs
-
 returns : tie.Need-returns
 unfolding wordsOf
 returns c = written-as (refusal _ _ (c .before .before .before .before .if1 .taken)) (c .before .before .put-refused .ensures)
@@ -22,9 +16,6 @@ put-answer-requires c κs =
     let start = c .before .before .before .before .before in
     (start .pre .0, start .pre .1 .whole (c .before .if1 .left))
 
-same-length-2 : tie.Need-same-length-2
-same-length-2 c = search needs
-
 returns-2 : tie.Need-returns-2
 unfolding wordsOf
 returns-2 c = written-as (answered _ _ (c .before .before .before .before .if1 .left)) (c .before .before .put-answer .ensures)
@@ -32,4 +23,4 @@ returns-2 c = written-as (answered _ _ (c .before .before .before .before .if1 .
 pub put-words-spec : {M : Type 1} → statement M
 put-words-spec =
     tie.close
-    (tie.spec put-refused-requires same-length returns put-answer-requires same-length-2 returns-2)
+    (tie.spec (λ c κs. search needs) (λ c. search needs) returns put-answer-requires (λ c. search needs) returns-2)

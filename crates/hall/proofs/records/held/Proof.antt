@@ -6,22 +6,13 @@ use borrow.Author.Needs.{needs}
 use Rattle.hall.proofs.records.held.Statement.{statement}
 use Rattle.hall.proofs.records.held.Tie as tie
 
-sub-if1 : tie.Need-sub-if1
-sub-if1 c = search needs
-
-ended-requires : tie.Need-ended-requires
-ended-requires c κs = search needs
-
 returns : tie.Need-returns
 unfolding heldOf
 returns c = simp (lt-ltb _ _ (c .before .if1 .taken)) (c .ended .ensures)
-
-add-t5 : tie.Need-add-t5
-add-t5 c = search needs
 
 returns-2 : tie.Need-returns-2
 unfolding heldOf
 returns-2 c = simp (le-ltb _ _ (c .if1 .left))
 
 pub held-spec : {M : Type 1} → statement M
-held-spec = tie.close (tie.spec sub-if1 ended-requires returns add-t5 returns-2)
+held-spec = tie.close (tie.spec (λ c. search needs) (λ c κs. search needs) returns (λ c. search needs) returns-2)

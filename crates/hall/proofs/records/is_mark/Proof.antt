@@ -6,21 +6,6 @@ use borrow.Author.Needs.{needs}
 use Rattle.hall.proofs.records.is_mark.Statement.{statement}
 use Rattle.hall.proofs.records.is_mark.Tie as tie
 
-shared-slice-read-if1 : tie.Need-shared-slice-read-if1
-shared-slice-read-if1 c = search needs
-
-element-copy-out-if1 : tie.Need-element-copy-out-if1
-element-copy-out-if1 c = search needs
-
-add-result : tie.Need-add-result
-add-result c = search needs
-
-shared-slice-read-result : tie.Need-shared-slice-read-result
-shared-slice-read-result c = search needs
-
-element-copy-out-result : tie.Need-element-copy-out-result
-element-copy-out-result c = search needs
-
 returns : tie.Need-returns
 unfolding isMark
 returns c = simp (eq-eqb _ _ (c .before .before .if1 .taken))
@@ -33,10 +18,10 @@ pub is-mark-spec : {M : Type 1} → statement M
 is-mark-spec =
     tie.close
     (tie.spec
-    shared-slice-read-if1
-    element-copy-out-if1
-    add-result
-    shared-slice-read-result
-    element-copy-out-result
+    (λ c. search needs)
+    (λ c. search needs)
+    (λ c. search needs)
+    (λ c. search needs)
+    (λ c. search needs)
     returns
     returns-2)

@@ -6,15 +6,9 @@ use borrow.Author.Needs.{needs}
 use Rattle.hall.proofs.records.kind_at.Statement.{statement}
 use Rattle.hall.proofs.records.kind_at.Tie as tie
 
-is-mark-requires : tie.Need-is-mark-requires
-is-mark-requires c κs = search needs
-
 returns : tie.Need-returns
 unfolding kindAt
 returns c = simp (sym (c .before .is-mark .ensures) ∙ c .if1 .taken)
-
-is-mark-requires-2 : tie.Need-is-mark-requires-2
-is-mark-requires-2 c κs = search needs
 
 returns-2 : tie.Need-returns-2
 unfolding kindAt
@@ -22,9 +16,6 @@ returns-2 c =
     let first-test = c .before .before .before in
     let after-is-mark = first-test .before in
     simp (sym (after-is-mark .is-mark .ensures) ∙ first-test .if1 .left, sym (c .before .is-mark2 .ensures) ∙ c .if2 .taken)
-
-is-mark-requires-3 : tie.Need-is-mark-requires-3
-is-mark-requires-3 c κs = search needs
 
 returns-3 : tie.Need-returns-3
 unfolding kindAt
@@ -62,10 +53,10 @@ pub kind-at-spec : {M : Type 1} → statement M
 kind-at-spec =
     tie.close
     (tie.spec
-    is-mark-requires
+    (λ c κs. search needs)
     returns
-    is-mark-requires-2
+    (λ c κs. search needs)
     returns-2
-    is-mark-requires-3
+    (λ c κs. search needs)
     returns-3
     returns-4)

@@ -8,40 +8,16 @@ use borrow.Author.Needs.{needs}
 use Rattle.hall.proofs.records.polynomial_record.Statement.{statement}
 use Rattle.hall.proofs.records.polynomial_record.Tie as tie
 
-sub-if1 : tie.Need-sub-if1
-sub-if1 c = search needs
-
-ended-requires : tie.Need-ended-requires
-ended-requires c κs = search needs
-
 returns : tie.Need-returns
 unfolding polynomialRecord
 returns c = simp (lt-ltb _ _ (c .before .if1 .taken)) (c .ended .ensures)
 
-add-count : tie.Need-add-count
-add-count c = search needs
-
-shared-slice-read-count : tie.Need-shared-slice-read-count
-shared-slice-read-count c = search needs
-
 cast-count : tie.Need-cast-count
 cast-count c = omega (arith, c .shared-slice-known2 .given (c .before .before .before .args .at + 2))
-
-ended-requires-2 : tie.Need-ended-requires-2
-ended-requires-2 c κs = search needs
 
 returns-2 : tie.Need-returns-2
 unfolding polynomialRecord
 returns-2 c = simp (le-ltb _ _ (c .before .before .before .if1 .left), lt-ltb _ _ (c .before .if2 .taken)) (c .ended2 .ensures)
-
-mul-held : tie.Need-mul-held
-mul-held c = search needs
-
-add-held : tie.Need-add-held
-add-held c = search needs
-
-held-requires : tie.Need-held-requires
-held-requires c κs = search needs
 
 returns-3 : tie.Need-returns-3
 unfolding polynomialRecord
@@ -51,15 +27,15 @@ pub polynomial-record-spec : {M : Type 1} → statement M
 polynomial-record-spec =
     tie.close
     (tie.spec
-    sub-if1
-    ended-requires
+    (λ c. search needs)
+    (λ c κs. search needs)
     returns
-    add-count
-    shared-slice-read-count
+    (λ c. search needs)
+    (λ c. search needs)
     cast-count
-    ended-requires-2
+    (λ c κs. search needs)
     returns-2
-    mul-held
-    add-held
-    held-requires
+    (λ c. search needs)
+    (λ c. search needs)
+    (λ c κs. search needs)
     returns-3)

@@ -8,42 +8,9 @@ use borrow.Author.Needs.{needs}
 use Rattle.hall.proofs.records.record_at.Statement.{statement}
 use Rattle.hall.proofs.records.record_at.Tie as tie
 
-sub-if1 : tie.Need-sub-if1
-sub-if1 c = search needs
-
-ended-requires : tie.Need-ended-requires
-ended-requires c κs = search needs
-
 returns : tie.Need-returns
 unfolding recordAt
 returns c = simp (lt-ltb _ _ (c .before .if1 .taken)) (c .ended .ensures)
-
-kind-at-requires : tie.Need-kind-at-requires
-kind-at-requires c κs = search needs
-
-enum-told : tie.Need-enum-told
-enum-told c = search needs
-
-polynomial-record-requires : tie.Need-polynomial-record-requires
-polynomial-record-requires c κs = search needs
-
-enum-told-2 : tie.Need-enum-told-2
-enum-told-2 c = search needs
-
-held-requires : tie.Need-held-requires
-held-requires c κs = search needs
-
-enum-told-3 : tie.Need-enum-told-3
-enum-told-3 c = search needs
-
-held-requires-2 : tie.Need-held-requires-2
-held-requires-2 c κs = search needs
-
-enum-told-4 : tie.Need-enum-told-4
-enum-told-4 c = search needs
-
-ended-requires-2 : tie.Need-ended-requires-2
-ended-requires-2 c κs = search needs
 
 returns-2 : tie.Need-returns-2
 unfolding recordOf
@@ -85,18 +52,18 @@ pub record-at-spec : {M : Type 1} → statement M
 record-at-spec =
     tie.close
     (tie.spec
-    sub-if1
-    ended-requires
+    (λ c. search needs)
+    (λ c κs. search needs)
     returns
-    kind-at-requires
-    enum-told
-    polynomial-record-requires
-    enum-told-2
-    held-requires
-    enum-told-3
-    held-requires-2
-    enum-told-4
-    ended-requires-2
+    (λ c κs. search needs)
+    (λ c. search needs)
+    (λ c κs. search needs)
+    (λ c. search needs)
+    (λ c κs. search needs)
+    (λ c. search needs)
+    (λ c κs. search needs)
+    (λ c. search needs)
+    (λ c κs. search needs)
     returns-2
     returns-3
     returns-4

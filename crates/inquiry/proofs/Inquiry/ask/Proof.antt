@@ -1,7 +1,7 @@
 -- `ask` is its definition: by whether the inquiry is sound. Assumes nothing.
 use mathlib.Core.Path.{sym, _∙_}
 use Rattle.facts.specs.Cond.{if-taken, if-left}
-use Rattle.roots.proofs.Arrays.{length-mapped}
+use Rattle.facts.specs.Lists.{length-mapped}
 use Rattle.inquiry.specs.Inquiry.{askedOf}
 use Rattle.inquiry.proofs.Sound.{sound-held}
 use borrow.Author.Needs.{needs}

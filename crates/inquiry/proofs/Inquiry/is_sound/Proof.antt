@@ -2,7 +2,7 @@
 use mathlib.Core.Path.{sym, _∙_}
 use native.Mathlib.Omega.{arith}
 use Rattle.facts.specs.Cond.{first-fails}
-use Rattle.roots.proofs.Arrays.{length-mapped}
+use Rattle.facts.specs.Lists.{length-mapped}
 use Rattle.inquiry.specs.Inquiry.{soundOf}
 use Rattle.inquiry.proofs.Sound.{sound-by}
 use borrow.Author.Needs.{needs}

@@ -1,7 +1,7 @@
 -- `reply` is its definition: by whether something is being asked. While it is, there is room for one reply more. Assumes nothing.
 use mathlib.Core.Path.{sym, ap, _∙_}
 use native.Mathlib.Omega.{arith}
-use Rattle.roots.proofs.Arrays.{length-mapped}
+use Rattle.facts.specs.Lists.{length-mapped}
 use Rattle.inquiry.specs.declared.Asked.{Asked}
 use Rattle.inquiry.proofs.Questions.{asking-room, reply-taken, reply-refused}
 use borrow.Author.Needs.{needs}

@@ -6,18 +6,6 @@ use borrow.Author.Needs.{needs}
 use Rattle.roots.proofs.Pairs.push.Statement.{statement}
 use Rattle.roots.proofs.Pairs.push.Tie as tie
 
-is-finite-requires : tie.Need-is-finite-requires
-is-finite-requires c κs = search needs
-
-mul-t9 : tie.Need-mul-t9
-mul-t9 c = search needs
-
-element-set-from-out : tie.Need-element-set-from-out
-element-set-from-out c = search needs
-
-add-out : tie.Need-add-out
-add-out c = search needs
-
 returns : tie.Need-returns
 unfolding pairedIn
 returns c = simp (sym (c .before .before .is-finite .ensures) ∙ c .before .if1 .taken, lt-ltb _ _ (c .if2 .taken))
@@ -33,4 +21,4 @@ returns-3 c = simp (sym (c .before .is-finite .ensures) ∙ c .if1 .left)
 pub push-spec : {M : Type 1} → statement M
 push-spec =
     tie.close
-    (tie.spec is-finite-requires mul-t9 element-set-from-out add-out returns returns-2 returns-3)
+    (tie.spec (λ c κs. search needs) (λ c. search needs) (λ c. search needs) (λ c. search needs) returns returns-2 returns-3)

@@ -6,12 +6,6 @@ use borrow.Author.Needs.{needs}
 use Rattle.roots.proofs.Roots.keep.Statement.{statement}
 use Rattle.roots.proofs.Roots.keep.Tie as tie
 
-is-finite-requires : tie.Need-is-finite-requires
-is-finite-requires c κs = search needs
-
-push-requires : tie.Need-push-requires
-push-requires c κs = search needs
-
 returns : tie.Need-returns
 unfolding keptIn
 returns c = if-taken _ _ (sym (c .before .before .is-finite .ensures) ∙ c .before .if1 .taken) (c .push .ensures)
@@ -21,4 +15,4 @@ unfolding keptIn
 returns-2 c = simp (sym (c .before .is-finite .ensures) ∙ c .if1 .left)
 
 pub keep-spec : {M : Type 1} → statement M
-keep-spec = tie.close (tie.spec is-finite-requires push-requires returns returns-2)
+keep-spec = tie.close (tie.spec (λ c κs. search needs) (λ c κs. search needs) returns returns-2)

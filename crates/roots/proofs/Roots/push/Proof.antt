@@ -5,15 +5,6 @@ use borrow.Author.Needs.{needs}
 use Rattle.roots.proofs.Roots.push.Statement.{statement}
 use Rattle.roots.proofs.Roots.push.Tie as tie
 
-mul-r : tie.Need-mul-r
-mul-r c = search needs
-
-element-set-from-r : tie.Need-element-set-from-r
-element-set-from-r c = search needs
-
-add-out : tie.Need-add-out
-add-out c = search needs
-
 returns : tie.Need-returns
 unfolding pushedOf
 returns c = simp (lt-ltb _ _ (c .if1 .taken))
@@ -23,4 +14,4 @@ unfolding pushedOf
 returns-2 c = simp (le-ltb _ _ (c .if1 .left))
 
 pub push-spec : {M : Type 1} → statement M
-push-spec = tie.close (tie.spec mul-r element-set-from-r add-out returns returns-2)
+push-spec = tie.close (tie.spec (λ c. search needs) (λ c. search needs) (λ c. search needs) returns returns-2)

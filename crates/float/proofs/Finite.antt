@@ -1,0 +1,27 @@
+-- Whether all numbers of a list are finite: at each place, by its parts, and as a loop finds it. Assumes nothing.
+use mathlib.Core.Path.{_≡_, refl, sym, ap, _∙_}
+use mathlib.Core.Bool.{Bool, true, _&&_, and-true, and-assoc, and-eq-true-iff}
+use mathlib.Core.List.{List, [], _∷_, _++_}
+use Prim.Native.Nat.{ℕ, zero, suc, _<_}
+use native.Mathlib.Omega.{arith}
+use lib.ListN.{length, getD}
+use lib.Ieee.{Float, nan}
+use Rattle.float.specs.Methods.{isFiniteOf, allFiniteOf}
+
+pub finite-at : (l : List Float) → allFiniteOf l ≡ true → (i : ℕ) → i < length l → isFiniteOf (getD l i nan) ≡ true
+finite-at [] e i h = absurd (omega (arith, h))
+finite-at (x ∷ l) e zero h = and-eq-true-iff (isFiniteOf x) (allFiniteOf l) .0 e .0
+finite-at (x ∷ l) e (suc i) h = finite-at l (and-eq-true-iff (isFiniteOf x) (allFiniteOf l) .0 e .1) i (omega arith)
+
+pub finite-append : (l m : List Float) → allFiniteOf (l ++ m) ≡ (allFiniteOf l && allFiniteOf m)
+finite-append [] m = refl
+finite-append (x ∷ l) m = ap (λ (b : Bool). isFiniteOf x && b) (finite-append l m) ∙ sym (and-assoc (isFiniteOf x) (allFiniteOf l) (allFiniteOf m))
+
+-- ---- a loop that has found b so far, and comes to r
+-- a turn, where l is left, and x the next of it
+pub finite-turn : {r : Bool} (b : Bool) (l m : List Float) (x : Float) → (b && allFiniteOf l) ≡ r → l ≡ x ∷ m → (b && isFiniteOf x && allFiniteOf m) ≡ r
+finite-turn b l m x h e = and-assoc b (isFiniteOf x) (allFiniteOf m) ∙ rw e at h
+
+-- the end, where nothing is left
+pub finite-end : {r : Bool} (b : Bool) (l : List Float) → (b && allFiniteOf l) ≡ r → l ≡ [] → b ≡ r
+finite-end b l h e = sym (and-true b) ∙ rw e at h
