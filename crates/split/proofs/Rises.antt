@@ -10,11 +10,11 @@ use lib.ListN.{getD, set, length-set}
 use lib.Seq.{getD-set-same, getD-set-other}
 use lib.Ieee.{Float, nan}
 use Rattle.algebra.specs.NatOrder.{le-or-lt}
-use Rattle.facts.specs.Count.{countUp}
+use Rattle.facts.specs.Count.{countUp, up-turn}
 use Rattle.facts.specs.Cond.{either-way}
 use Rattle.float.specs.Methods.{isFiniteOf}
 use Rattle.split.specs.declared.Hull.{Hull}
-use Rattle.split.specs.Hull.{poppedOf, hullStep, noHull, hullOf, Rising}
+use Rattle.split.specs.Hull.{poppedOf, hullAt, hullStep, noHull, hullOf, Rising}
 use Rattle.split.proofs.Dropped.{popped-le}
 
 -- ---- two points one after the other
@@ -84,11 +84,17 @@ hull-rising lg d D = go (d + 1) noHull (subst (λ (i : ℕ). Rising i noHull) (l
         (subst (λ (i : ℕ). Rising i (hullStep lg (d + 1 - suc k) s)) (let e : d + 1 - suc k + 1 ≡ d + 1 - k = omega arith in e) (step-rising lg (d + 1 - suc k) s _ (omega arith) refl R))
         (omega arith)
 
--- ---- the two ways of a turn
-pub step-in : (lg : List Float) (i : ℕ) (s : Hull) (h : ℕ) → h ≡ poppedOf lg (s .at) i (s .h) → isFiniteOf (getD lg i nan) ≡ true → record { at = set (s .at) h i; h = h + 1 } ≡ hullStep lg i s
-unfolding hullStep
-step-in lg i s h e f = rw (f, e)
+-- ---- the two ways of a turn, to the points a and the count n
+module _ (lg : List Float) (i : ℕ) (at : List ℕ) (h : ℕ) (a : List ℕ) (n : ℕ) where
+  pub step-in : (k : ℕ) → k ≡ poppedOf lg at i h → isFiniteOf (getD lg i nan) ≡ true → a ≡ set at k i → n ≡ k + 1 → hullAt a n ≡ hullStep lg i (hullAt at h)
+  unfolding hullStep
+  step-in k e f p q = rw (f, p, q, e)
 
-pub step-out : (lg : List Float) (i : ℕ) (s : Hull) → isFiniteOf (getD lg i nan) ≡ false → s ≡ hullStep lg i s
-unfolding hullStep
-step-out lg i s f = rw f
+  pub step-out : isFiniteOf (getD lg i nan) ≡ false → a ≡ at → n ≡ h → hullAt a n ≡ hullStep lg i (hullAt at h)
+  unfolding hullStep
+  step-out f p q = rw (f, p, q)
+
+-- ---- a turn of the loop: what is left after it gives the whole
+pub turned : (lg : List Float) (d i : ℕ) (s r : Hull) → i < d + 1 → d ≤ 4 → r ≡ hullStep lg i s → Rising i s → countUp (d + 1) (hullStep lg) (d + 1 - i) s ≡ hullOf lg d
+    → Rising (i + 1) r × (countUp (d + 1) (hullStep lg) (d + 1 - (i + 1)) r ≡ hullOf lg d)
+turned lg d i s r l D e R h = (step-rising lg i s r (omega arith) e R, rw e (sym (up-turn (d + 1) (hullStep lg) i s l) ∙ h))

@@ -34,9 +34,12 @@ hullStep lg i s =
     let h = poppedOf lg (s .at) i (s .h) in
     cond (isFiniteOf (getD lg i nan)) (record { at = set (s .at) h i; h = h + 1 }) s
 
--- no point
+-- the hull of these points, and no point
+abbrev pub hullAt : List ℕ → ℕ → Hull
+hullAt at h = record { at = at; h = h }
+
 abbrev pub noHull : Hull
-noHull = record { at = replicate 5 0; h = 0 }
+noHull = hullAt (replicate 5 0) 0
 
 -- the hull of the points 0 to d
 unfoldable pub hullOf : List Float → ℕ → Hull

@@ -3,7 +3,7 @@
 ghost use mathlib.Core.Path.{_≡_};
 ghost use Prim.Native.Nat.{_≤_, _<_, _+_};
 ghost use lib.ListN.{getD};
-ghost use Rattle.split.specs.Hull.{Rising, crossOf, poppedOf, hullStep, hullOf, magOf};
+ghost use Rattle.split.specs.Hull.{widthOf, hullAt, Rising, crossOf, poppedOf, hullOf, magOf};
 ghost use Rattle.split.specs.Gap.{exp2Of, magnitudeSplitOf};
 
 // The points of the hull by their indices, the first h of `at`.
@@ -19,21 +19,34 @@ pub struct Split {
     pub threshold: f64,
 }
 
-// At least 0 where the point b lies on or below the line from a to i.
-fn cross(lg: [f64; 5], a: usize, b: usize, i: usize) -> f64
-    requires { ⌜ a ≤ b ⌝ ∗ ⌜ b ≤ i ⌝ ∗ ⌜ i ≤ 4 ⌝ }
-    ensures { λ r. ⌜ r ≡ crossOf lg a b i ⌝ }
+// b - a, from a table: a `match` on constants is compiled to read-only data.
+fn width(a: usize, b: usize) -> f64
+    requires { ⌜ a ≤ b ⌝ ∗ ⌜ b ≤ 4 ⌝ }
+    ensures { λ r. ⌜ r ≡ widthOf a b ⌝ }
 {
-    (b - a) as f64 * (lg[i] - lg[a]) - (lg[b] - lg[a]) * (i - a) as f64
+    match b - a {
+        0 => 0.0,
+        1 => 1.0,
+        2 => 2.0,
+        3 => 3.0,
+        _ => 4.0,
+    }
+}
+
+// At least 0 where the point b lies on or below the line from a to i.
+fn cross(lg: &[f64; 5], a: usize, b: usize, i: usize) -> f64
+    requires { ⌜ a ≤ b ⌝ ∗ ⌜ b ≤ i ⌝ ∗ ⌜ i ≤ 4 ⌝ }
+    ensures { λ r. ⌜ r ≡ crossOf (now (lg .entry)) a b i ⌝ }
+{
+    width(a, b) * (lg[i] - lg[a]) - (lg[b] - lg[a]) * width(a, i)
 }
 
 // How many points stay once those that do not stand above the line to i are dropped.
-fn popped(lg: [f64; 5], s: Hull, i: usize) -> usize
-    requires { ⌜ Rising i s ⌝ ∗ ⌜ i ≤ 4 ⌝ }
-    ensures { λ r. ⌜ (r ≡ poppedOf lg (s .at) i (s .h)) × (r ≤ s .h) ⌝ }
+fn popped(lg: &[f64; 5], at: &[usize; 5], h: usize, i: usize) -> usize
+    requires { ⌜ Rising i (hullAt (now at) h) ⌝ ∗ ⌜ i ≤ 4 ⌝ }
+    ensures { λ r. ⌜ (r ≡ poppedOf (now (lg .entry)) (now (at .entry)) i h) × (r ≤ h) ⌝ }
 {
-    let at = s.at;
-    let mut k = s.h;
+    let mut k = h;
     while 2 <= k {
         let a = at[k - 2];
         let b = at[k - 1];
@@ -46,41 +59,32 @@ fn popped(lg: [f64; 5], s: Hull, i: usize) -> usize
     k
 }
 
-fn hull_step(lg: [f64; 5], i: usize, s: Hull) -> Hull
-    requires { ⌜ Rising i s ⌝ ∗ ⌜ i ≤ 4 ⌝ }
-    ensures { λ r. ⌜ r ≡ hullStep lg i s ⌝ }
-{
-    if float::is_finite(lg[i]) {
-        let h = popped(lg, s, i);
-        let mut out = s;
-        out.at[h] = i;
-        out.h = h + 1;
-        return out;
-    }
-    s
-}
-
 pub fn upper_hull(lg: [f64; 5], d: usize) -> Hull
     requires { ⌜ d ≤ 4 ⌝ }
     ensures { λ r. ⌜ r ≡ hullOf lg d ⌝ }
 {
-    let mut s = Hull { at: [0; 5], h: 0 };
+    let mut at: [usize; 5] = [0; 5];
+    let mut h: usize = 0;
     let mut i = 0;
     while i < d + 1 {
-        s = hull_step(lg, i, s);
+        if float::is_finite(lg[i]) {
+            let k = popped(&lg, &at, h, i);
+            at[k] = i;
+            h = k + 1;
+        }
         i += 1;
     }
-    s
+    Hull { at, h }
 }
 
 // The logarithm of the size of the roots of edge k.
-fn mag(lg: [f64; 5], at: [usize; 5], k: usize) -> f64
-    requires { ⌜ k < 4 ⌝ ∗ ⌜ (getD at k 0 ≤ getD at (k + 1) 0) × (getD at (k + 1) 0 ≤ 4) ⌝ }
-    ensures { λ r. ⌜ r ≡ magOf lg at k ⌝ }
+fn mag(lg: &[f64; 5], at: &[usize; 5], k: usize) -> f64
+    requires { ⌜ k < 4 ⌝ ∗ ⌜ (getD (now at) k 0 ≤ getD (now at) (k + 1) 0) × (getD (now at) (k + 1) 0 ≤ 4) ⌝ }
+    ensures { λ r. ⌜ r ≡ magOf (now (lg .entry)) (now (at .entry)) k ⌝ }
 {
     let a = at[k];
     let b = at[k + 1];
-    (lg[a] - lg[b]) / (b - a) as f64
+    (lg[a] - lg[b]) / width(a, b)
 }
 
 // 2^x, x rounded down.
@@ -99,8 +103,8 @@ pub fn magnitude_split(lg: [f64; 5], d: usize) -> Split
     let mut k = s.h;
     while 2 < k {
         k -= 1;
-        let lo = mag(lg, at, k - 2);
-        let hi = mag(lg, at, k - 1);
+        let lo = mag(&lg, &at, k - 2);
+        let hi = mag(&lg, &at, k - 1);
         if hi - lo > 8.0 {
             return Split {
                 found: true,

@@ -1,7 +1,4 @@
 -- `split::mag` meets its contract: the formula as it stands. Assumes nothing.
-use mathlib.Core.Path.{refl}
-use native.Mathlib.Omega.{arith}
-use Rattle.float.proofs.Whole.{whole-exact}
 use Rattle.split.specs.Hull.{magOf}
 use borrow.Author.Needs.{needs}
 use Rattle.split.proofs.mag.Statement.{statement}
@@ -10,8 +7,8 @@ use Rattle.split.proofs.mag.Tie as tie
 mul-a : tie.Need-mul-a
 mul-a c = search needs
 
-array-read-a : tie.Need-array-read-a
-array-read-a c = search needs
+element-copy-out-a : tie.Need-element-copy-out-a
+element-copy-out-a c = search needs
 
 add-b : tie.Need-add-b
 add-b c = search needs
@@ -19,44 +16,40 @@ add-b c = search needs
 mul-b : tie.Need-mul-b
 mul-b c = search needs
 
-array-read-b : tie.Need-array-read-b
-array-read-b c = search needs
+element-copy-out-b : tie.Need-element-copy-out-b
+element-copy-out-b c = search needs
 
 mul-result : tie.Need-mul-result
 mul-result c = search needs
 
-array-read-result : tie.Need-array-read-result
-array-read-result c = search needs
+element-copy-out-result : tie.Need-element-copy-out-result
+element-copy-out-result c = search needs
 
 mul-result-2 : tie.Need-mul-result-2
 mul-result-2 c = search needs
 
-array-read-result-2 : tie.Need-array-read-result-2
-array-read-result-2 c = search needs
+element-copy-out-result-2 : tie.Need-element-copy-out-result-2
+element-copy-out-result-2 c = search needs
 
-sub-result : tie.Need-sub-result
-sub-result c = search needs
-
-int-to-float-result : tie.Need-int-to-float-result
-int-to-float-result c = whole-exact _ (omega arith)
+width-requires : tie.Need-width-requires
+width-requires c κs = search needs
 
 returns : tie.Need-returns
 unfolding magOf
-returns c = refl
+returns c = rw (c .width .ensures)
 
 pub mag-spec : {M : Type 1} → statement M
 mag-spec =
     tie.close
     (tie.spec
     mul-a
-    array-read-a
+    element-copy-out-a
     add-b
     mul-b
-    array-read-b
+    element-copy-out-b
     mul-result
-    array-read-result
+    element-copy-out-result
     mul-result-2
-    array-read-result-2
-    sub-result
-    int-to-float-result
+    element-copy-out-result-2
+    width-requires
     returns)

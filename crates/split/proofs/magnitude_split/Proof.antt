@@ -7,10 +7,10 @@ use Rattle.split.proofs.magnitude_split.Statement.{statement}
 use Rattle.split.proofs.magnitude_split.Tie as tie
 
 abbrev Inv-loop : tie.InvT-loop
-Inv-loop lg d at k₀ k = Seeking lg d at k
+Inv-loop d lg at k₀ k = Seeking lg d at k
 
 abbrev μ-loop : tie.MeasureT-loop
-μ-loop lg d at k₀ k = k
+μ-loop d lg at k₀ k = k
 
 upper-hull-requires : tie.Need-upper-hull-requires Inv-loop μ-loop
 upper-hull-requires c κs = search needs
@@ -25,34 +25,40 @@ sub-mag : tie.Need-sub-mag Inv-loop μ-loop
 sub-mag c = search needs
 
 mag-requires : tie.Need-mag-requires Inv-loop μ-loop
-mag-requires c κs = seek-edge _ _ _ _ (c .before .loop .inv) (c .before .before .before .before .pre) _ (omega (arith, c .loop-test .taken))
+mag-requires c κs = let l = c .before .before in seek-edge _ _ _ _ (l .before .loop .inv) (l .before .before .before .before .pre) _ (omega (arith, l .loop-test .taken))
 
 sub-mag-2 : tie.Need-sub-mag-2 Inv-loop μ-loop
 sub-mag-2 c = search needs
 
 mag-requires-2 : tie.Need-mag-requires-2 Inv-loop μ-loop
-mag-requires-2 c κs = seek-edge _ _ _ _ (c .before .before .loop .inv) (c .before .before .before .before .before .pre) _ (omega (arith, c .before .loop-test .taken))
+mag-requires-2 c κs = let l = c .before .before .before .before .before in seek-edge _ _ _ _ (l .before .loop .inv) (l .before .before .before .before .pre) _ (omega (arith, l .loop-test .taken))
 
-sub-t12 : tie.Need-sub-t12 Inv-loop μ-loop
-sub-t12 c = search needs
+sub-t17 : tie.Need-sub-t17 Inv-loop μ-loop
+sub-t17 c = search needs
 
-mul-t13 : tie.Need-mul-t13 Inv-loop μ-loop
-mul-t13 c = record { fits = omega (arith, c .before .before .before .before .loop .inv .rising .count) }
+mul-t18 : tie.Need-mul-t18 Inv-loop μ-loop
+mul-t18 c = let l = c .before .before .before .before .before .before .before in record { fits = omega (arith, l .before .loop .inv .rising .count) }
 
-array-read-t16 : tie.Need-array-read-t16 Inv-loop μ-loop
-array-read-t16 c = omega (arith, c .before .before .before .before .loop .inv .rising .count, c .before .before .before .loop-test .taken)
+array-read-t21 : tie.Need-array-read-t21 Inv-loop μ-loop
+array-read-t21 c = let l = c .before .before .before .before .before .before .before in omega (arith, l .before .loop .inv .rising .count, l .loop-test .taken)
 
 exp2-requires : tie.Need-exp2-requires Inv-loop μ-loop
 exp2-requires c κs = search needs
 
 returns : tie.Need-returns Inv-loop μ-loop
-returns c = let m = c .before .before in let l = m .before .before in gap-found _ _ _ (l .loop-test .taken) _ _ (m .before .mag .ensures) (m .mag2 .ensures) _ (c .exp2 .ensures) (c .before .if1 .taken) ∙ l .before .loop .inv .is
+returns c =
+    let m = c .before .before in
+    let l = m .before .before .before .before .before .before in
+    gap-found _ _ _ (l .loop-test .taken) _ _ (m .before .before .before .mag .ensures) (m .mag2 .ensures) _ (c .exp2 .ensures) (c .before .if1 .taken) ∙ l .before .loop .inv .is
 
 loop-less : tie.Need-loop-less Inv-loop μ-loop
 loop-less c = search needs
 
 loop-again : tie.Need-loop-again Inv-loop μ-loop
-loop-again c = let m = c .before in let l = m .before .before in seek-next _ _ _ _ (l .before .loop .inv) (l .loop-test .taken) (gap-next _ _ _ (l .loop-test .taken) _ _ (m .before .mag .ensures) (m .mag2 .ensures) (c .if1 .left))
+loop-again c =
+    let m = c .before in
+    let l = m .before .before .before .before .before .before in
+    seek-next _ _ _ _ (l .before .loop .inv) (l .loop-test .taken) (gap-next _ _ _ (l .loop-test .taken) _ _ (m .before .before .before .mag .ensures) (m .mag2 .ensures) (c .if1 .left))
 
 returns-2 : tie.Need-returns-2 Inv-loop μ-loop
 returns-2 c = gap-end _ _ _ (c .loop-test .left) ∙ c .before .loop .inv .is
@@ -70,9 +76,9 @@ magnitude-split-spec =
     mag-requires
     sub-mag-2
     mag-requires-2
-    sub-t12
-    mul-t13
-    array-read-t16
+    sub-t17
+    mul-t18
+    array-read-t21
     exp2-requires
     returns
     loop-less

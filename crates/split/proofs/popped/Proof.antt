@@ -12,10 +12,10 @@ use Rattle.split.proofs.popped.Statement.{statement}
 use Rattle.split.proofs.popped.Tie as tie
 
 abbrev Inv-loop : tie.InvT-loop
-Inv-loop lg i at k₀ k = (k ≤ k₀) × (poppedOf lg at i k ≡ poppedOf lg at i k₀)
+Inv-loop lg at h i k₀ k = (k ≤ h) × (poppedOf lg at i k ≡ poppedOf lg at i h)
 
 abbrev μ-loop : tie.MeasureT-loop
-μ-loop lg i at k₀ k = k
+μ-loop lg at h i k₀ k = k
 
 loop-holds : tie.Need-loop-holds Inv-loop μ-loop
 loop-holds c = (search needs, refl)
@@ -23,8 +23,8 @@ loop-holds c = (search needs, refl)
 mul-a : tie.Need-mul-a Inv-loop μ-loop
 mul-a c = search needs
 
-array-read-a : tie.Need-array-read-a Inv-loop μ-loop
-array-read-a c = search needs
+element-copy-out-a : tie.Need-element-copy-out-a Inv-loop μ-loop
+element-copy-out-a c = search needs
 
 sub-b : tie.Need-sub-b Inv-loop μ-loop
 sub-b c = search needs
@@ -32,13 +32,14 @@ sub-b c = search needs
 mul-b : tie.Need-mul-b Inv-loop μ-loop
 mul-b c = search needs
 
-array-read-b : tie.Need-array-read-b Inv-loop μ-loop
-array-read-b c = search needs
+element-copy-out-b : tie.Need-element-copy-out-b Inv-loop μ-loop
+element-copy-out-b c = search needs
 
 cross-requires : tie.Need-cross-requires Inv-loop μ-loop
 cross-requires c κs =
-    let p = c .before .before .before .pre in
-    let t = last-two _ _ (p .0) (c .before .loop .k) (c .loop-test .taken) (c .before .loop .inv .0) in
+    let p = c .before .before .before .before .pre in
+    let l = c .before .before in
+    let t = last-two _ _ (p .0) (l .before .loop .k) (l .loop-test .taken) (l .before .loop .inv .0) in
     (t .0, (omega (arith, t .1), p .1))
 
 sub-k : tie.Need-sub-k Inv-loop μ-loop
@@ -48,10 +49,14 @@ loop-less : tie.Need-loop-less Inv-loop μ-loop
 loop-less c = search needs
 
 loop-again : tie.Need-loop-again Inv-loop μ-loop
-loop-again c = (search needs, sym (pop-go _ _ _ _ (c .before .before .loop-test .taken) (ap (λ (y : Float). le zero64 y) (sym (c .before .cross .ensures)) ∙ c .if1 .taken)) ∙ c .before .before .before .loop .inv .1)
+loop-again c =
+    let l = c .before .before .before .before in
+    (search needs, sym (pop-go _ _ _ _ (l .loop-test .taken) (ap (λ (y : Float). le zero64 y) (sym (c .before .cross .ensures)) ∙ c .if1 .taken)) ∙ l .before .loop .inv .1)
 
 returns : tie.Need-returns Inv-loop μ-loop
-returns c = (pop-stop _ _ _ _ (c .before .before .loop-test .taken) (ap (λ (y : Float). le zero64 y) (sym (c .before .cross .ensures)) ∙ c .if1 .left) ∙ c .before .before .before .loop .inv .1, search needs)
+returns c =
+    let l = c .before .before .before .before in
+    (pop-stop _ _ _ _ (l .loop-test .taken) (ap (λ (y : Float). le zero64 y) (sym (c .before .cross .ensures)) ∙ c .if1 .left) ∙ l .before .loop .inv .1, search needs)
 
 returns-2 : tie.Need-returns-2 Inv-loop μ-loop
 returns-2 c = (pop-end _ _ _ _ (c .loop-test .left) ∙ c .before .loop .inv .1, search needs)
@@ -64,10 +69,10 @@ popped-spec =
     μ-loop
     loop-holds
     mul-a
-    array-read-a
+    element-copy-out-a
     sub-b
     mul-b
-    array-read-b
+    element-copy-out-b
     cross-requires
     sub-k
     loop-less
