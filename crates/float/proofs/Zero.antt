@@ -79,15 +79,15 @@ over-zero false = refl
 pub zero-sign : (x : Float) → T (fits binary64 x) → eq x zero64 ≡ true → lt (div binary64 one64 x) zero64 ≡ isSignNegativeOf x
 zero-sign x t h = ap (λ (y : Float). lt (div binary64 one64 y) zero64) (level-zero x t h) ∙ over-zero (isSignNegativeOf x)
 
--- ---- the size, by the sign
+-- of anything but a zero, a comparison with 0 does
+pub other-sign : (x : Float) → eq x zero64 ≡ false → lt x zero64 ≡ isSignNegativeOf x
+other-sign x h = told (lt x zero64) refl
+  where
+    told : (b : Bool) → lt x zero64 ≡ b → lt x zero64 ≡ isSignNegativeOf x
+    told true k = k ∙ sym (below-zero x k)
+    told false k = k ∙ sym (not-below x k h)
 
-pub abs-neg : (x : Float) → isSignNegativeOf x ≡ true → neg x ≡ absOf x
-unfolding neg absOf isSignNegativeOf
-abs-neg nan h = refl
-abs-neg (inf true) h = refl
-abs-neg (inf false) h = absurd (false≢true h)
-abs-neg (fin true m e) h = refl
-abs-neg (fin false m e) h = absurd (false≢true h)
+-- ---- the size, by the sign
 
 pub abs-pos : (x : Float) → isSignNegativeOf x ≡ false → x ≡ absOf x
 unfolding absOf isSignNegativeOf
@@ -96,10 +96,6 @@ abs-pos (inf true) h = absurd (true≢false h)
 abs-pos (inf false) h = refl
 abs-pos (fin true m e) h = absurd (true≢false h)
 abs-pos (fin false m e) h = refl
-
-pub abs-zero : (x : Float) → T (fits binary64 x) → eq x zero64 ≡ true → zero64 ≡ absOf x
-unfolding absOf ofBits
-abs-zero x t h = ap absOf (sym (level-zero x t h))
 
 -- the sign of y on x: |x|, or its negative
 pub sign-on : (x y : Float) → isSignNegativeOf y ≡ true → neg (absOf x) ≡ copysignOf x y

@@ -1,12 +1,12 @@
 // Doubles: the methods of Rust's f64 that Rattle has not, and doubles as bits and as bytes. Every function takes all bits; every NaN is one NaN.
-// It rests on the library alone. Every crate that computes with doubles rests on it.
+// It rests on `rounding`. Every crate that computes with doubles rests on it.
 ghost use mathlib.Core.Path.{_≡_};
 ghost use mathlib.Core.Bool.{cond, _||_};
 ghost use Prim.Native.Nat.{_+_, _^_, _<_, _≤_};
 ghost use lib.ListN.{length, getD};
 ghost use lib.Seq.{sets};
-ghost use lib.Ieee.{binary64, isNan, minus, ofInt, ofBits, toBits};
-ghost use Rattle.float.specs.Literals.{inf64};
+ghost use lib.Ieee.{binary64, isNan, lt, minus, ofInt, ofBits, toBits};
+ghost use Rattle.float.specs.Literals.{zero64, inf64};
 ghost use Rattle.float.specs.Methods.{absOf, isFiniteOf, isSignNegativeOf, copysignOf, minOf, maxOf, clampOf, totalLeOf, powiOf};
 ghost use Rattle.float.specs.Floor.{floorOf};
 ghost use Rattle.float.specs.Bytes.{u64At, f64At, bytesOf};
@@ -24,16 +24,11 @@ pub fn is_nan(x: f64) -> bool
     x != x
 }
 
+// 0 - x where x is at most 0, so that -0 gives +0.
 pub fn abs(x: f64) -> f64
     ensures { λ r. ⌜ r ≡ absOf x ⌝ }
 {
-    if x < 0.0 {
-        return -x;
-    }
-    if x == 0.0 {
-        return 0.0;
-    }
-    x
+    if x <= 0.0 { 0.0 - x } else { x }
 }
 
 pub fn is_finite(x: f64) -> bool
@@ -43,17 +38,20 @@ pub fn is_finite(x: f64) -> bool
     -most < x && x < most
 }
 
+// Below 0 where the sign is set: 1 / -0 is -infinity.
+fn signed(x: f64) -> f64
+    ensures { λ r. ⌜ lt r zero64 ≡ isSignNegativeOf x ⌝ }
+{
+    if x == 0.0 {
+        return 1.0 / x;
+    }
+    x
+}
+
 pub fn is_sign_negative(x: f64) -> bool
     ensures { λ r. ⌜ r ≡ isSignNegativeOf x ⌝ }
 {
-    if x < 0.0 {
-        return true;
-    }
-    // 1 / -0 is -infinity.
-    if x == 0.0 {
-        return 1.0 / x < 0.0;
-    }
-    false
+    signed(x) < 0.0
 }
 
 pub fn copysign(x: f64, y: f64) -> f64
