@@ -12,22 +12,11 @@ use Rattle.facts.specs.Cond.{if-taken, if-left}
 use Rattle.float.specs.Literals.{zero64}
 use Rattle.float.specs.Methods.{absOf, copysignOf, allFiniteOf}
 use Rattle.sqrt.specs.Root.{sqrtOf}
+use Rattle.sqrt.proofs.Size.{signed-root}
 use Rattle.equation.specs.declared.QuadraticSolution.{QuadraticSolution}
 use Rattle.equation.specs.declared.QuadraticSolution.the-variants.{One, Empty}
 use Rattle.equation.specs.declared.QuadraticAnswer.{QuadraticAnswer}
 use Rattle.equation.specs.Quadratic.{valuesOf, midOf, discOf, isGrazingOf, twoOf, solveQuadraticOf, refusedBy, quadraticOf}
-
--- a number not below 0 and its size have one root but for the sign of a zero
-signed-root : (x y : Float) → lt x zero64 ≡ false → copysignOf (sqrtOf (absOf x)) y ≡ copysignOf (sqrtOf x) y
-unfolding copysignOf sqrtOf absOf lt ofBits
-signed-root nan y h = refl
-signed-root (inf true) y h = absurd (true≢false h)
-signed-root (inf false) y h = refl
-signed-root (fin false m e) y h = refl
-signed-root (fin true zero e) y h = refl
-signed-root (fin true (suc m) e) y h =
-    let p : suc m * up e * 1 + 0 * 1 * down e ≤ 0 = ltb-false _ _ h in
-    absurd (omega (arith, suc-mul m (up e), up-pos e))
 
 -- where |a| is above `angular`: with the one root that the code takes, and its test
 module _ (a b c confusion angular : Float) {s size root : Float} {grazing : Bool} (is-s : s ≡ absOf a) (curved : le s angular ≡ false)

@@ -1,6 +1,6 @@
 -- How many roots the closed form gives, its one constant, what the folds over one and over three roots come to, and four roots judged one after the other.
 -- Assumes nothing.
-use mathlib.Core.Path.{_≡_, refl, sym, _∙_}
+use mathlib.Core.Path.{_≡_, refl, sym, ap, _∙_}
 use mathlib.Core.Bool.{Bool, true, false, cond, _||_}
 use mathlib.Core.List.{List}
 use mathlib.Core.Logic.{_⊎_, inl, inr}
@@ -8,17 +8,22 @@ use Prim.Native.Nat.{ℕ}
 use lib.ListN.{getD}
 use lib.Ieee.{Float, nan, binary64, ofBits, mul, neg, lt, le}
 use Rattle.facts.specs.Count.{countUp}
-use Rattle.facts.specs.Cond.{either-way}
+use Rattle.facts.specs.Cond.{either-way, if-taken, if-left}
 use Rattle.float.specs.Literals.{zero64, half64, three64, inf64}
-use Rattle.float.specs.Methods.{maxOf, totalLeOf}
+use Rattle.float.specs.Methods.{absOf, maxOf, totalLeOf}
 use Rattle.sqrt.specs.Root.{sqrtOf}
+use Rattle.sqrt.proofs.Size.{least-root, below-root}
+use Rattle.horner.specs.Product.{discriminantOf}
 use Rattle.factor.specs.declared.CubicRoots.{CubicRoots}
 use Rattle.factor.specs.declared.QuarticFactor.{QuarticFactor}
 use Rattle.factor.specs.declared.RootPair.{RootPair}
 use Rattle.factor.specs.declared.Best.{Best}
-use Rattle.factor.specs.Cubic.{oneRootOf, threeRootsOf, depressedRootsOf, cubicClosedFormOf, OneOrThree, isolationOf, isolationAmong, betterOf, mostIsolatedOf}
+use Rattle.factor.specs.declared.Disc.{Disc}
+use Rattle.factor.specs.declared.LoneRoot.{LoneRoot}
+use Rattle.factor.specs.declared.LoneRoot.the-variants.{At, None}
+use Rattle.factor.specs.Cubic.{overOr, oneRootOf, threeRootsOf, depressedRootsOf, cubicClosedFormOf, OneOrThree, isolationOf, isolationAmong, betterOf, mostIsolatedOf}
 use Rattle.factor.specs.Quartic.{largestOf}
-use Rattle.factor.specs.Isolated.{rootPairOf, distOf, leastOf, greatestOf, judgedOf, bestRootOf}
+use Rattle.factor.specs.Isolated.{discOf, farBy, farRootOf, rootPairOf, distOf, leastOf, greatestOf, judgedOf, bestRootOf, isolatedOf, isolatedRootOf}
 
 -- ---- one root or three
 
@@ -95,3 +100,35 @@ module _ (quads : QuarticFactor) (z y : RootPair) (d01 d02 d03 d12 d13 d23 : Flo
   pub in-turn : b3 ≡ bestRootOf quads
   unfolding bestRootOf countUp
   in-turn = rw (sym ez, sym ey) (rw (f3, f2, f1, f0, e01, e02, e03, e12, e13, e23))
+
+-- ---- the roots of a quadratic, by the root of its discriminant's size
+
+module _ (al be : Float) {s : Disc} (is : s ≡ discOf al be) where
+  the-disc : s .disc ≡ discriminantOf al be
+  unfolding discOf
+  the-disc = ap (λ (t : Disc). t .disc) is
+
+  the-root : s .root ≡ sqrtOf (absOf (discriminantOf al be))
+  unfolding discOf
+  the-root = ap (λ (t : Disc). t .root) is
+
+  -- where the discriminant is at least 0
+  pub far-by : {q : Float} → le zero64 (s .disc) ≡ true → q ≡ farBy al (s .root) → q ≡ farRootOf al (discriminantOf al be)
+  unfolding farBy farRootOf
+  far-by h is-q = is-q ∙ rw (the-root, least-root (discriminantOf al be) al (rw the-disc at h))
+
+  pub real-pair : {q o : Float} → le zero64 (s .disc) ≡ true → q ≡ farBy al (s .root) → o ≡ overOr be q zero64
+      → record { re0 = q; im0 = zero64; re1 = o; im1 = zero64 } ≡ rootPairOf al be
+  unfolding rootPairOf
+  real-pair h is-q is-o = if-taken _ _ (rw the-disc at h) (rw (is-o, far-by h is-q))
+
+  pub complex-pair : le zero64 (s .disc) ≡ false
+      → record { re0 = mul binary64 (neg half64) al; im0 = mul binary64 half64 (s .root); re1 = mul binary64 (neg half64) al; im1 = neg (mul binary64 half64 (s .root)) } ≡ rootPairOf al be
+  unfolding rootPairOf
+  complex-pair h = if-left _ _ (rw the-disc at h) (rw (the-root, below-root (discriminantOf al be) (rw the-disc at h)))
+
+module _ (quads : QuarticFactor) {first second : Disc} {best : Best} (is-first : first ≡ discOf (quads .al) (quads .be)) (is-second : second ≡ discOf (quads .ga) (quads .de))
+    (is-best : best ≡ bestRootOf quads) where
+  pub is-lone : {far : LoneRoot} → far ≡ cond (best .found) (At (best .r)) None → record { far = far; first = first; second = second } ≡ isolatedOf quads
+  unfolding isolatedOf isolatedRootOf
+  is-lone is-far = rw (is-far, is-best, is-first, is-second)

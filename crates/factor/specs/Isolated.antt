@@ -8,7 +8,7 @@ use lib.ListN.{getD}
 use lib.Ieee.{Float, nan, binary64, add, sub, mul, neg, lt, le, ne}
 use Rattle.facts.specs.Count.{countUp}
 use Rattle.float.specs.Literals.{zero64, half64, sixteen64, inf64}
-use Rattle.float.specs.Methods.{copysignOf, minOf, maxOf, powiOf}
+use Rattle.float.specs.Methods.{absOf, copysignOf, minOf, maxOf, powiOf}
 use Rattle.sqrt.specs.Root.{sqrtOf}
 use Rattle.horner.specs.Product.{discriminantOf}
 use Rattle.refine.specs.Refine.{refineOf}
@@ -18,12 +18,21 @@ use Rattle.factor.specs.declared.RootPair.{RootPair}
 use Rattle.factor.specs.declared.Best.{Best}
 use Rattle.factor.specs.declared.LoneRoot.{LoneRoot}
 use Rattle.factor.specs.declared.LoneRoot.the-variants.{At, None}
+use Rattle.factor.specs.declared.Disc.{Disc}
+use Rattle.factor.specs.declared.Pairing.{Pairing}
 use Rattle.factor.specs.declared.Peeled.{Peeled}
 use Rattle.factor.specs.Cubic.{overOr}
 
 -- Of two real roots of y^2 + al*y + be, whose discriminant is disc, the one of larger size: q = -0.5 * (al + disc.sqrt().copysign(al)), without cancellation
 unfoldable pub farRootOf : Float → Float → Float
 farRootOf al disc = mul binary64 (neg half64) (add binary64 al (copysignOf (sqrtOf disc) al))
+
+-- what the code takes once where the Rust takes it for each use: a discriminant and the root of its size, and farRootOf with that root
+unfoldable pub discOf : Float → Float → Disc
+discOf al be = let disc = discriminantOf al be in record { disc = disc; root = sqrtOf (absOf disc) }
+
+unfoldable pub farBy : Float → Float → Float
+farBy al root = mul binary64 (neg half64) (add binary64 al (copysignOf root al))
 
 -- The roots of y^2 + al*y + be as (re, im). Real ones, a double one too (disc = 0): q of larger size, cancellation-free, and the other from their product be.
 -- Else conjugate ones, also where disc is a NaN: their im is a NaN then, so neither counts as real.
@@ -83,6 +92,10 @@ bestRootOf quads =
 -- `isolated_root`
 unfoldable pub isolatedRootOf : QuarticFactor → LoneRoot
 isolatedRootOf quads = let best = bestRootOf quads in cond (best .found) (At (best .r)) None
+
+-- the same, and the discriminants of the two quadratics
+unfoldable pub isolatedOf : QuarticFactor → Pairing
+isolatedOf quads = record { far = isolatedRootOf quads; first = discOf (quads .al) (quads .be); second = discOf (quads .ga) (quads .de) }
 
 -- `peel_root`: the quotient by y - r, from the top, refined
 unfoldable pub peelRootOf : Float → Float → Float → Float → Float → Peeled

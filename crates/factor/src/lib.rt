@@ -7,7 +7,7 @@ ghost use lib.Ieee.{lt, le};
 ghost use Rattle.float.specs.Literals.{zero64};
 ghost use Rattle.factor.specs.Cubic.{cardanoOf, oneRootOf, threeRootsOf, cubicClosedFormOf, OneOrThree, isolationAmong, mostIsolatedOf, overOr, cubicFactorOf};
 ghost use Rattle.factor.specs.Quartic.{largestOf, resolventOf, isClearOf, ferrariOf, quarticFactorOf};
-ghost use Rattle.factor.specs.Isolated.{farRootOf, rootPairOf, distOf, leastOf, greatestOf, isBetterOf, judgedOf, bestRootOf, isolatedRootOf, peelRootOf};
+ghost use Rattle.factor.specs.Isolated.{discOf, farBy, farRootOf, rootPairOf, distOf, leastOf, greatestOf, isBetterOf, judgedOf, bestRootOf, isolatedOf, isolatedRootOf, peelRootOf};
 
 // The first n places hold roots.
 pub struct CubicRoots {
@@ -257,19 +257,42 @@ pub enum LoneRoot {
     None,
 }
 
+// A discriminant, and the square root of its size.
+pub struct Disc {
+    pub disc: f64,
+    pub root: f64,
+}
+
+// Of y^2 + al*y + be.
+pub fn disc_of(al: f64, be: f64) -> Disc
+    ensures { λ r. ⌜ r ≡ discOf al be ⌝ }
+{
+    let disc = horner::discriminant(al, be);
+    Disc {
+        disc,
+        root: sqrt::sqrt(float::abs(disc)),
+    }
+}
+
 // Cancellation-free: of the two real roots of y^2 + al*y + be the one of larger size, q = -(al + sign(al)*sqrt(disc))/2. The other is be / q.
+pub fn far_by(al: f64, root: f64) -> f64
+    ensures { λ r. ⌜ r ≡ farBy al root ⌝ }
+{
+    -0.5 * (al + float::copysign(root, al))
+}
+
 pub fn far_root(al: f64, disc: f64) -> f64
     ensures { λ r. ⌜ r ≡ farRootOf al disc ⌝ }
 {
-    -0.5 * (al + float::copysign(sqrt::sqrt(disc), al))
+    far_by(al, sqrt::sqrt(disc))
 }
 
-fn root_pair(al: f64, be: f64) -> RootPair
+fn root_pair(al: f64, be: f64, s: Disc) -> RootPair
+    requires { ⌜ s ≡ discOf al be ⌝ }
     ensures { λ r. ⌜ r ≡ rootPairOf al be ⌝ }
 {
-    let disc = horner::discriminant(al, be);
-    if disc >= 0.0 {
-        let q = far_root(al, disc);
+    if s.disc >= 0.0 {
+        let q = far_by(al, s.root);
         return RootPair {
             re0: q,
             im0: 0.0,
@@ -277,7 +300,7 @@ fn root_pair(al: f64, be: f64) -> RootPair
             im1: 0.0,
         };
     }
-    let half = 0.5 * sqrt::sqrt(-disc);
+    let half = 0.5 * s.root;
     let re = -0.5 * al;
     RootPair {
         re0: re,
@@ -340,11 +363,12 @@ fn judge(best: Best, re: f64, im: f64, a: f64, b: f64, c: f64, ab: f64, ac: f64,
     best
 }
 
-fn best_root(quads: QuarticFactor) -> Best
+fn best_root(quads: QuarticFactor, first: Disc, second: Disc) -> Best
+    requires { ⌜ (first ≡ discOf (quads .al) (quads .be)) × (second ≡ discOf (quads .ga) (quads .de)) ⌝ }
     ensures { λ r. ⌜ r ≡ bestRootOf quads ⌝ }
 {
-    let z = root_pair(quads.al, quads.be);
-    let y = root_pair(quads.ga, quads.de);
+    let z = root_pair(quads.al, quads.be, first);
+    let y = root_pair(quads.ga, quads.de, second);
     let d01 = dist(z.re0, z.im0, z.re1, z.im1);
     let d02 = dist(z.re0, z.im0, y.re0, y.im0);
     let d03 = dist(z.re0, z.im0, y.re1, y.im1);
@@ -362,14 +386,38 @@ fn best_root(quads: QuarticFactor) -> Best
     judge(b2, y.re1, y.im1, d03, d13, d23, d01, d02, d12)
 }
 
+// Of two quadratics: an isolated root, if there is one, and their discriminants.
+pub struct Pairing {
+    pub far: LoneRoot,
+    pub first: Disc,
+    pub second: Disc,
+}
+
+pub fn isolated(quads: QuarticFactor) -> Pairing
+    ensures { λ r. ⌜ r ≡ isolatedOf quads ⌝ }
+{
+    let first = disc_of(quads.al, quads.be);
+    let second = disc_of(quads.ga, quads.de);
+    let best = best_root(quads, first, second);
+    if best.found {
+        return Pairing {
+            far: LoneRoot::At(best.r),
+            first,
+            second,
+        };
+    }
+    Pairing {
+        far: LoneRoot::None,
+        first,
+        second,
+    }
+}
+
 pub fn isolated_root(quads: QuarticFactor) -> LoneRoot
     ensures { λ r. ⌜ r ≡ isolatedRootOf quads ⌝ }
 {
-    let best = best_root(quads);
-    if best.found {
-        return LoneRoot::At(best.r);
-    }
-    LoneRoot::None
+    let s = isolated(quads);
+    s.far
 }
 
 // (y - r) * (y^3 + h2*y^2 + h1*y + h0)

@@ -4,3 +4,4 @@ pub mod Ways
 pub mod Room
 pub mod Rescaled
 pub mod Vectors
+pub mod Discs

@@ -1,1 +1,2 @@
 pub mod Factorize
+pub mod Discs

@@ -1,26 +1,27 @@
 -- `factorize::out_of` is its definition, by the degree. Assumes nothing.
-use mathlib.Core.Path.{_∙_}
+use mathlib.Core.Path.{ap, _∙_}
 use borrow.Author.Tests.{ne-eqb}
 use Rattle.factorize.specs.Factorize.{outOf}
+use Rattle.factorize.specs.Discs.{rootedOf}
 use borrow.Author.Needs.{needs}
 use Rattle.factorize.proofs.out_of.Statement.{statement}
 use Rattle.factorize.proofs.out_of.Tie as tie
 
 returns : tie.Need-returns
 unfolding outOf
-returns c = rw (c .before .match .keys1) (c .default .ensures)
+returns c = c .with-discs .ensures ∙ ap rootedOf (rw (c .before .before .match .keys1) (c .before .default .ensures))
 
 returns-2 : tie.Need-returns-2
 unfolding outOf
-returns-2 c = rw (c .before .before .match .keys2) (c .push-lin .ensures ∙ rw (c .before .default2 .ensures))
+returns-2 c = c .with-discs2 .ensures ∙ ap rootedOf (rw (c .before .before .before .match .keys2) (c .before .push-lin .ensures ∙ rw (c .before .before .default2 .ensures)))
 
 returns-3 : tie.Need-returns-3
 unfolding outOf
-returns-3 c = rw (c .before .before .match .keys3) (c .push-quad .ensures ∙ rw (c .before .default3 .ensures))
+returns-3 c = c .with-discs3 .ensures ∙ ap rootedOf (rw (c .before .before .before .match .keys3) (c .before .push-quad .ensures ∙ rw (c .before .before .default3 .ensures)))
 
 returns-4 : tie.Need-returns-4
 unfolding outOf
-returns-4 c = rw (c .before .match .keys4) (c .cubic-factors .ensures)
+returns-4 c = c .with-discs4 .ensures ∙ ap rootedOf (rw (c .before .before .match .keys4) (c .before .cubic-factors .ensures))
 
 returns-5 : tie.Need-returns-5
 unfolding outOf
@@ -32,15 +33,19 @@ out-of-spec =
     (tie.spec
     (λ c κs. search needs)
     (λ c κs. search needs)
+    (λ c κs. search needs)
+    (λ c. search needs)
+    (λ c κs. search needs)
+    (λ c κs. search needs)
+    (λ c κs. search needs)
+    (λ c. search needs)
     (λ c. search needs)
     (λ c κs. search needs)
     (λ c κs. search needs)
     (λ c. search needs)
     (λ c. search needs)
+    (λ c. search needs)
     (λ c κs. search needs)
-    (λ c. search needs)
-    (λ c. search needs)
-    (λ c. search needs)
     (λ c κs. search needs)
     (λ c. search needs)
     (λ c. search needs)

@@ -1,16 +1,20 @@
--- `factorize::factorize` is its definition, by recursion on the scalings left. Assumes nothing.
+-- `factorize::factorize_rooted` gives the definition with its discriminants, by recursion on the scalings left. Assumes nothing.
+use mathlib.Core.Path.{ap, _∙_}
 use Prim.Native.Nat.{ℕ, _-_, _<_}
 use native.Mathlib.Omega.{arith}
 use borrow.Author.Needs.{needs}
 use borrow.Author.Tests.{not-true, not-false}
 use borrow.Fn.Kinds.{In}
 use borrow.Fn.PlainCycle.{Measures, is, falls, and}
+use Rattle.factorize.specs.Discs.{rootedOf}
+use Rattle.factorize.proofs.Discs.{the-factors, handed-on}
 use Rattle.factorize.proofs.Sizes.{out-fits, gap-inside, sized, sub-degree, exponent-read, sub-exponent, inner-sized}
 use Rattle.factorize.proofs.Ways.{at-depth-three, at-degree-two, without-gap, other-degree, unusable, split-up}
-use Rattle.factorize.proofs.factorize.Reads as reads
-use Rattle.factorize.proofs.factorize.Kinds as kinds
-use Rattle.factorize.proofs.+factorize.Lts-factorize as lts
+use Rattle.factorize.proofs.factorize_rooted.Reads as reads
+use Rattle.factorize.proofs.factorize_rooted.Kinds as kinds
+use Rattle.factorize.proofs.+factorize_rooted.Lts-factorize_rooted as lts
 use Rattle.factorize.proofs.out_of.Reads as out-of-reads
+use Rattle.factorize.proofs.with_discs.Reads as with-discs-reads
 use Rattle.factors.proofs.Factors.degree.Reads as degree-reads
 use Rattle.factors.proofs.large.Reads as large-reads
 use Rattle.factors.proofs.merged.Reads as merged-reads
@@ -19,8 +23,8 @@ use Rattle.factors.proofs.quotient.Reads as quotient-reads
 use Rattle.factors.proofs.usable.Reads as usable-reads
 use Rattle.scaled.proofs.Scaled.new.Reads as new-reads
 use Rattle.split.proofs.magnitude_split.Reads as magnitude-split-reads
-use Rattle.factorize.proofs.+factorize.{statement}
-use Rattle.factorize.proofs.+factorize.Tie.{close}
+use Rattle.factorize.proofs.+factorize_rooted.{statement}
+use Rattle.factorize.proofs.+factorize_rooted.Tie.{close}
 
 abbrev μ : Measures 0 kinds.ps ℕ
 μ κs a = 3 - a .1 .0
@@ -51,6 +55,8 @@ module _ (t : ℕ) where
     reads.Post,
     merged-reads.Asked,
     merged-reads.Learnt,
+    with-discs-reads.Asked,
+    with-discs-reads.Learnt,
   )
 
   out-of-requires : lts.Need-out-of-requires called given reads.Post
@@ -59,13 +65,13 @@ module _ (t : ℕ) where
   returns : lts.Need-returns called given reads.Post
   returns c =
       let at-out-of = c .before in
-      at-depth-three _ _ _ (at-out-of .out-of .ensures) (c .if1 .taken)
+      handed-on _ (at-out-of .out-of .ensures) (at-depth-three _ _ _ (the-factors (at-out-of .out-of .ensures)) (c .if1 .taken))
 
   returns-2 : lts.Need-returns-2 called given reads.Post
   returns-2 c =
       let at-if1 = c .before in
       let at-out-of = at-if1 .before in
-      at-degree-two _ _ _ (at-out-of .out-of .ensures) (at-if1 .if1 .left) (c .if2 .taken)
+      handed-on _ (at-out-of .out-of .ensures) (at-degree-two _ _ _ (the-factors (at-out-of .out-of .ensures)) (at-if1 .if1 .left) (c .if2 .taken))
 
   magnitude-split-requires : lts.Need-magnitude-split-requires called given reads.Post
   magnitude-split-requires c κs =
@@ -78,7 +84,7 @@ module _ (t : ℕ) where
       let at-if2 = at-magnitude-split .before .before in
       let at-if1 = at-if2 .before in
       let at-out-of = at-if1 .before in
-      without-gap _ _ _ (at-out-of .out-of .ensures) (at-if1 .if1 .left) (at-if2 .if2 .left) _ (at-magnitude-split .magnitude-split .ensures) (not-true _ (c .if3 .taken))
+      handed-on _ (at-out-of .out-of .ensures) (without-gap _ _ _ (the-factors (at-out-of .out-of .ensures)) (at-if1 .if1 .left) (at-if2 .if2 .left) _ (at-magnitude-split .magnitude-split .ensures) (not-true _ (c .if3 .taken)))
 
   sub-large : lts.Need-sub-large called given reads.Post
   sub-large c =
@@ -90,7 +96,7 @@ module _ (t : ℕ) where
   large-requires c κs =
       let at-out-of = c .before .before .before .before .before .before in
       let at-pre = at-out-of .before .before in
-      out-fits _ _ _ (at-out-of .out-of .ensures) (at-pre .pre .1)
+      out-fits _ _ _ (the-factors (at-out-of .out-of .ensures)) (at-pre .pre .1)
 
   degree-requires : lts.Need-degree-requires called given reads.Post
   degree-requires c κs = sized _ _ _ _ (c .large .ensures)
@@ -110,7 +116,7 @@ module _ (t : ℕ) where
       let at-if2 = at-magnitude-split .before .before in
       let at-if1 = at-if2 .before in
       let at-out-of = at-if1 .before in
-      other-degree _ _ _ (at-out-of .out-of .ensures) (at-if1 .if1 .left) (at-if2 .if2 .left) _ (at-magnitude-split .magnitude-split .ensures) (not-false _ (at-if3 .if3 .left)) _ (at-large .large .ensures) _ (at-degree .degree .ensures) (c .if4 .taken)
+      handed-on _ (at-out-of .out-of .ensures) (other-degree _ _ _ (the-factors (at-out-of .out-of .ensures)) (at-if1 .if1 .left) (at-if2 .if2 .left) _ (at-magnitude-split .magnitude-split .ensures) (not-false _ (at-if3 .if3 .left)) _ (at-large .large .ensures) _ (at-degree .degree .ensures) (c .if4 .taken))
 
   product-requires : lts.Need-product-requires called given reads.Post
   product-requires c κs =
@@ -143,7 +149,7 @@ module _ (t : ℕ) where
       let at-if2 = at-magnitude-split .before .before in
       let at-if1 = at-if2 .before in
       let at-out-of = at-if1 .before in
-      unusable _ _ _ (at-out-of .out-of .ensures) (at-if1 .if1 .left) (at-if2 .if2 .left) _ (at-magnitude-split .magnitude-split .ensures) (not-false _ (at-if3 .if3 .left)) _ (at-large .large .ensures) _ (at-degree .degree .ensures) (at-if4 .if4 .left) _ (at-product .product .ensures) _ (at-quotient .quotient .ensures) _ (at-usable .usable .ensures) (not-true _ (c .if5 .taken))
+      handed-on _ (at-out-of .out-of .ensures) (unusable _ _ _ (the-factors (at-out-of .out-of .ensures)) (at-if1 .if1 .left) (at-if2 .if2 .left) _ (at-magnitude-split .magnitude-split .ensures) (not-false _ (at-if3 .if3 .left)) _ (at-large .large .ensures) _ (at-degree .degree .ensures) (at-if4 .if4 .left) _ (at-product .product .ensures) _ (at-quotient .quotient .ensures) _ (at-usable .usable .ensures) (not-true _ (c .if5 .taken)))
 
   new-requires : lts.Need-new-requires called given reads.Post
   new-requires c κs =
@@ -151,13 +157,13 @@ module _ (t : ℕ) where
       let at-pre = at-magnitude-split .before .before .before .before .before .before in
       omega (arith, gap-inside _ _ _ (at-magnitude-split .magnitude-split .ensures) (at-pre .pre .1), at-pre .pre .1)
 
-  add-factorize : lts.Need-add-factorize called given reads.Post
-  add-factorize c =
+  add-factorize-rooted : lts.Need-add-factorize-rooted called given reads.Post
+  add-factorize-rooted c =
       let at-if1 = c .before .before .before .before .before .before .before .before .before .before .before .before .before .before in
       record { fits = omega (arith, at-if1 .if1 .left) }
 
-  factorize-requires : lts.Need-factorize-requires called given reads.Post
-  factorize-requires c κs =
+  factorize-rooted-requires : lts.Need-factorize-rooted-requires called given reads.Post
+  factorize-rooted-requires c κs =
       let at-new = c .before in
       let at-magnitude-split = at-new .before .before .before .before .before .before .before .before .before .before in
       let at-if1 = at-magnitude-split .before .before .before in
@@ -169,11 +175,15 @@ module _ (t : ℕ) where
       let at-new = c .before .before in
       let at-magnitude-split = at-new .before .before .before .before .before .before .before .before .before .before in
       let at-pre = at-magnitude-split .before .before .before .before .before .before in
-      (inner-sized _ _ _ (c .factorize .ensures) (sub-degree _ _ _ (at-new .new .ensures) (omega (arith, gap-inside _ _ _ (at-magnitude-split .magnitude-split .ensures) (at-pre .pre .1), at-pre .pre .1))), sub-exponent _ _ _ (at-new .new .ensures))
+      (inner-sized _ _ _ (the-factors (c .factorize-rooted .ensures)) (sub-degree _ _ _ (at-new .new .ensures) (omega (arith, gap-inside _ _ _ (at-magnitude-split .magnitude-split .ensures) (at-pre .pre .1), at-pre .pre .1))), sub-exponent _ _ _ (at-new .new .ensures))
+
+  with-discs-requires : lts.Need-with-discs-requires called given reads.Post
+  with-discs-requires c κs = search needs
 
   returns-6 : lts.Need-returns-6 called given reads.Post
   returns-6 c =
-      let at-factorize = c .before in
+      let at-merged = c .before in
+      let at-factorize = at-merged .before in
       let at-new = at-factorize .before .before in
       let at-if5 = at-new .before in
       let at-usable = at-if5 .before in
@@ -187,10 +197,10 @@ module _ (t : ℕ) where
       let at-if2 = at-magnitude-split .before .before in
       let at-if1 = at-if2 .before in
       let at-out-of = at-if1 .before in
-      split-up _ _ _ (at-out-of .out-of .ensures) (at-if1 .if1 .left) (at-if2 .if2 .left) _ (at-magnitude-split .magnitude-split .ensures) (not-false _ (at-if3 .if3 .left)) _ (at-large .large .ensures) _ (at-degree .degree .ensures) (at-if4 .if4 .left) _ (at-product .product .ensures) _ (at-quotient .quotient .ensures) _ (at-usable .usable .ensures) _ _ _ _ (not-false _ (at-if5 .if5 .left)) (at-new .new .ensures) (at-factorize .factorize .ensures) (exponent-read _ _ _ (at-new .new .ensures)) (c .merged .ensures)
+      c .with-discs .ensures ∙ ap rootedOf (split-up _ _ _ (the-factors (at-out-of .out-of .ensures)) (at-if1 .if1 .left) (at-if2 .if2 .left) _ (at-magnitude-split .magnitude-split .ensures) (not-false _ (at-if3 .if3 .left)) _ (at-large .large .ensures) _ (at-degree .degree .ensures) (at-if4 .if4 .left) _ (at-product .product .ensures) _ (at-quotient .quotient .ensures) _ (at-usable .usable .ensures) _ _ _ _ (not-false _ (at-if5 .if5 .left)) (at-new .new .ensures) (the-factors (at-factorize .factorize-rooted .ensures)) (exponent-read _ _ _ (at-new .new .ensures)) (at-merged .merged .ensures))
 
-pub +factorize-spec : {M : Type 1} → statement M
-+factorize-spec =
+pub +factorize-rooted-spec : {M : Type 1} → statement M
++factorize-rooted-spec =
     close μ λ t. lts.spec
     (called t)
     (given t)
@@ -210,7 +220,8 @@ pub +factorize-spec : {M : Type 1} → statement M
     (usable-requires t)
     (returns-5 t)
     (new-requires t)
-    (add-factorize t)
-    (factorize-requires t)
+    (add-factorize-rooted t)
+    (factorize-rooted-requires t)
     (merged-requires t)
+    (with-discs-requires t)
     (returns-6 t)
