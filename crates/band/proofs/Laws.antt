@@ -1,6 +1,6 @@
 -- The last way out of `within_band`, one turn of `critical_point` by what its tests found, and what a quadratic factor is by what `push_quadratic` found.
 -- Assumes nothing.
-use mathlib.Core.Path.{_≡_, sym}
+use mathlib.Core.Path.{_≡_, refl, sym}
 use mathlib.Core.Bool.{Bool, true, false}
 use mathlib.Core.List.{List}
 use mathlib.Core.Option.{none, some}
@@ -9,17 +9,20 @@ use lib.ListN.{getD}
 use lib.Ieee.{Float, nan, binary64, add, sub, mul, div, neg, lt, le}
 use Rattle.float.specs.Literals.{zero64, half64}
 use Rattle.float.specs.Methods.{absOf, powiOf}
-use Rattle.sqrt.specs.Root.{sqrtOf}
 use Rattle.horner.specs.Product.{discriminantOf}
 use Rattle.horner.specs.Taylor.{derivs12Of}
 use Rattle.horner.specs.declared.Derivs.{Derivs}
 use Rattle.refine.specs.Newton.{flatOf, noGainOf}
-use Rattle.factor.specs.Isolated.{farRootOf}
+use Rattle.factor.specs.declared.Disc.{Disc}
+use Rattle.factor.specs.Isolated.{farRootOf, discOf, farBy}
+use Rattle.factor.proofs.Laws.{far-by}
 use Rattle.scaled.specs.declared.Scaled.{Scaled}
+use Rattle.roots.specs.declared.Roots.{Roots}
+use Rattle.roots.specs.declared.Pairs.{Pairs}
 use Rattle.roots.specs.Roots.{pair}
 use Rattle.band.specs.Band.{budgetOf, noiseWithin, noiseOf, baseOf, bandOf, withinBandOf}
 use Rattle.band.specs.Critical.{isBetweenOf, criticalNext, criticalPointOf}
-use Rattle.band.specs.Quadratic.{double, apart, complex, quadraticOf}
+use Rattle.band.specs.Quadratic.{double, apart, complex, quadraticOf, quadraticBy, pushQuadraticIn, pushRootedIn}
 
 -- ---- the band: beyond the caller's, and not beyond the crude bound: the noise decides
 pub noise-decides : (poly : Scaled) (half y tol : Float) {base budget power lead noise : Float} → base ≡ baseOf (poly .unit) y tol → budget ≡ budgetOf (poly .f) (poly .d) y
@@ -52,19 +55,31 @@ module _ (f : List Float) (d : ℕ) (lo hi y : Float) {v : Derivs} (here : v ≡
       critical-moved t = simp (sym here, steep, inside, sym there, t)
 
 -- ---- what a quadratic factor is
-module _ (poly : Scaled) (al be tol : Float) {disc size root : Float} {near : Bool} (d : disc ≡ discriminantOf al be) (s : size ≡ absOf disc) (r : root ≡ sqrtOf size)
-    (w : near ≡ withinBandOf poly (mul binary64 half64 root) (mul binary64 (neg half64) al) tol) where
+module _ (poly : Scaled) (al be tol : Float) (s : Disc) {near : Bool} (w : near ≡ withinBandOf poly (mul binary64 half64 (s .root)) (mul binary64 (neg half64) al) tol) where
   abbrev mid : Float
   mid = mul binary64 (neg half64) al
 
-  pub is-double : {band y : Float} → near ≡ true → band ≡ bandOf poly mid tol → y ≡ criticalPointOf poly mid (sub binary64 mid band) (add binary64 mid band) → quadraticOf poly al be tol ≡ double y
-  unfolding quadraticOf
-  is-double within b p = simp (sym d, sym s, sym r, sym w, within, sym b, sym p)
+  pub is-double : {band y : Float} → near ≡ true → band ≡ bandOf poly mid tol → y ≡ criticalPointOf poly mid (sub binary64 mid band) (add binary64 mid band) → quadraticBy poly al be s tol ≡ double y
+  unfolding quadraticBy
+  is-double within b p = simp (sym w, within, sym b, sym p)
 
-  pub is-apart : {q : Float} → near ≡ false → lt zero64 disc ≡ true → q ≡ farRootOf al disc → quadraticOf poly al be tol ≡ apart q (div binary64 be q)
-  unfolding quadraticOf
-  is-apart beyond above q = simp (sym d, sym s, sym r, sym w, beyond, above, sym q)
+  pub is-apart : {q : Float} → near ≡ false → lt zero64 (s .disc) ≡ true → q ≡ farBy al (s .root) → quadraticBy poly al be s tol ≡ apart q (div binary64 be q)
+  unfolding quadraticBy
+  is-apart beyond above q = simp (sym w, beyond, above, sym q)
 
-  pub is-complex : near ≡ false → lt zero64 disc ≡ false → quadraticOf poly al be tol ≡ complex (pair mid (mul binary64 half64 root))
-  unfolding quadraticOf
-  is-complex beyond below = simp (sym d, sym s, sym r, sym w, beyond, below)
+  pub is-complex : near ≡ false → lt zero64 (s .disc) ≡ false → quadraticBy poly al be s tol ≡ complex (pair mid (mul binary64 half64 (s .root)))
+  unfolding quadraticBy
+  is-complex beyond below = simp (sym w, beyond, below)
+
+-- from its own discriminant it is the definition: the root of the size serves where disc is above 0 too
+same-quadratic : (poly : Scaled) (al be tol : Float) → quadraticBy poly al be (discOf al be) tol ≡ quadraticOf poly al be tol
+unfolding quadraticBy quadraticOf discOf le
+same-quadratic poly al be tol = by-sign (lt zero64 (discriminantOf al be)) refl
+  where
+    by-sign : (b : Bool) → lt zero64 (discriminantOf al be) ≡ b → quadraticBy poly al be (discOf al be) tol ≡ quadraticOf poly al be tol
+    by-sign true h = rw (h, sym (far-by al be refl (rw h refl) refl))
+    by-sign false h = rw h
+
+pub same-push : (poly : Scaled) (al be tol : Float) (out : Roots) (pairs : Pairs) {s : Disc} → s ≡ discOf al be → pushRootedIn poly al be s tol out pairs ≡ pushQuadraticIn poly al be tol out pairs
+unfolding pushRootedIn pushQuadraticIn
+same-push poly al be tol out pairs is = rw (is, same-quadratic poly al be tol)

@@ -6,7 +6,8 @@ use Rattle.float.specs.Literals.{zero64, half64}
 use Rattle.float.specs.Methods.{absOf}
 use Rattle.sqrt.specs.Root.{sqrtOf}
 use Rattle.horner.specs.Product.{discriminantOf}
-use Rattle.factor.specs.Isolated.{farRootOf}
+use Rattle.factor.specs.declared.Disc.{Disc}
+use Rattle.factor.specs.Isolated.{farRootOf, farBy}
 use Rattle.scaled.specs.declared.Scaled.{Scaled}
 use Rattle.roots.specs.declared.RealRoot.{RealRoot}
 use Rattle.roots.specs.declared.Roots.{Roots}
@@ -35,6 +36,16 @@ quadraticOf poly al be tol =
     let q = farRootOf al disc in
     cond (withinBandOf poly half mid tol) (double y) (cond (lt zero64 disc) (apart q (div binary64 be q)) (complex (pair mid half)))
 
+-- the same from a discriminant and the root of its size
+unfoldable pub quadraticBy : Scaled → Float → Float → Disc → Float → Factor
+quadraticBy poly al be s tol =
+    let mid = mul binary64 (neg half64) al in
+    let half = mul binary64 half64 (s .root) in
+    let band = bandOf poly mid tol in
+    let y = criticalPointOf poly mid (sub binary64 mid band) (add binary64 mid band) in
+    let q = farBy al (s .root) in
+    cond (withinBandOf poly half mid tol) (double y) (cond (lt zero64 (s .disc)) (apart q (div binary64 be q)) (complex (pair mid half)))
+
 -- what each adds to the candidates and the pairs found so far
 unfoldable pub pushFactor : List RealRoot × List Pair → Factor → List RealRoot × List Pair
 pushFactor (out, pairs) (double y) = (kept out (root y 2), pairs)
@@ -56,3 +67,6 @@ pushFactorIn s (complex p) = record { roots = s .roots; pairs = pairedIn (s .pai
 
 unfoldable pub pushQuadraticIn : Scaled → Float → Float → Float → Roots → Pairs → Found
 pushQuadraticIn poly al be tol out pairs = pushFactorIn (record { roots = out; pairs = pairs }) (quadraticOf poly al be tol)
+
+unfoldable pub pushRootedIn : Scaled → Float → Float → Disc → Float → Roots → Pairs → Found
+pushRootedIn poly al be s tol out pairs = pushFactorIn (record { roots = out; pairs = pairs }) (quadraticBy poly al be s tol)

@@ -4,7 +4,7 @@ ghost use mathlib.Core.Path.{_≡_};
 ghost use Prim.Native.Nat.{_≤_};
 ghost use Rattle.band.specs.Band.{magnitudeOf, budgetOf, kthRootOf, radiusStep, radiusOf, noiseWithin, noiseOf, baseOf, bandOf, withinBandOf};
 ghost use Rattle.band.specs.Critical.{isBetweenOf, criticalPointOf, extremumOf};
-ghost use Rattle.band.specs.Quadratic.{pushQuadraticIn};
+ghost use Rattle.band.specs.Quadratic.{pushQuadraticIn, pushRootedIn};
 
 const NOISE_FACTOR: f64 = 4.0;
 
@@ -198,17 +198,32 @@ pub fn push_quadratic(
     requires { ⌜ poly .d ≤ 4 ⌝ }
     ensures { λ r. ⌜ r ≡ pushQuadraticIn poly al be tol out pairs ⌝ }
 {
-    let disc = horner::discriminant(al, be);
+    push_rooted(poly, al, be, factor::disc_of(al, be), tol, out, pairs)
+}
+
+// The same, with its discriminant at hand.
+pub fn push_rooted(
+    poly: scaled::Scaled,
+    al: f64,
+    be: f64,
+    s: factor::Disc,
+    tol: f64,
+    out: roots::Roots,
+    pairs: roots::Pairs,
+) -> Found
+    requires { ⌜ poly .d ≤ 4 ⌝ }
+    ensures { λ r. ⌜ r ≡ pushRootedIn poly al be s tol out pairs ⌝ }
+{
     let mid = -0.5 * al;
-    let half = 0.5 * sqrt::sqrt(float::abs(disc));
+    let half = 0.5 * s.root;
     if within_band(poly, half, mid, tol) {
         let reach = band(poly, mid, tol);
         let y = critical_point(poly, mid, mid - reach, mid + reach);
         let roots = out.keep(y, 2);
         return Found { roots, pairs };
     }
-    if disc > 0.0 {
-        let q = factor::far_root(al, disc);
+    if s.disc > 0.0 {
+        let q = factor::far_by(al, s.root);
         let roots = out.keep(q, 1).keep(be / q, 1);
         return Found { roots, pairs };
     }
