@@ -6,14 +6,14 @@ use borrow.Author.Needs.{needs}
 use Rattle.angle.proofs.rough.Statement.{statement}
 use Rattle.angle.proofs.rough.Tie as tie
 
-float-to-bits-s : tie.Need-float-to-bits-s
-float-to-bits-s c = at-least-not-nan _ _ (c .if1 .taken)
+float-to-bits-r : tie.Need-float-to-bits-r
+float-to-bits-r c = at-least-not-nan _ _ (c .if1 .taken)
 
-add-s : tie.Need-add-s
-add-s c = search needs
+sub-r : tie.Need-sub-r
+sub-r c = search needs
 
-float-from-bits-s : tie.Need-float-from-bits-s
-float-from-bits-s c = pack-not-nan _ (omega arith)
+float-from-bits-r : tie.Need-float-from-bits-r
+float-from-bits-r c = pack-not-nan _ (omega arith)
 
 returns : tie.Need-returns
 returns c = search needs
@@ -22,4 +22,4 @@ returns-2 : tie.Need-returns-2
 returns-2 c = search needs
 
 pub rough-spec : {M : Type 1} → statement M
-rough-spec = tie.close (tie.spec float-to-bits-s add-s float-from-bits-s returns returns-2)
+rough-spec = tie.close (tie.spec float-to-bits-r sub-r float-from-bits-r returns returns-2)
