@@ -1,14 +1,18 @@
 -- Factors with their discriminants, from the factors alone. Assumes nothing.
 use mathlib.Core.Path.{_≡_, refl, sym, ap, _∙_}
 use mathlib.Core.List.{[], _∷_}
-use lib.Ieee.{Float}
+use Prim.Native.Nat.{ℕ, zero, suc, _<_, _≤_}
+use native.Mathlib.Omega.{arith}
+use borrow.Author.Tests.{lt-ltb}
+use lib.ListN.{getD}
+use lib.Ieee.{Float, nan}
 use Rattle.factor.specs.declared.QuarticFactor.{QuarticFactor}
 use Rattle.factor.specs.declared.LoneRoot.{LoneRoot}
 use Rattle.factor.specs.declared.Disc.{Disc}
 use Rattle.factor.specs.declared.Pairing.{Pairing}
 use Rattle.factor.specs.Isolated.{discOf, isolatedOf, isolatedRootOf}
 use Rattle.factors.specs.declared.Factors.{Factors}
-use Rattle.factors.specs.Factors.{noFactors, pushQuadOf}
+use Rattle.factors.specs.Factors.{noFactors, pushQuadOf, quadAt}
 use Rattle.factorize.specs.declared.Rooted.{Rooted}
 use Rattle.factorize.specs.Discs.{discAt, rootedOf}
 
@@ -34,3 +38,11 @@ pub in-two : {s : Pairing} (quads : QuarticFactor) {n m f : Factors} (g : Factor
     → f ≡ g → record { f = f; disc = s .first ∷ s .second ∷ [] } ≡ rootedOf g
 unfolding isolatedOf
 in-two quads g is N M F h = handed-on (pushQuadOf (pushQuadOf noFactors (quads .al) (quads .be)) (quads .ga) (quads .de)) (rw (is, F, M, N) (two-rooted (quads .al) (quads .be) (quads .ga) (quads .de))) h
+
+-- disc[i] is the discriminant of quad[i]
+pub disc-is : (r : Rooted) (i : ℕ) → r ≡ rootedOf (r .f) → i < r .f .nquad → r .f .nquad ≤ 2
+    → getD (r .disc) i (record { disc = nan; root = nan }) ≡ discOf (quadAt (r .f) i .al) (quadAt (r .f) i .be)
+unfolding rootedOf discAt
+disc-is r zero is h m = ap (λ (s : Rooted). getD (s .disc) 0 (record { disc = nan; root = nan })) is ∙ rw (lt-ltb 0 (r .f .nquad) h)
+disc-is r (suc zero) is h m = ap (λ (s : Rooted). getD (s .disc) 1 (record { disc = nan; root = nan })) is ∙ rw (lt-ltb 1 (r .f .nquad) h)
+disc-is r (suc (suc i)) is h m = absurd (omega arith)

@@ -6,6 +6,7 @@ ghost use lib.ListN.{length};
 ghost use Rattle.facts.specs.Count.{countUp};
 ghost use Rattle.float.specs.Methods.{allFiniteOf};
 ghost use Rattle.factorize.specs.Factorize.{factorizeOf};
+ghost use Rattle.factorize.specs.Discs.{rootedOf};
 ghost use Rattle.roots.specs.Roots.{rootsOf, listOf};
 ghost use Rattle.band.specs.Quadratic.{foundOf};
 ghost use Rattle.poly.specs.Coefficients.{trimmedOf, zerosOf, refusalBy, middleAt, middleOf};
@@ -140,18 +141,20 @@ fn with_lins(f: factors::Factors, start: roots::Roots) -> roots::Roots
 // The same of the quadratic ones, and the pairs.
 fn with_quads(
     poly: scaled::Scaled,
-    f: factors::Factors,
+    r: factorize::Rooted,
     tol: f64,
     start: band::Found,
 ) -> band::Found
-    requires { ⌜ poly .d ≤ 4 ⌝ ∗ ⌜ f .nquad ≤ 2 ⌝ }
-    ensures { λ r. ⌜ r ≡ countUp (f .nquad) (withQuadIn poly f tol) (f .nquad) start ⌝ }
+    requires { ⌜ poly .d ≤ 4 ⌝ ∗ ⌜ (r .f .nquad ≤ 2) × (r ≡ rootedOf (r .f)) ⌝ }
+    ensures { λ s. ⌜ s ≡ countUp (r .f .nquad) (withQuadIn poly (r .f) tol) (r .f .nquad) start ⌝ }
 {
+    let f = r.f;
     let mut s = start;
     let mut i = 0;
     while i < f.nquad {
         let q = f.quad[i];
-        s = band::push_quadratic(poly, q.al, q.be, tol, s.roots, s.pairs);
+        let d = r.disc[i];
+        s = band::push_rooted(poly, q.al, q.be, d, tol, s.roots, s.pairs);
         i += 1;
     }
     s
@@ -161,10 +164,10 @@ fn candidates(poly: scaled::Scaled, zeros: usize, tol: f64) -> band::Found
     requires { ⌜ poly .d ≤ 4 ⌝ ∗ ⌜ zeros ≤ 4 ⌝ }
     ensures { λ r. ⌜ r ≡ foundOf (candidatesOf poly zeros (factorizeOf poly 0) tol) ⌝ }
 {
-    let f = factorize::factorize(poly, 0);
-    let roots = with_lins(f, zero_roots(zeros));
+    let r = factorize::factorize_rooted(poly, 0);
+    let roots = with_lins(r.f, zero_roots(zeros));
     let pairs = roots::Pairs::none();
-    with_quads(poly, f, tol, band::Found { roots, pairs })
+    with_quads(poly, r, tol, band::Found { roots, pairs })
 }
 
 fn finished(poly: scaled::Scaled, zeros: usize, tol: f64) -> Solved

@@ -4,15 +4,17 @@ use Prim.Native.Nat.{_-_, _≤_}
 use borrow.Author.Needs.{needs}
 use native.Mathlib.Nat.{sub-zero}
 use Rattle.facts.specs.Count.{countUp, up-turn, up-end}
+use Rattle.band.proofs.Laws.{same-push}
+use Rattle.factorize.proofs.Discs.{disc-is}
 use Rattle.poly.specs.Found.{withQuadIn}
 use Rattle.poly.proofs.with_quads.Statement.{statement}
 use Rattle.poly.proofs.with_quads.Tie as tie
 
 abbrev Inv-loop : tie.InvT-loop
-Inv-loop poly tol f s₀ i₀ s i = (i ≤ f .nquad) × (countUp (f .nquad) (withQuadIn poly f tol) (f .nquad - i) s ≡ countUp (f .nquad) (withQuadIn poly f tol) (f .nquad) s₀)
+Inv-loop poly tol r f s₀ i₀ s i = (i ≤ r .f .nquad) × (countUp (r .f .nquad) (withQuadIn poly (r .f) tol) (r .f .nquad - i) s ≡ countUp (r .f .nquad) (withQuadIn poly (r .f) tol) (r .f .nquad) s₀)
 
 abbrev μ-loop : tie.MeasureT-loop
-μ-loop poly tol f s₀ i₀ s i = f .nquad - i
+μ-loop poly tol r f s₀ i₀ s i = r .f .nquad - i
 
 loop-holds : tie.Need-loop-holds Inv-loop μ-loop
 loop-holds c = (search needs, simp sub-zero)
@@ -23,8 +25,14 @@ mul-q c = search needs
 element-copy-out-q : tie.Need-element-copy-out-q Inv-loop μ-loop
 element-copy-out-q c = search needs
 
-push-quadratic-requires : tie.Need-push-quadratic-requires Inv-loop μ-loop
-push-quadratic-requires c κs = search needs
+mul-d : tie.Need-mul-d Inv-loop μ-loop
+mul-d c = search needs
+
+element-copy-out-d : tie.Need-element-copy-out-d Inv-loop μ-loop
+element-copy-out-d c = search needs
+
+push-rooted-requires : tie.Need-push-rooted-requires Inv-loop μ-loop
+push-rooted-requires c κs = search needs
 
 add-i : tie.Need-add-i Inv-loop μ-loop
 add-i c = search needs
@@ -33,7 +41,10 @@ loop-less : tie.Need-loop-less Inv-loop μ-loop
 loop-less c = search needs
 
 loop-again : tie.Need-loop-again Inv-loop μ-loop
-loop-again c = (search needs, rw (c .push-quadratic .ensures) (sym (up-turn _ _ _ _ (search needs)) ∙ c .before .before .before .loop .inv .1))
+loop-again c =
+    let at-test = c .before .before .before in
+    let pre = at-test .before .before .before .pre .1 in
+    (search needs, rw (c .push-rooted .ensures ∙ same-push _ _ _ _ _ _ (disc-is (at-test .before .before .before .args .t2) _ (pre .1) (at-test .loop-test .taken) (pre .0))) (sym (up-turn _ _ _ _ (search needs)) ∙ at-test .before .loop .inv .1))
 
 returns : tie.Need-returns Inv-loop μ-loop
 returns c = sym (up-end _ _ _ _ (search needs)) ∙ c .before .loop .inv .1
@@ -47,7 +58,9 @@ with-quads-spec =
     loop-holds
     mul-q
     element-copy-out-q
-    push-quadratic-requires
+    mul-d
+    element-copy-out-d
+    push-rooted-requires
     add-i
     loop-less
     loop-again
