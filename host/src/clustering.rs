@@ -173,10 +173,13 @@ impl Shown for Handed {
     }
 }
 
-/// The count, the places, their multiplicities.
+/// The count, and each place with its multiplicity.
 pub fn root_numbers(c: &Candidates) -> [f64; 9] {
-    let mult = c.mult.map(f64::from);
-    [&[c.len as f64][..], &c.value, &mult].concat().try_into().unwrap()
+    std::array::from_fn(|i| match i {
+        0 => c.len as f64,
+        _ if i % 2 == 1 => c.value[i / 2],
+        _ => f64::from(c.mult[i / 2 - 1]),
+    })
 }
 
 /// The same, and of the pairs the count, and each centre and half.

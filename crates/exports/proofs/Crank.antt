@@ -11,9 +11,9 @@ use Rattle.roots.specs.Listed.{Fits}
 use Rattle.crank.specs.declared.CrankInquiry.{CrankInquiry}
 use Rattle.crank.specs.Crank.{crankAskedOf}
 use Rattle.lent.specs.Numbers.{number}
+use Rattle.inquiry.proofs.Shown.{shown-fits}
 use Rattle.exports.specs.Lists.{rootNumbers}
 use Rattle.exports.specs.Inquiries.{shownNumbers}
-use Rattle.exports.proofs.Shown.{shown-fits}
 
 pub crank-fits : (c : CrankInquiry) → Fits (crankAskedOf c .list)
 unfolding crankAskedOf

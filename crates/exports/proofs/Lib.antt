@@ -2,5 +2,4 @@
 pub mod Listing
 pub mod Polynomials
 pub mod Feeding
-pub mod Shown
 pub mod Crank

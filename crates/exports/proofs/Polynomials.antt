@@ -1,6 +1,6 @@
 -- What the exports below the list answer, by what their tests found; and that counts and multiplicities stay within theirs.
 -- Assumes nothing.
-use mathlib.Core.Path.{_≡_, refl, sym, ap, _∙_}
+use mathlib.Core.Path.{_≡_, refl, sym, ap, subst⁻¹, _∙_}
 use mathlib.Core.Bool.{Bool, true, false, _||_, false≢true}
 use mathlib.Core.List.{List, [], _∷_}
 use Prim.Native.Nat.{ℕ, zero, suc, _^_, _≤_, _<_}
@@ -9,18 +9,19 @@ use borrow.Author.Tests.{ltb-false}
 use lib.Dec.{ltb}
 use lib.ListN.{length, take}
 use lib.Ieee.{Float}
-use Rattle.facts.specs.Cond.{if-taken, if-left, either-way}
+use Rattle.facts.specs.Cond.{if-taken, if-left}
 use Rattle.scaled.specs.declared.Scaled.{Scaled}
 use Rattle.scaled.specs.Scaled.{scaledOf}
 use Rattle.roots.specs.declared.RealRoot.{RealRoot}
 use Rattle.roots.specs.declared.Roots.{Roots}
 use Rattle.roots.specs.declared.Pairs.{Pairs}
+use Rattle.roots.specs.Roots.{rootsOf}
 use Rattle.roots.specs.Listed.{multiplicities, Fits, PairsFit}
-use Rattle.roots.proofs.Laws.{kept-fits, paired-fits}
-use Rattle.roots.proofs.Sums.{length-kept}
+use Rattle.roots.proofs.Laws.{roots-fit, kept-fits, paired-fits}
 use Rattle.band.specs.declared.Found.{Found}
 use Rattle.band.specs.Quadratic.{Factor, double, apart, complex, quadraticOf, pushFactorIn, pushQuadraticIn}
-use Rattle.finish.specs.Finish.{isNearOf, joinedFrom, joinedOf, polishedOf, orderedOf, finishOf}
+use Rattle.finish.specs.Finish.{finishOf}
+use Rattle.finish.proofs.Counts.{finish-counts}
 use Rattle.lent.specs.Bytes.{doublesBytes, fiveAt}
 use Rattle.exports.specs.Clustering.{polyOr, candidateAt, candidatesAt, pairsAt, lacksOf, polyBytes}
 
@@ -92,23 +93,12 @@ factor-fits s (double y) h k = (kept-fits _ _ h, k)
 factor-fits s (apart y z) h k = (kept-fits _ _ (kept-fits _ _ h), k)
 factor-fits s (complex p) h k = (h, paired-fits _ _ k)
 
-pub quadratic-counts : (poly : Scaled) (al be tol : Float) (c : List ℕ) (n m : ℕ) {out : Roots} {pairs : Pairs} {s : Found} → n ≤ 4 → m ≤ 2 → out ≡ candidatesAt c n → pairs ≡ pairsAt c m
-    → s ≡ pushQuadraticIn poly al be tol out pairs → (s .roots .len ≤ 4) × (s .pairs .len ≤ 2)
+pub quadratic-fits : (poly : Scaled) (al be tol : Float) (c : List ℕ) (n m : ℕ) {out : Roots} {pairs : Pairs} {s : Found} → n ≤ 4 → m ≤ 2 → out ≡ candidatesAt c n → pairs ≡ pairsAt c m
+    → s ≡ pushQuadraticIn poly al be tol out pairs → Fits (s .roots) × PairsFit (s .pairs)
 unfolding pushQuadraticIn
-quadratic-counts poly al be tol c n m h k o p e =
+quadratic-fits poly al be tol c n m h k o p e =
     let fit = factor-fits (record { roots = candidatesAt c n; pairs = pairsAt c m }) (quadraticOf poly al be tol) (candidates-fit c n h) (pairs-fit c m k) in
-    rw (e, o, p) (fit .0 .1, fit .1 .1)
+    rw (e, o, p) fit
 
-joined-counts : (poly : Scaled) (tol : Float) (l out : List RealRoot) (a : RealRoot) → length out ≤ 4 → length (joinedFrom poly tol out a l) ≤ 4
-unfolding joinedFrom
-joined-counts poly tol [] out a h = length-kept out a h
-joined-counts poly tol (b ∷ l) out a h =
-    joined-counts poly tol l _ _ (either-way (λ (m : List RealRoot). length m ≤ 4) (isNearOf poly (a .value) (b .value) tol) h (length-kept out a h))
-
-pub finish-counts : (poly : Scaled) (c : List RealRoot) (tol : Float) → length (finishOf poly c tol) ≤ 4
-unfolding finishOf joinedOf
-finish-counts poly c tol = go (polishedOf 4 poly (orderedOf c))
-  where
-    go : (l : List RealRoot) → length (joinedOf poly tol l) ≤ 4
-    go [] = omega arith
-    go (a ∷ l) = joined-counts poly tol l [] a (omega arith)
+pub finish-fits : (poly : Scaled) (c : List RealRoot) (tol : Float) {s : Roots} → s ≡ rootsOf (finishOf poly c tol) → Fits s
+finish-fits poly c tol e = subst⁻¹ Fits e (roots-fit (finishOf poly c tol) (finish-counts poly c tol))

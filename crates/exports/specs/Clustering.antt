@@ -13,7 +13,7 @@ use Rattle.roots.specs.declared.Roots.{Roots}
 use Rattle.roots.specs.declared.Pair.{Pair}
 use Rattle.roots.specs.declared.Pairs.{Pairs}
 use Rattle.roots.specs.Roots.{root, pair, listOf, rootsOf}
-use Rattle.roots.specs.Listed.{blank, blankPair}
+use Rattle.roots.specs.Listed.{blankPair}
 use Rattle.band.specs.declared.TurningPoint.{TurningPoint}
 use Rattle.band.specs.declared.TurningPoint.the-variants.{At, None}
 use Rattle.band.specs.declared.Found.{Found}
@@ -21,6 +21,7 @@ use Rattle.band.specs.Quadratic.{pushQuadraticIn}
 use Rattle.finish.specs.Finish.{finishOf}
 use Rattle.lent.specs.Bytes.{doublesBytes, fiveAt}
 use Rattle.lent.specs.Numbers.{number}
+use Rattle.exports.specs.Lists.{rootNumbers}
 
 -- f of the polynomial with five doubles as coefficients and the degree d; `other` where the doubles have fewer than 40 bytes, or the degree is above 4
 unfoldable pub polyOr : {A : Type 0} → A → (Scaled → A) → List ℕ → ℕ → A
@@ -45,15 +46,7 @@ unfoldable pub pairsAt : List ℕ → ℕ → Pairs
 pairsAt c n = record { pair = pair (f64At c 36) (f64At c 44) ∷ pair (f64At c 52) (f64At c 60) ∷ []; len = n }
 
 -- ---- handed out
--- the count, the four places, their multiplicities
-unfoldable pub rootNumbers : Roots → List Float
-rootNumbers s =
-    let at : ℕ → RealRoot = λ i. getD (s .root) i blank in
-    number (s .len)
-    ∷ at 0 .value ∷ at 1 .value ∷ at 2 .value ∷ at 3 .value
-    ∷ number (at 0 .multiplicity) ∷ number (at 1 .multiplicity) ∷ number (at 2 .multiplicity) ∷ number (at 3 .multiplicity) ∷ []
-
--- the same, and of the pairs the count, and each centre and half
+-- what is found: the roots as in a list, the number of pairs, and the centre and half of each
 unfoldable pub foundNumbers : Found → List Float
 foundNumbers s =
     let at : ℕ → Pair = λ i. getD (s .pairs .pair) i blankPair in

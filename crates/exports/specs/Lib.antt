@@ -1,5 +1,5 @@
-pub mod Clustering
-pub mod Cranks
-pub mod Inquiries
 pub mod Lists
+pub mod Clustering
+pub mod Inquiries
+pub mod Cranks
 pub mod Quadratics

@@ -9,12 +9,13 @@ ghost use lib.Seq.{sets};
 ghost use lib.Ieee.{nan};
 ghost use Rattle.scaled.specs.Scaled.{scaledOf};
 ghost use Rattle.roots.specs.Roots.{listOf};
-ghost use Rattle.roots.specs.Listed.{multiplicities};
+ghost use Rattle.roots.specs.Listed.{multiplicities, Fits, PairsFit};
 ghost use Rattle.band.specs.Band.{noiseOf, bandOf, withinBandOf};
 ghost use Rattle.band.specs.Critical.{criticalPointOf, extremumOf};
 ghost use Rattle.polish.specs.Polish.{polishOf};
 ghost use Rattle.lent.specs.Bytes.{whole, fiveAt};
-ghost use Rattle.exports.specs.Clustering.{polyOr, turningOrNan, candidateAt, lacksOf, candidatesAt, pairsAt, rootNumbers, foundNumbers, quadraticBytes, finishBytes};
+ghost use Rattle.exports.specs.Clustering.{polyOr, turningOrNan, candidateAt, lacksOf, candidatesAt, pairsAt, foundNumbers, quadraticBytes, finishBytes};
+use crate::lists::root_numbers;
 use lent::five_at;
 use lent::store;
 
@@ -164,29 +165,8 @@ fn pairs_at(c: &[u8], n: u64) -> roots::Pairs
     }
 }
 
-fn root_numbers(s: roots::Roots) -> [f64; 9]
-    requires { ⌜ s .len ≤ 4 ⌝ }
-    ensures { λ r. ⌜ r ≡ rootNumbers s ⌝ }
-{
-    let r0 = s.root[0];
-    let r1 = s.root[1];
-    let r2 = s.root[2];
-    let r3 = s.root[3];
-    [
-        s.len as f64,
-        r0.value,
-        r1.value,
-        r2.value,
-        r3.value,
-        r0.multiplicity as f64,
-        r1.multiplicity as f64,
-        r2.multiplicity as f64,
-        r3.multiplicity as f64,
-    ]
-}
-
 fn found_numbers(s: band::Found) -> [f64; 14]
-    requires { ⌜ s .roots .len ≤ 4 ⌝ ∗ ⌜ s .pairs .len ≤ 2 ⌝ }
+    requires { ⌜ Fits (s .roots) ⌝ ∗ ⌜ PairsFit (s .pairs) ⌝ }
     ensures { λ r. ⌜ r ≡ foundNumbers s ⌝ }
 {
     let x = root_numbers(s.roots);

@@ -1,4 +1,5 @@
 -- What the functions' proofs share, and what is shown of the finished roots.
 pub mod Laws
 pub mod Runs
+pub mod Counts
 pub mod Simple

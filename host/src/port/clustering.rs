@@ -79,7 +79,7 @@ pub fn polish(a: &[u8], d: u64, y: f64, gap: f64) -> f64 {
     unsafe { slices::polish(a.as_ptr(), a.len(), d, y, gap) }
 }
 
-/// On n candidates and m pairs, in c as `Handed::bytes` has them: the count, four places, four
+/// On n candidates and m pairs, in c as `Handed::bytes` has them: the count, four places with their
 /// multiplicities, the count of pairs, and each centre and half, 14 doubles, and 112. Nothing is
 /// written where c has fewer than 68 bytes, n is above 4, m above 2, or `out` shorter.
 #[allow(clippy::too_many_arguments)]
@@ -112,8 +112,9 @@ pub fn push_quadratic_bytes(
     }
 }
 
-/// Of n candidates, in the first 36 bytes of c: the count, four places, four multiplicities, 9
-/// doubles, and 72. Nothing is written where c has fewer bytes, n is above 4, or `out` is shorter.
+/// Of n candidates, in the first 36 bytes of c: the count, and four places with their
+/// multiplicities, 9 doubles, and 72. Nothing is written where c has fewer bytes, n is above 4, or
+/// `out` is shorter.
 pub fn finish_bytes(a: &[u8], d: u64, c: &[u8], n: u64, tol: f64, out: &mut [u8]) -> u64 {
     let (c_len, out_len) = (c.len(), out.len());
     // SAFETY: pointers and lengths are those of slices lent for the call, and `out` overlaps none.

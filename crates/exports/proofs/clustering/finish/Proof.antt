@@ -5,9 +5,10 @@ use Prim.Native.Nat.{_≤_}
 use Rattle.roots.specs.declared.Roots.{Roots}
 use Rattle.roots.specs.Roots.{listOf, rootsOf}
 use Rattle.finish.specs.Finish.{finishOf}
-use Rattle.exports.specs.Clustering.{candidatesAt, rootNumbers}
+use Rattle.exports.specs.Lists.{rootNumbers}
+use Rattle.exports.specs.Clustering.{candidatesAt}
 use Rattle.lent.proofs.Whole.{nothing, stored-as}
-use Rattle.exports.proofs.Polynomials.{accepted, holding, refused-bytes, lacking-bytes, held-bytes, finish-counts}
+use Rattle.exports.proofs.Polynomials.{accepted, holding, refused-bytes, lacking-bytes, held-bytes, finish-fits}
 use borrow.Author.Needs.{needs}
 use Rattle.exports.proofs.clustering.finish.Statement.{statement}
 use Rattle.exports.proofs.clustering.finish.Tie as tie
@@ -30,7 +31,7 @@ finish-requires c κs =
     (c .before .poly-at .ensures .1, (subst⁻¹ (λ (s : Roots). s .len ≤ 4) (c .candidates-at .ensures .0) (unfold candidatesAt in few), c .candidates-at .ensures .1))
 
 root-numbers-requires : tie.Need-root-numbers-requires
-root-numbers-requires c κs = subst⁻¹ (λ (s : Roots). s .len ≤ 4) (c .before .finish .ensures) (finish-counts _ _ _)
+root-numbers-requires c κs = finish-fits _ _ _ (c .before .finish .ensures)
 
 returns-3 : tie.Need-returns-3
 returns-3 c =

@@ -3,7 +3,8 @@
 use native.Mathlib.Omega.{arith}
 use lib.Ieee.{ofInt}
 use Rattle.float.proofs.Whole.{whole-exact}
-use Rattle.exports.specs.Clustering.{rootNumbers, foundNumbers}
+use Rattle.exports.specs.Lists.{rootNumbers}
+use Rattle.exports.specs.Clustering.{foundNumbers}
 use borrow.Author.Needs.{needs}
 use Rattle.exports.proofs.clustering.found_numbers.Statement.{statement}
 use Rattle.exports.proofs.clustering.found_numbers.Tie as tie

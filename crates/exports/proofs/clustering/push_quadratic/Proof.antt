@@ -4,7 +4,7 @@ use mathlib.Core.Path.{_≡_, ap, _∙_}
 use Rattle.band.specs.Quadratic.{pushQuadraticIn}
 use Rattle.exports.specs.Clustering.{candidatesAt, pairsAt, foundNumbers}
 use Rattle.lent.proofs.Whole.{nothing, stored-as}
-use Rattle.exports.proofs.Polynomials.{accepted, holding, refused-bytes, lacking-bytes, held-bytes, quadratic-counts}
+use Rattle.exports.proofs.Polynomials.{accepted, holding, refused-bytes, lacking-bytes, held-bytes, quadratic-fits}
 use borrow.Author.Needs.{needs}
 use Rattle.exports.proofs.clustering.push_quadratic.Statement.{statement}
 use Rattle.exports.proofs.clustering.push_quadratic.Tie as tie
@@ -30,7 +30,7 @@ found-numbers-requires c κs =
     let handed = pairs .before in
     let tested = handed .before .before in
     let few = holding _ _ _ _ (tested .before .lacks .ensures) (tested .if2 .left) .1 in
-    quadratic-counts _ _ _ _ _ _ _ (few .0) (few .1) (handed .candidates-at .ensures .0) (pairs .pairs-at .ensures) (c .before .push-quadratic .ensures)
+    quadratic-fits _ _ _ _ _ _ _ (few .0) (few .1) (handed .candidates-at .ensures .0) (pairs .pairs-at .ensures) (c .before .push-quadratic .ensures)
 
 returns-3 : tie.Need-returns-3
 returns-3 c =

@@ -4,8 +4,8 @@ use borrow.Author.Needs.{needs}
 use mathlib.Core.Path.{ap, subst⁻¹, _∙_}
 use Rattle.roots.specs.Listed.{Fits}
 use Rattle.inquiry.specs.declared.Asked.{Asked}
+use Rattle.inquiry.proofs.Shown.{shown-fits}
 use Rattle.exports.specs.Inquiries.{shownNumbers, inquiryNumbers}
-use Rattle.exports.proofs.Shown.{shown-fits}
 use Rattle.exports.proofs.inquiries.inquiry_numbers.Statement.{statement}
 use Rattle.exports.proofs.inquiries.inquiry_numbers.Tie as tie
 

@@ -1,6 +1,5 @@
 -- `layers::leaves::leaf_log2_five` meets its contract: 40 bytes are stored, or none.
 -- Assumes nothing.
-use native.Mathlib.Omega.{arith}
 use borrow.Author.Tests.{lt-ltb, le-ltb}
 use mathlib.Core.Path.{_≡_}
 use mathlib.Core.List.{List, []}

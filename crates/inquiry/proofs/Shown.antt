@@ -1,11 +1,10 @@
--- The list that an inquiry shows has at most four roots, whatever the inquiry is.
--- Assumes nothing.
+-- The list that an inquiry shows has at most four roots, whatever the inquiry is. Assumes nothing.
 use mathlib.Core.Path.{_≡_, refl}
 use mathlib.Core.Bool.{Bool, true, false, cond}
-use mathlib.Core.List.{List, [], _∷_}
-use Prim.Native.Nat.{ℕ, zero, suc, _+_, _-_, _*_, _≤_, _<_}
+use mathlib.Core.List.{List}
+use Prim.Native.Nat.{ℕ, _+_, _-_, _*_, _≤_, _<_}
 use native.Mathlib.Omega.{arith}
-use lib.ListN.{length, take}
+use lib.ListN.{length, length-take}
 use Rattle.roots.specs.declared.RealRoot.{RealRoot}
 use Rattle.roots.specs.Roots.{listOf, pairListOf}
 use Rattle.roots.specs.Listed.{multiplicities, Fits}
@@ -14,15 +13,10 @@ use Rattle.roots.proofs.Sums.{counted, length-counted}
 use Rattle.asking.specs.Asking.{Stage, asks, ended, walked}
 use Rattle.asking.specs.Within.{AtStage}
 use Rattle.asking.proofs.Within.{walked-within}
 use Rattle.inquiry.specs.declared.Inquiry.{Inquiry}
 use Rattle.inquiry.specs.Inquiry.{repliesOf, soundOf, asking, shown, nothing, askedOf}
 use Rattle.inquiry.proofs.Sound.{sound-is}
 use Rattle.inquiry.proofs.Bound.{ListedIn, touching-within}
-
-take-most : {A : Type 0} (n : ℕ) (l : List A) → length (take n l) ≤ n
-take-most zero l = omega arith
-take-most (suc n) [] = omega arith
-take-most (suc n) (x ∷ l) = let h = take-most n l in omega arith
 
 stage-fits : (d : ℕ) (X : Type 0) (s : Stage (List RealRoot)) → d ≤ 4 → AtStage X (ListedIn d) s → Fits (shown s .list)
 unfolding shown
@@ -44,6 +38,6 @@ shown-fits q = go (soundOf q) refl
         let most = (length roots + 2 * length pairs) - 1 in
         let d = multiplicities roots + 2 * length pairs in
         let total = sound-is q e .total in
-        let few = take-most (q .pairs .len) (q .pairs .pair) in
+        let few = length-take (q .pairs .len) (q .pairs .pair) in
         stage-fits d (length rs < most) (walked rs (asking q)) (omega arith)
         (walked-within (ListedIn d) rs most (asking q) (touching-within (q .poly) (q .tol) roots pairs))
