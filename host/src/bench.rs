@@ -1,4 +1,5 @@
 //! What a call of each proved function costs, beside Rust's own and geomcore's.
+use crate::people::progress::Progress;
 use crate::port;
 use crate::random::Random;
 use crate::reference;
@@ -368,8 +369,13 @@ pub fn run() {
     let parts = [
         roots, angles, logarithms, scales, factors, lists, inquiries, quadratics, cranks,
         full_files,
-    ]
-    .map(|part| part(&mut r));
+    ];
+    let mut progress = Progress::new("measurements", parts.len());
+    let parts = parts.map(|part| {
+        let rows = part(&mut r);
+        progress.step();
+        rows
+    });
     println!("ns a value, best of {PASSES} passes over {VALUES} values, both in turns");
     println!(
         "{:20}{:>8}   {:18}{:>8}{:>8}   at most",

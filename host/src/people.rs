@@ -15,8 +15,8 @@ hall make < TEXT > FILE   write a hall file from lines of text, one record each:
                             list TOL c0 c1 ..   quad CONFUSION ANGULAR a b c
                             crank CONFUSION a2 b2 c1 d1 e   and # starts a comment.
                           A number is a decimal (the nearest double), 2^-30, inf, -inf,
-                          nan, or 0x3FF0000000000000 (bits). An error names line and word,
-                          and then nothing is written
+                          nan, or 0x3FF0000000000000 (bits, always behind 0x). An error
+                          names line and word, and then nothing is written
 hall show [FILE]          list a hall file, or standard input, by the proved lister, as a
                           table: places as decimals and bits, crank roots also in degrees
                           (k * 45 + 2 atan u), refusals in words with the byte of their

@@ -155,7 +155,10 @@ pub fn refusal(bytes: &[u8], item: &Item, number: u8) -> String {
         (3, _) => "the degree is above 4".to_string(),
         (5, Some(Kind::Crank)) => "a coefficient of the quartic in u is not finite".to_string(),
         (5, _) => "a place of the answer is not finite".to_string(),
-        (6, _) => format!("byte {at}: unknown mark `{}`", rest[..2.min(rest.len())].escape_ascii()),
+        (6, _) => {
+            let mark = rest[..2.min(rest.len())].escape_ascii();
+            format!("byte {at}: unknown mark `{mark}`{}", text_hint(bytes))
+        }
         (7, None) => format!("byte {at}: the file ends inside a mark"),
         (7, Some(kind)) => format!(
             "byte {at}: the file ends inside this {}, {} bytes of it are there{}",
@@ -169,6 +172,15 @@ pub fn refusal(bytes: &[u8], item: &Item, number: u8) -> String {
         }
         (9, _) => format!("the file has {} bytes, more than 65,536", bytes.len()),
         (n, _) => format!("no refusal has the number {n}"),
+    }
+}
+
+/// A hint where a file begins like lines of text.
+fn text_hint(bytes: &[u8]) -> &'static str {
+    let of_text = |word: &str| bytes.starts_with(format!("{word} ").as_bytes());
+    match bytes.starts_with(b"#") || Kind::ALL.iter().any(|kind| of_text(kind.word())) {
+        true => "; for lines of text, `hall make` makes a hall file",
+        false => "",
     }
 }
 
@@ -196,6 +208,9 @@ mod tests {
         let with = |tail: &[u8]| said(&[&empty[..], tail].concat());
         assert_eq!(with(b"XX"), ["byte 11: unknown mark `XX`"]);
         assert_eq!(with(b"\xFF\nab"), ["byte 11: unknown mark `\\xff\\n`"]);
+        let hint = "; for lines of text, `hall make` makes a hall file";
+        assert_eq!(said(b"list 1 2"), [format!("byte 0: unknown mark `li`{hint}")]);
+        assert_eq!(said(b"listen"), ["byte 0: unknown mark `li`"]);
         assert_eq!(with(b"P"), ["byte 11: the file ends inside a mark"]);
         assert_eq!(
             with(b"PL"),

@@ -98,6 +98,21 @@ fn refuse(words: &[&str]) -> ExitCode {
             eprintln!("hall: a word is missing after `{}`", [&["hall"], words].concat().join(" "))
         }
     }
-    eprint!("{}{HELP}", people::HELP);
+    let own = of_command(words.first().unwrap_or(&""));
+    eprintln!("{own}`hall --help` has every command");
     ExitCode::from(2)
+}
+
+/// The help on one command; nothing where there is no such command.
+fn of_command(name: &str) -> String {
+    let (mut own, mut text) = (false, String::new());
+    for line in people::HELP.lines().chain(HELP.lines()) {
+        if let Some(command) = line.strip_prefix("hall ") {
+            own = command.split(' ').next() == Some(name);
+        }
+        if own {
+            text += &format!("{line}\n");
+        }
+    }
+    text
 }
