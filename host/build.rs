@@ -1,10 +1,18 @@
 //! Links the proved archives, and writes geomcore's Rust to OUT_DIR twice: `untouched`, and
 //! `patched`, the reference build of document 01. EXPORTS names another folder for the archives,
-//! GEOMCORE another one for geomcore.
+//! GEOMCORE another one for geomcore. Features write more copies: `coverage` the reference build
+//! with a counter at each branch, `mutants` one for each mistake, `causes` one for each leaf put
+//! back.
+#[path = "build/branches.rs"]
+mod branches;
+#[path = "build/causes.rs"]
+mod causes;
+#[path = "build/mutants/mod.rs"]
+mod mutants;
 #[path = "build/patches.rs"]
 mod patches;
 
-use patches::{COUNTED, CUT, FILES, LIST_STARTS, LIST_USES, OPENED, PUT_IN, Patch};
+use patches::{COUNTED, CUT, FILES, LIST_STARTS, LIST_USES, OPENED, PUT_IN, Patch, Variant};
 use std::path::{Path, PathBuf};
 use std::{env, fs};
 
@@ -62,24 +70,76 @@ fn geomcore(here: &Path) -> Result<PathBuf, String> {
 
 fn write_rust(folder: &Path, out: &Path) {
     let mut modules = String::new();
-    let untouched = [OPENED, CUT];
-    let reference = [OPENED, CUT, PUT_IN, COUNTED];
-    for (tree, lists) in [("untouched", &untouched[..]), ("patched", &reference)] {
-        fs::create_dir_all(out.join(tree)).unwrap();
-        modules += &format!("#[allow(clippy::all)]\npub mod {tree} {{\n");
-        for (file, copy) in FILES {
-            let source = folder.join(file);
-            println!("cargo::rerun-if-changed={}", source.display());
-            let text = source_text(&source, copy);
-            let text = patched(text, copy, lists);
-            let path = out.join(tree).join(copy);
-            fs::write(&path, text).unwrap();
-            let name = copy.trim_end_matches(".rs");
-            modules += &format!("    #[path = {path:?}]\n    pub mod {name};\n");
+    let reference = [OPENED, CUT, PUT_IN];
+    modules +=
+        &write_tree(folder, out, "untouched", |text, copy| patched(text, copy, &[OPENED, CUT]));
+    modules += &write_tree(folder, out, "patched", |text, copy| {
+        patched(text, copy, &[OPENED, CUT, PUT_IN, COUNTED])
+    });
+    if chosen("COVERAGE") {
+        let mut all = Vec::new();
+        modules += &write_tree(folder, out, "covered", |text, copy| {
+            let text = in_place(text, copy, &reference);
+            match copy {
+                "solve.rs" => branches::counted(copy, &text, Some("solve_square"), &mut all),
+                "poly.rs" | "equation.rs" => branches::counted(copy, &text, None, &mut all),
+                _ => text,
+            }
+        });
+        fs::write(out.join("branches.rs"), branches::table(&all)).unwrap();
+    }
+    for (feature, variants) in [("MUTANTS", mutants::all()), ("CAUSES", causes::CAUSES.to_vec())] {
+        if chosen(feature) {
+            modules += &write_variants(folder, out, &feature.to_lowercase(), &variants);
         }
-        modules += "    pub use list::InlineList;\n    pub use tolerance::Tolerance;\n}\n";
     }
     fs::write(out.join("modules.rs"), modules).unwrap();
+}
+
+fn chosen(feature: &str) -> bool {
+    env::var_os(format!("CARGO_FEATURE_{feature}")).is_some()
+}
+
+/// A copy of the reference build for each variant, and their names and trees in NAME.rs.
+fn write_variants(folder: &Path, out: &Path, name: &str, variants: &[Variant]) -> String {
+    let mut modules = String::new();
+    let mut list = String::new();
+    for (n, (title, what, patches)) in variants.iter().enumerate() {
+        let tree = format!("{name}_{n}");
+        modules += &write_tree(folder, out, &tree, |text, copy| {
+            patched(text, copy, &[OPENED, CUT, PUT_IN, patches])
+        });
+        let file = patches[0].0;
+        list += &format!("    ({title:?}, {what:?}, {file:?}, crate::trees::tree!({tree})),\n");
+    }
+    let count = variants.len();
+    let head = "(&str, &str, &str, crate::trees::Tree)";
+    let list = format!("pub const ALL: [{head}; {count}] = [\n{list}];\n");
+    fs::write(out.join(format!("{name}.rs")), list).unwrap();
+    modules
+}
+
+/// One copy of geomcore's files, each as `change` makes it, and its module.
+fn write_tree(
+    folder: &Path,
+    out: &Path,
+    tree: &str,
+    mut change: impl FnMut(String, &'static str) -> String,
+) -> String {
+    fs::create_dir_all(out.join(tree)).unwrap();
+    // a mistake may leave a name unused
+    let allowed = if tree.starts_with("mutants") { "warnings" } else { "clippy::all" };
+    let mut modules = format!("#[allow({allowed})]\npub mod {tree} {{\n");
+    for (file, copy) in FILES {
+        let source = folder.join(file);
+        println!("cargo::rerun-if-changed={}", source.display());
+        let text = change(source_text(&source, copy), copy);
+        let path = out.join(tree).join(copy);
+        fs::write(&path, text).unwrap();
+        let name = copy.trim_end_matches(".rs");
+        modules += &format!("    #[path = {path:?}]\n    pub mod {name};\n");
+    }
+    modules + "    pub use list::InlineList;\n    pub use tolerance::Tolerance;\n}\n"
 }
 
 /// A file of geomcore without its tests; of the one with `InlineList`, that alone.
@@ -95,12 +155,27 @@ fn source_text(source: &Path, copy: &str) -> String {
 }
 
 fn patched(mut text: String, copy: &str, lists: &[&[Patch]]) -> String {
+    for patch in lists.iter().copied().flatten() {
+        text = changed(text, copy, patch);
+    }
+    text
+}
+
+fn changed(text: String, copy: &str, &(file, old, new, times): &Patch) -> String {
+    if file != copy {
+        return text;
+    }
+    let found = text.matches(old).count();
+    assert!(found == times, "{file}: `{old}` stands there {found} times, not {times}");
+    text.replace(old, new)
+}
+
+/// The same with empty lines where a patch takes lines away, so that lines keep their numbers.
+fn in_place(mut text: String, copy: &str, lists: &[&[Patch]]) -> String {
     for &(file, old, new, times) in lists.iter().copied().flatten() {
-        if file == copy {
-            let found = text.matches(old).count();
-            assert!(found == times, "{file}: `{old}` stands there {found} times, not {times}");
-            text = text.replace(old, new);
-        }
+        let lines = |text: &str| text.matches('\n').count();
+        let new = format!("{new}{}", "\n".repeat(lines(old).saturating_sub(lines(new))));
+        text = changed(text, copy, &(file, old, &new, times));
     }
     text
 }

@@ -1,6 +1,9 @@
 //! What is changed in the copies of geomcore's files: (file, old text, new text, how often the old
 //! text must stand there).
-pub type Patch = (&'static str, &'static str, &'static str, usize);
+pub type Patch<'a> = (&'a str, &'a str, &'a str, usize);
+
+/// A copy that differs from the reference build: its name, what differs in a sentence, and how.
+pub type Variant = (&'static str, &'static str, &'static [Patch<'static>]);
 
 /// geomcore's files, and the names of their copies.
 pub const FILES: [(&str, &str); 5] = [

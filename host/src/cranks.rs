@@ -32,7 +32,7 @@ pub struct Crank(pub [f64; 5], pub f64);
 
 impl Crank {
     /// k and the list, with the number of the refusal by document 01.
-    fn answer(
+    pub fn answer(
         &self,
         k: usize,
         quartic: &[f64; 5],
@@ -87,16 +87,21 @@ fn grazing(r: &mut Random) -> [f64; 5] {
     [a2, b2, c1, d1, e + off]
 }
 
+/// A made equation, of the kinds in turn.
+pub fn terms(r: &mut Random, n: u64) -> [f64; 5] {
+    match (n % KINDS.len() as u64) as usize {
+        OF_POLYNOMIALS => grazing(r),
+        which => crank(r, which),
+    }
+}
+
 /// `count` made equations, the kinds in turn.
 pub fn made(seed: u64, count: u64) -> Outcome {
     let mut r = Random::new(seed);
     let before = met::counts();
     let mut outcome = Outcome::new("cranks", &CASES);
     for n in 0..count {
-        let terms = match (n % KINDS.len() as u64) as usize {
-            OF_POLYNOMIALS => grazing(&mut r),
-            which => crank(&mut r, which),
-        };
+        let terms = terms(&mut r, n);
         add(&mut outcome, &Crank(terms, tolerance(&mut r)), n % MORE == 0);
     }
     outcome.ways = met::since(&before);

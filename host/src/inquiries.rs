@@ -10,7 +10,7 @@ use crate::parts;
 use crate::port::inquiries::{Shown, inquire};
 use crate::random::Random;
 use crate::reference::{patched, untouched};
-use crate::roots::shown;
+use crate::roots::{shown, tolerance_for};
 use std::cell::RefCell;
 
 pub type Touches<'a> = &'a dyn Fn(f64) -> bool;
@@ -32,7 +32,7 @@ pub trait Inquiry {
 }
 
 /// A run, with the places asked about.
-fn recorded(run: impl FnOnce(Touches) -> (u64, Answer), touches: Touches) -> Ran {
+pub fn recorded(run: impl FnOnce(Touches) -> (u64, Answer), touches: Touches) -> Ran {
     let places = RefCell::new(Vec::new());
     let (k, list) = run(&|x| {
         places.borrow_mut().push(x);
@@ -157,7 +157,8 @@ pub fn add(outcome: &mut Outcome, inquiry: &impl Inquiry, more: bool) {
     }
 }
 
-fn same_places(a: &[f64], b: &[f64]) -> bool {
+/// Bit for bit.
+pub fn same_places(a: &[f64], b: &[f64]) -> bool {
     a.iter().map(|x| x.to_bits()).eq(b.iter().map(|x| x.to_bits()))
 }
 
@@ -235,7 +236,8 @@ pub fn made(seed: u64, count: u64) -> Outcome {
     let mut outcome = Outcome::new("inquiries", &CASES);
     for n in 0..count {
         handed_in(&mut r, (n % KINDS.len() as u64) as usize, n, &mut list);
-        add(&mut outcome, &List(&list, tolerance(&mut r)), n % MORE == 0);
+        let tol = tolerance_for(&mut r, &list);
+        add(&mut outcome, &List(&list, tol), n % MORE == 0);
     }
     outcome.ways = met::since(&before);
     outcome

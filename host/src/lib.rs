@@ -9,9 +9,13 @@ compile_error!("the reference build has no fma: compile for a target without it"
 pub mod answer;
 pub mod bench;
 pub mod big;
+#[cfg(all(geomcore, feature = "causes"))]
+pub mod causes;
 #[cfg(geomcore)]
 pub mod clustering;
 pub mod compare;
+#[cfg(all(geomcore, feature = "coverage"))]
+pub mod coverage;
 #[cfg(geomcore)]
 pub mod cranks;
 #[cfg(geomcore)]
@@ -30,10 +34,14 @@ pub mod lister;
 pub mod lists;
 pub mod met;
 pub mod methods;
+#[cfg(all(geomcore, feature = "mutants"))]
+pub mod mutants;
 pub mod outcome;
 #[cfg(geomcore)]
 pub mod parts;
 pub mod people;
+#[cfg(geomcore)]
+pub mod pieces;
 pub mod plain;
 pub mod polynomials;
 pub mod port;
@@ -43,7 +51,12 @@ pub mod reference;
 #[cfg(geomcore)]
 pub mod roots;
 pub mod show;
+#[cfg(geomcore)]
+pub mod solved;
 pub mod stored;
 #[cfg(geomcore)]
 pub mod stored_files;
 pub mod tally;
+pub mod telling;
+#[cfg(geomcore)]
+pub mod trees;

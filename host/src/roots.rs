@@ -108,6 +108,28 @@ pub fn shown(coeffs: &[f64], tol: f64) -> String {
     format!("{:016X}: {}", tol.to_bits(), list.join(" "))
 }
 
+/// One tolerance of so many is an edge.
+const EDGES: u64 = 128;
+
+/// A tolerance for this list: by chance, or now and then the last double before the answer changes,
+/// or the first at which it does, where band and noise radius decide by their last digits.
+pub fn tolerance_for(r: &mut Random, coeffs: &[f64]) -> f64 {
+    if r.below(EDGES) > 0 {
+        return tolerance(r);
+    }
+    let at = |bits: u64| port::real_roots(coeffs, f64::from_bits(bits));
+    let most = [f64::MAX, 16.0, 1.0, 1e-6][r.below(4) as usize];
+    let (mut below, mut above, first) = (0, most.to_bits(), at(0));
+    while above - below > 1 {
+        let middle = below + (above - below) / 2;
+        match at(middle).same(&first) {
+            true => below = middle,
+            false => above = middle,
+        }
+    }
+    f64::from_bits([below, above][r.below(2) as usize])
+}
+
 /// `count` made lists, the kinds in turn.
 pub fn made(seed: u64, count: u64) -> Outcome {
     let (mut r, mut list) = (Random::new(seed), Vec::new());
@@ -115,7 +137,8 @@ pub fn made(seed: u64, count: u64) -> Outcome {
     let mut outcome = Outcome::new("lists", &CASES);
     for n in 0..count {
         handed_in(&mut r, (n % KINDS.len() as u64) as usize, n, &mut list);
-        add(&mut outcome, &list, tolerance(&mut r));
+        let tol = tolerance_for(&mut r, &list);
+        add(&mut outcome, &list, tol);
     }
     outcome.ways = met::since(&before);
     outcome

@@ -6,54 +6,11 @@ use host::polynomials::every_kind;
 use host::port::quadratics::{self as port, Solution};
 use host::quadratics::{Quadratic, TOL, crank, quadratic, solution};
 use host::random::Random;
-use host::reference::patched::Tolerance;
-use host::reference::patched::equation::{self, QuadraticSolution};
+use host::reference::patched::{Tolerance, equation};
+use host::solved::refusing;
+use host::trees::REFERENCE;
 
 const EACH: usize = 340_000;
-
-fn tolerance([confusion, angular]: [f64; 2]) -> Tolerance {
-    Tolerance { confusion, angular, parametric: 0.0 }
-}
-
-/// The Rust's answer as the port gives it.
-fn told(s: QuadraticSolution) -> Solution {
-    match s {
-        QuadraticSolution::Two(x, y) => (0, [x, y]),
-        QuadraticSolution::One(x) => (1, [x, f64::NAN]),
-        QuadraticSolution::Linear(x) => (2, [x, f64::NAN]),
-        QuadraticSolution::Degenerate => (3, [f64::NAN; 2]),
-        QuadraticSolution::Empty => (4, [f64::NAN; 2]),
-    }
-}
-
-/// The answer that the port is handed.
-fn handed((n, [x, y]): Solution) -> QuadraticSolution {
-    match n {
-        0 => QuadraticSolution::Two(x, y),
-        1 => QuadraticSolution::One(x),
-        2 => QuadraticSolution::Linear(x),
-        3 => QuadraticSolution::Degenerate,
-        _ => QuadraticSolution::Empty,
-    }
-}
-
-fn rust([a, b, c]: [f64; 3], tol: [f64; 2]) -> Solution {
-    told(equation::solve_quadratic(a, b, c, tolerance(tol)))
-}
-
-/// What document 01 makes of the Rust's answer.
-fn refusing(abc: [f64; 3], tol: [f64; 2]) -> (u32, Solution) {
-    let empty = told(QuadraticSolution::Empty);
-    if abc.iter().any(|x| !x.is_finite()) {
-        return (1, empty);
-    }
-    let (n, places) = rust(abc, tol);
-    let count = [2, 1, 1, 0, 0][n as usize];
-    match places[..count].iter().all(|x| x.is_finite()) {
-        true => (0, (n, places)),
-        false => (5, empty),
-    }
-}
 
 /// How many inputs there are of each answer that has a word.
 fn tally(name: &str, words: &[&str], of: impl Iterator<Item = usize>) {
@@ -76,20 +33,20 @@ fn solved() {
         501,
         &kinds,
         |(q, t)| port::solve_quadratic(q, t),
-        |(q, t)| rust(q, t),
+        |(q, t)| (REFERENCE.quadratic)(q, t),
     );
     let words = ["two", "one", "linear", "degenerate", "empty"];
-    tally("solve_quadratic", &words, all(&kinds).map(|(q, t)| rust(q, t).0 as usize));
-    compare("quadratic", 501, &kinds, |(q, t)| port::quadratic(q, t), |(q, t)| refusing(q, t));
+    tally("solve_quadratic", &words, all(&kinds).map(|(q, t)| (REFERENCE.quadratic)(q, t).0 as usize));
+    compare("quadratic", 501, &kinds, |(q, t)| port::quadratic(q, t), |(q, t)| refusing(&REFERENCE, q, t));
     let words = ["answered", "refused 1", "", "", "", "refused 5"];
-    tally("quadratic", &words, all(&kinds).map(|(q, t)| refusing(q, t).0 as usize));
+    tally("quadratic", &words, all(&kinds).map(|(q, t)| refusing(&REFERENCE, q, t).0 as usize));
 }
 
 #[test]
 fn centred() {
     let kinds: Vec<Kind<Quadratic>> = every_kind(&mut Random::new(502), EACH, quadratic);
     let port = |([a, b, _], [_, angular]): Quadratic| port::quadratic_centre(a, b, angular);
-    let rust = |([a, b, _], tol): Quadratic| equation::quadratic_centre(a, b, tolerance(tol));
+    let rust = |([a, b, _], tol): Quadratic| (REFERENCE.centre)(a, b, tol[1]);
     compare("quadratic_centre", 502, &kinds, port, rust);
     say(&format!("quadratic_centre: {} not 0", all(&kinds).filter(|&x| rust(x) != 0.0).count()));
 }
@@ -98,11 +55,11 @@ fn centred() {
 fn shifted_and_touching() {
     let mut r = Random::new(503);
     let kinds = [kind("of any doubles", (0..9 * EACH).map(|_| solution(&mut r)).collect())];
-    let rust = |(s, t0): (Solution, f64)| told(handed(s).shifted(t0));
+    let rust = |(s, t0): (Solution, f64)| (REFERENCE.shifted)(s, t0);
     compare("shifted", 503, &kinds, |(s, t0)| port::shifted(s, t0), rust);
     for reply in [false, true] {
         let port = |(s, vertex)| port::touching_at(s, vertex, reply);
-        let rust = |(s, vertex): (Solution, f64)| told(handed(s).touching_at(vertex, |_| reply));
+        let rust = |(s, vertex): (Solution, f64)| (REFERENCE.touching_at)(s, vertex, reply);
         compare(&format!("touching_at, reply {reply}"), 503, &kinds, port, rust);
     }
 }
@@ -112,7 +69,8 @@ fn trig([a2, b2, c1, d1, e]: [f64; 5]) -> (u32, (u64, [f64; 5])) {
     if [a2, b2, c1, d1, e].iter().any(|x| !x.is_finite()) {
         return (1, (0, [0.0; 5]));
     }
-    let (k, q, _) = equation::solve_trig(a2, b2, c1, d1, e, tolerance([TOL; 2]), |_| false);
+    let tol = Tolerance { confusion: TOL, angular: TOL, parametric: 0.0 };
+    let (k, q, _) = equation::solve_trig(a2, b2, c1, d1, e, tol, |_| false);
     match q.iter().all(|x| x.is_finite()) {
         true => (0, (k as u64, q)),
         false => (5, (0, [0.0; 5])),

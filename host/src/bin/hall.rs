@@ -8,12 +8,34 @@ hall bench                how long a call of each proved function takes, beside 
 hall lists COUNT SEED     compare COUNT made lists with geomcore's Rust, on two threads
 hall inquiries COUNT SEED the same for inquiries: always no, always yes, and by a hash
 hall cranks COUNT SEED    the same for crank equations
+hall quadratics COUNT SEED
+                          the same for quadratics, their centres, shifted and touching ones
 hall files COUNT SEED     the same for whole hall files, every other one damaged
 hall damage MINUTES SEED  damage stored and made files, those again that met something new
+hall coverage COUNT SEED  how often each branch of the reference build was taken, COUNT inputs of
+                          each sort; with the feature `coverage`
+hall mutants COUNT SEED   after how many made inputs the comparison notices each mistake in a copy of
+                          the reference build; with the feature `mutants`. Status 1 where one of
+                          them is not noticed
+hall causes COUNT SEED    which leaf makes the untouched Rust depart, over COUNT made lists; with the
+                          feature `causes`
 hall stored leaves DIR    write inputs of the leaves to DIR/data/leaves, and the exact
                           answers to DIR/stdout: what the crate leafcases reads and prints
 hall --help               this page
 ";
+
+/// The long runs, and what their first number says.
+const RUNS: [(&str, &str); 9] = [
+    ("lists", "COUNT"),
+    ("inquiries", "COUNT"),
+    ("cranks", "COUNT"),
+    ("files", "COUNT"),
+    ("damage", "MINUTES"),
+    ("quadratics", "COUNT"),
+    ("coverage", "COUNT"),
+    ("mutants", "COUNT"),
+    ("causes", "COUNT"),
+];
 
 fn main() -> ExitCode {
     let words: Vec<String> = std::env::args().skip(1).collect();
@@ -21,7 +43,7 @@ fn main() -> ExitCode {
     match words[..] {
         ["--help" | "-h" | "help"] => print!("{}{HELP}", people::HELP),
         ["bench"] => bench::run(),
-        [what @ ("lists" | "inquiries" | "cranks" | "files" | "damage"), count, seed] => {
+        [what, count, seed] if RUNS.iter().any(|run| run.0 == what) => {
             return compare(what, count, seed);
         }
         ["stored", "leaves", dir] => return store_leaves(Path::new(dir)),
@@ -50,7 +72,28 @@ fn long_run(what: &str, count: u64, seed: u64) -> bool {
         "inquiries" => host::inquiries::run(count, seed),
         "files" => host::files::run(count, seed),
         "damage" => host::files::damaged::run(count, seed),
-        _ => host::cranks::run(count, seed),
+        "cranks" => host::cranks::run(count, seed),
+        "quadratics" => host::solved::run(count, seed),
+        _ => with_feature(what, count, seed),
+    }
+}
+
+/// A command that a feature of the build brings; false without it.
+#[cfg(geomcore)]
+fn with_feature(what: &str, count: u64, seed: u64) -> bool {
+    match what {
+        #[cfg(feature = "coverage")]
+        "coverage" => host::coverage::run(count, seed),
+        #[cfg(feature = "mutants")]
+        "mutants" => host::mutants::run(count, seed),
+        #[cfg(feature = "causes")]
+        "causes" => host::causes::run(count, seed),
+        _ => {
+            eprintln!(
+                "hall: `{what}` needs a build with `--features {what}`; not run with {count} {seed}"
+            );
+            false
+        }
     }
 }
 
@@ -81,16 +124,9 @@ fn refuse(words: &[&str]) -> ExitCode {
         };
         words.iter().zip(form).take_while(same).count()
     };
-    let forms: [&[&str]; 7] = [
-        &["bench"],
-        &["lists", "COUNT", "SEED"],
-        &["inquiries", "COUNT", "SEED"],
-        &["cranks", "COUNT", "SEED"],
-        &["files", "COUNT", "SEED"],
-        &["damage", "MINUTES", "SEED"],
-        &["stored", "leaves", "DIR"],
-    ];
-    let forms = forms.into_iter().chain(people::FORMS);
+    let runs = RUNS.map(|(run, number)| [run, number, "SEED"]);
+    let forms: [&[&str]; 2] = [&["bench"], &["stored", "leaves", "DIR"]];
+    let forms = forms.into_iter().chain(runs.iter().map(|run| &run[..])).chain(people::FORMS);
     let understood = forms.map(fits).max().unwrap_or(0);
     match words.get(understood) {
         Some(word) => eprintln!("hall: unknown word `{word}`"),
