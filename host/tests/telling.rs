@@ -1,0 +1,20 @@
+//! Stored lists by the port against the reference build, under all three closures.
+#![cfg(geomcore)]
+use host::inquiries::{List, add, cases};
+use host::outcome::Outcome;
+use host::port;
+use host::roots::reference;
+use host::telling::{LISTS, Telling};
+
+#[test]
+fn stored_lists() {
+    let mut outcome = Outcome::new("stored lists", &cases("refused 3"));
+    for Telling { name, tol, numbers } in LISTS {
+        let a: Vec<f64> = numbers.iter().copied().map(f64::from_bits).collect();
+        let tol = f64::from_bits(*tol);
+        let (given, wanted) = (port::real_roots(&a, tol), reference(&a, tol));
+        assert!(given.same(&wanted), "{name}: port {}, reference {}", given.text(), wanted.text());
+        add(&mut outcome, &List(&a, tol), true);
+    }
+    assert!(outcome.wrong == 0, "{}", outcome.shown.join("\n"));
+}
