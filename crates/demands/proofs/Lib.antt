@@ -4,5 +4,7 @@ pub mod Scale
 pub mod Roots
 pub mod Cosine
 pub mod Digits
+pub mod Unfolded
 pub mod Entries
+pub mod Example
 pub mod Proved

@@ -35,6 +35,8 @@ use Rattle.demands.proofs.Roots.{square-nearest, cube-nearest, rest-nea
 use Rattle.demands.proofs.Cosine.{cosine, cosine-range, sin-is}
 use Rattle.demands.proofs.Digits.{exponent-between, grid-between, grid-ratio}
 use Rattle.demands.proofs.Scale.{scale}
+use Rattle.hall.proofs.Bound.{listing-fits}
+use Rattle.demands.proofs.Example.{example, empty, too-long}
 use Rattle.demands.proofs.Entries.{given, stated, all-rows, agree}
 
 square-root : SquareRoot
@@ -123,4 +125,5 @@ demands = record {
   polishing = record { run = polishing };
   simple-roots = simple-roots;
   entries = record { every = λ tol. agree given stated (table tol) (all-rows tol) };
+  hall-file = record { example = example; empty = empty; too-long = too-long; room = listing-fits };
 }

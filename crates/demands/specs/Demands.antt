@@ -3,7 +3,7 @@
 use mathlib.Core.Path.{_≡_}
 use mathlib.Core.Logic.{_⊎_}
 use mathlib.Core.Bool.{Bool, true, false, cond}
-use mathlib.Core.List.{List, List·Memᴰ}
+use mathlib.Core.List.{List, [], List·Memᴰ}
 use Prim.Native.Nat.{ℕ, suc, _+_, _-_, _*_, _^_, _≤_, _<_}
 use lib.IntN.{ℤ, pos, negsuc, _*ℤ_}
 use lib.Signed.{_≤ℤ_}
@@ -35,7 +35,9 @@ use Rattle.poly.specs.Conditions.{Trimmed, AllDoubles, AllFinite, SomeNotFinite
 use Rattle.inquiry.specs.Start.{realRootsTouchingOf, placesTouchingOf, startOf}
 use Rattle.inquiry.specs.Claims.{Fed}
 use Rattle.crank.specs.Claims.{Cranks}
+use Rattle.hall.specs.File.{listing}
 use Rattle.demands.specs.Table.{Row, table, answerOf}
+use Rattle.demands.specs.Example.{ascii, file, lines}
 
 -- ---- words
 
@@ -223,6 +225,16 @@ pub record SimpleRoots : Type 0 where
 pub record Entries : Type 0 where
   pub every : (tol : Float) (row : Row) → List·Memᴰ row (table tol) → answerOf (row .call) ≡ row .answer
 
+-- ---- 'The hall file'
+
+-- Document 01's file has the listing that stands there, byte for byte. 'An empty file prints nothing.' '9, over 65,536 bytes, the only line then being
+-- `0 -- refused 9`.' No listing has more bytes than the program lends for it.
+pub record HallFile : Type 0 where
+  pub example : listing file ≡ lines
+  pub empty : listing [] ≡ []
+  pub too-long : (s : List ℕ) → 65536 < length s → listing s ≡ ascii "0 -- refused 9\n"
+  pub room : (s : List ℕ) → length (listing s) ≤ 163860
+
 -- ---- all of them
 pub record Demands : Type 0 where
   pub doubles : Doubles
@@ -240,3 +252,4 @@ pub record Demands : Type 0 where
   pub polishing : Polishing
   pub simple-roots : SimpleRoots
   pub entries : Entries
+  pub hall-file : HallFile

@@ -1,0 +1,31 @@
+-- Document 01's example has its listing, by computation; and what holds of the listing of an empty file, and of one that is too long. Assumes nothing.
+use mathlib.Core.Path.{_≡_, refl, _∙_}
+use mathlib.Core.List.{List, []}
+use Prim.Native.Nat.{ℕ, _<_}
+use lib.ListN.{length}
+use borrow.Author.Tests.{lt-ltb}
+use Rattle.text.specs.Digits.{decimal}
+use Rattle.hall.specs.declared.records.Kind.the-variants.{Unknown}
+use Rattle.hall.specs.Refusals.{tooLong}
+use Rattle.hall.specs.Records.{endedOf}
+use Rattle.hall.specs.Lines.{lineOf}
+use Rattle.hall.specs.File.{listing}
+use Rattle.demands.specs.Example.{ascii, file, lines}
+use Rattle.demands.proofs.Unfolded.{arithmetic, leaves, evaluation, factoring, scaling, solving, asking, printing}
+
+pub example : listing file ≡ lines
+unfolding file lines arithmetic leaves evaluation factoring scaling solving asking printing
+example = refl
+
+pub empty : listing [] ≡ []
+unfolding listing
+empty = refl
+
+-- the line depends on nothing in the file
+only-line : (s : List ℕ) → lineOf 0 s 0 (endedOf Unknown tooLong s) ≡ ascii "0 -- refused 9\n"
+unfolding lineOf decimal ascii
+only-line s = refl
+
+pub too-long : (s : List ℕ) → 65536 < length s → listing s ≡ ascii "0 -- refused 9\n"
+unfolding listing
+too-long s h = simp (lt-ltb 65536 (length s) h) (only-line s)
