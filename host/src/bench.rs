@@ -8,6 +8,7 @@ use std::time::Instant;
 
 const VALUES: usize = 1_000_000;
 /// Inputs of the slower functions.
+#[cfg(geomcore)]
 const FACTORED: usize = 100_000;
 const PASSES: usize = 9;
 const STRETCH: usize = 10_000;

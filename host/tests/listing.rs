@@ -34,13 +34,6 @@ fn the_documents_file() {
     assert_eq!(listing(&bytes, &Reference), DOCUMENT_LISTING.as_bytes());
 }
 
-#[test]
-fn stored_files() {
-    for (name, bytes) in files() {
-        assert_eq!(by_port(&bytes), listing(&bytes, &Reference), "{name}");
-    }
-}
-
 fn all_equal(name: &str, outcome: &Outcome) {
     say(&format!("{name}: {}", outcome.text()));
     assert!(outcome.wrong == 0, "{name}:\n{}", outcome.shown.join("\n"));
