@@ -1,7 +1,7 @@
 -- What the exports below the list answer, by what their tests found; and that counts and multiplicities stay within theirs.
 -- Assumes nothing.
 use mathlib.Core.Path.{_≡_, refl, sym, ap, subst⁻¹, _∙_}
-use mathlib.Core.Bool.{Bool, true, false, _||_, false≢true}
+use mathlib.Core.Bool.{Bool, true, false, _||_}
 use mathlib.Core.List.{List, [], _∷_}
 use Prim.Native.Nat.{ℕ, zero, suc, _^_, _≤_, _<_}
 use native.Mathlib.Omega.{arith}
@@ -22,35 +22,29 @@ use Rattle.band.specs.declared.Found.{Found}
 use Rattle.band.specs.Quadratic.{Factor, double, apart, complex, quadraticOf, pushFactorIn, pushQuadraticIn}
 use Rattle.finish.specs.Finish.{finishOf}
 use Rattle.finish.proofs.Counts.{finish-counts}
-use Rattle.lent.specs.Bytes.{doublesBytes, fiveAt}
+use Rattle.lent.specs.Bytes.{doublesBytes, fiveAt, lacksFive}
+use Rattle.lent.proofs.Five.{none-holds, no-five, is-five}
 use Rattle.exports.specs.Clustering.{polyOr, candidateAt, candidatesAt, pairsAt, lacksOf, polyBytes}
 
 -- ---- the polynomial
-none-fails : (p q : Bool) → (p || q) ≡ false → (p ≡ false) × (q ≡ false)
-none-fails true q h = absurd (false≢true (sym h))
-none-fails false q h = (refl, h)
-
-pub accepted : {n d : ℕ} {b : Bool} → b ≡ (ltb n 40 || ltb 4 d) → b ≡ false → (40 ≤ n) × (d ≤ 4)
-accepted {n} {d} e t = let h = none-fails (ltb n 40) (ltb 4 d) (sym e ∙ t) in (ltb-false n 40 (h .0), ltb-false 4 d (h .1))
-
-module _ {A : Type 0} (other : A) (f : Scaled → A) (a : List ℕ) (d : ℕ) {b : Bool} (e : b ≡ (ltb (length a) 40 || ltb 4 d)) where
+module _ {A : Type 0} (other : A) (f : Scaled → A) (a : List ℕ) (d : ℕ) {b : Bool} (e : b ≡ lacksFive a d) where
   pub is-other : b ≡ true → other ≡ polyOr other f a d
   unfolding polyOr
-  is-other t = if-taken other _ (sym e ∙ t) refl
+  is-other t = no-five a d e other _ t
 
   pub is-of : {s : Scaled} {r : A} → b ≡ false → s ≡ scaledOf (fiveAt a) d → r ≡ f s → r ≡ polyOr other f a d
   unfolding polyOr
-  is-of t h k = if-left other _ (sym e ∙ t) (k ∙ ap f h)
+  is-of t h k = is-five a d e other _ t refl (k ∙ ap f h)
 
 -- ---- the bytes
 pub holding : (c : List ℕ) (size n m : ℕ) {b : Bool} → b ≡ lacksOf c size n m → b ≡ false → (size ≤ length c) × ((n ≤ 4) × (m ≤ 2))
 unfolding lacksOf
 holding c size n m e t =
-    let h = none-fails (ltb (length c) size) (ltb 4 n || ltb 2 m) (sym e ∙ t) in
-    let k = none-fails (ltb 4 n) (ltb 2 m) (h .1) in
+    let h = none-holds (ltb (length c) size) (ltb 4 n || ltb 2 m) (sym e ∙ t) in
+    let k = none-holds (ltb 4 n) (ltb 2 m) (h .1) in
     (ltb-false (length c) size (h .0), (ltb-false 4 n (k .0), ltb-false 2 m (k .1)))
 
-module _ (f : Scaled → List Float) (a : List ℕ) (d : ℕ) (l : Bool) {b : Bool} (e : b ≡ (ltb (length a) 40 || ltb 4 d)) where
+module _ (f : Scaled → List Float) (a : List ℕ) (d : ℕ) (l : Bool) {b : Bool} (e : b ≡ lacksFive a d) where
   pub refused-bytes : b ≡ true → polyBytes f a d l ≡ []
   unfolding polyBytes
   refused-bytes t = sym (is-other [] _ a d e t)

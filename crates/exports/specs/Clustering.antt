@@ -19,13 +19,13 @@ use Rattle.band.specs.declared.TurningPoint.the-variants.{At, None}
 use Rattle.band.specs.declared.Found.{Found}
 use Rattle.band.specs.Quadratic.{pushQuadraticIn}
 use Rattle.finish.specs.Finish.{finishOf}
-use Rattle.lent.specs.Bytes.{doublesBytes, fiveAt}
+use Rattle.lent.specs.Bytes.{doublesBytes, fiveOr}
 use Rattle.lent.specs.Numbers.{number}
 use Rattle.exports.specs.Lists.{rootNumbers}
 
--- f of the polynomial with five doubles as coefficients and the degree d; `other` where the doubles have fewer than 40 bytes, or the degree is above 4
+-- f of the polynomial with five doubles as coefficients and the degree d; `other` where they are lacking
 unfoldable pub polyOr : {A : Type 0} → A → (Scaled → A) → List ℕ → ℕ → A
-polyOr other f a d = cond (ltb (length a) 40 || ltb 4 d) other (f (scaledOf (fiveAt a) d))
+polyOr other f a d = fiveOr other (λ x d. f (scaledOf x d)) a d
 
 -- the place of a turning point
 unfoldable pub turningOrNan : TurningPoint → Float

@@ -1,9 +1,8 @@
 // Below the list: the band, what is found in it, polishing and the finished roots, each for the polynomial Scaled::new of five doubles in 40 bytes and a
 // degree. A number is NaN, a truth false, and nothing is stored, where the doubles have fewer bytes or the degree is above 4.
 ghost use mathlib.Core.Path.{_≡_};
-ghost use mathlib.Core.Bool.{false, _||_};
+ghost use mathlib.Core.Bool.{false};
 ghost use Prim.Native.Nat.{_^_, _≤_, _<_};
-ghost use lib.Dec.{ltb};
 ghost use lib.ListN.{length};
 ghost use lib.Seq.{sets};
 ghost use lib.Ieee.{nan};
@@ -17,17 +16,8 @@ ghost use Rattle.lent.specs.Bytes.{whole, fiveAt};
 ghost use Rattle.exports.specs.Clustering.{polyOr, turningOrNan, candidateAt, lacksOf, candidatesAt, pairsAt, foundNumbers, quadraticBytes, finishBytes};
 use crate::lists::root_numbers;
 use lent::five_at;
+use lent::lacks_five;
 use lent::store;
-
-// Whether there is no such polynomial.
-fn refused(a: &[u8], d: u64) -> bool
-    ensures { λ r. ⌜ r ≡ (ltb (length (now (a .entry))) 40 || ltb 4 d) ⌝ }
-{
-    if a.len() < 40 {
-        return true;
-    }
-    4 < d
-}
 
 fn poly_at(a: &[u8], d: u64) -> scaled::Scaled
     requires { ⌜ 40 ≤ length (now a) ⌝ ∗ ⌜ d ≤ 4 ⌝ }
@@ -40,7 +30,7 @@ fn poly_at(a: &[u8], d: u64) -> scaled::Scaled
 pub extern "C" fn noise(a: &[u8], d: u64, y: f64) -> f64
     ensures { λ r. ⌜ r ≡ polyOr nan (λ p. noiseOf p y) (now (a .entry)) d ⌝ }
 {
-    if refused(a, d) {
+    if lacks_five(a, d) {
         return 0.0 / 0.0;
     }
     band::noise(poly_at(a, d), y)
@@ -50,7 +40,7 @@ pub extern "C" fn noise(a: &[u8], d: u64, y: f64) -> f64
 pub extern "C" fn band(a: &[u8], d: u64, y: f64, tol: f64) -> f64
     ensures { λ r. ⌜ r ≡ polyOr nan (λ p. bandOf p y tol) (now (a .entry)) d ⌝ }
 {
-    if refused(a, d) {
+    if lacks_five(a, d) {
         return 0.0 / 0.0;
     }
     band::band(poly_at(a, d), y, tol)
@@ -60,7 +50,7 @@ pub extern "C" fn band(a: &[u8], d: u64, y: f64, tol: f64) -> f64
 pub extern "C" fn within_band(a: &[u8], d: u64, half: f64, y: f64, tol: f64) -> bool
     ensures { λ r. ⌜ r ≡ polyOr false (λ p. withinBandOf p half y tol) (now (a .entry)) d ⌝ }
 {
-    if refused(a, d) {
+    if lacks_five(a, d) {
         return false;
     }
     band::within_band(poly_at(a, d), half, y, tol)
@@ -70,7 +60,7 @@ pub extern "C" fn within_band(a: &[u8], d: u64, half: f64, y: f64, tol: f64) -> 
 pub extern "C" fn critical_point(a: &[u8], d: u64, y: f64, lo: f64, hi: f64) -> f64
     ensures { λ r. ⌜ r ≡ polyOr nan (λ p. criticalPointOf p y lo hi) (now (a .entry)) d ⌝ }
 {
-    if refused(a, d) {
+    if lacks_five(a, d) {
         return 0.0 / 0.0;
     }
     band::critical_point(poly_at(a, d), y, lo, hi)
@@ -81,7 +71,7 @@ pub extern "C" fn critical_point(a: &[u8], d: u64, y: f64, lo: f64, hi: f64) -> 
 pub extern "C" fn extremum(a: &[u8], d: u64, y: f64, lo: f64, hi: f64, tol: f64) -> f64
     ensures { λ r. ⌜ r ≡ polyOr nan (λ p. turningOrNan (extremumOf p y lo hi tol)) (now (a .entry)) d ⌝ }
 {
-    if refused(a, d) {
+    if lacks_five(a, d) {
         return 0.0 / 0.0;
     }
     let found = band::extremum(poly_at(a, d), y, lo, hi, tol);
@@ -95,7 +85,7 @@ pub extern "C" fn extremum(a: &[u8], d: u64, y: f64, lo: f64, hi: f64, tol: f64)
 pub extern "C" fn polish(a: &[u8], d: u64, y: f64, gap: f64) -> f64
     ensures { λ r. ⌜ r ≡ polyOr nan (λ p. polishOf 4 (p .f) (p .d) gap y) (now (a .entry)) d ⌝ }
 {
-    if refused(a, d) {
+    if lacks_five(a, d) {
         return 0.0 / 0.0;
     }
     let p = poly_at(a, d);
@@ -208,7 +198,7 @@ pub extern "C" fn push_quadratic(
     ensures { λ r. ⌜ r ≡ length (whole (quadraticBytes (now (a .entry)) d al be tol (now (c .entry)) n m) (length (now (out .entry)))) ⌝ }
     ensures { λ _. ⌜ now (out .exit) ≡ sets (now (out .entry)) 0 (whole (quadraticBytes (now (a .entry)) d al be tol (now (c .entry)) n m) (length (now (out .entry)))) ⌝ }
 {
-    if refused(a, d) {
+    if lacks_five(a, d) {
         return 0;
     }
     if lacks(c, 68, n, m) {
@@ -231,7 +221,7 @@ pub extern "C" fn finish(a: &[u8], d: u64, c: &[u8], n: u64, tol: f64, out: &mut
     ensures { λ r. ⌜ r ≡ length (whole (finishBytes (now (a .entry)) d (now (c .entry)) n tol) (length (now (out .entry)))) ⌝ }
     ensures { λ _. ⌜ now (out .exit) ≡ sets (now (out .entry)) 0 (whole (finishBytes (now (a .entry)) d (now (c .entry)) n tol) (length (now (out .entry)))) ⌝ }
 {
-    if refused(a, d) {
+    if lacks_five(a, d) {
         return 0;
     }
     if lacks(c, 36, n, 0) {

@@ -1,9 +1,8 @@
 -- The numbers of an answer, one after another as doubles, whole ones too. Definitions only.
-use mathlib.Core.Bool.{cond, _||_}
+use mathlib.Core.Bool.{cond}
 use mathlib.Core.List.{List, [], _∷_, _++_}
 use Prim.Native.Nat.{ℕ}
-use lib.Dec.{ltb}
-use lib.ListN.{length, getD}
+use lib.ListN.{getD}
 use lib.Ieee.{Float, nan, binary64, ofInt}
 use Rattle.float.specs.Literals.{zero64, one64}
 use Rattle.scaled.specs.declared.Scaled.{Scaled}
@@ -13,7 +12,7 @@ use Rattle.split.specs.Gap.{magnitudeSplitOf}
 use Rattle.factors.specs.declared.Factors.{Factors}
 use Rattle.factors.specs.Factors.{linAt, quadAt}
 use Rattle.factorize.specs.Factorize.{factorizeOf}
-use Rattle.lent.specs.Bytes.{doublesBytes, fiveAt}
+use Rattle.lent.specs.Bytes.{doublesBytes, fiveOr}
 use Rattle.lent.specs.Numbers.{number}
 
 -- the first five of an array
@@ -35,9 +34,9 @@ factorNumbers f =
     let q = quadAt f 1 in
     number (f .nlin) ∷ linAt f 0 ∷ linAt f 1 ∷ linAt f 2 ∷ linAt f 3 ∷ number (f .nquad) ∷ p .al ∷ p .be ∷ q .al ∷ q .be ∷ []
 
--- the bytes of an answer for five doubles and a degree: nothing where the doubles have fewer than 40 bytes, or the degree is above 4
+-- the bytes of an answer to five doubles and a degree, and nothing where they are lacking
 unfoldable pub answerBytes : (List Float → ℕ → List Float) → List ℕ → ℕ → List ℕ
-answerBytes f a d = cond (ltb (length a) 40 || ltb 4 d) [] (doublesBytes (f (fiveAt a) d))
+answerBytes f a d = fiveOr [] (λ x d. doublesBytes (f x d)) a d
 
 -- Scaled::new
 abbrev pub scaledBytes : List ℕ → ℕ → List ℕ

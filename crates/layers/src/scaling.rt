@@ -8,6 +8,7 @@ ghost use Rattle.lent.specs.Bytes.{whole};
 ghost use Rattle.factors.specs.Factors.{Sized};
 ghost use Rattle.layers.specs.Scaling.{scaledNumbers, splitNumbers, factorNumbers, scaledBytes, splitBytes, factorBytes};
 use lent::five_at;
+use lent::lacks_five;
 use lent::store;
 
 fn scaled_numbers(s: scaled::Scaled) -> [f64; 18]
@@ -45,10 +46,7 @@ pub extern "C" fn scaled_new(a: &[u8], d: u64, out: &mut [u8]) -> u64
     ensures { λ r. ⌜ r ≡ length (whole (scaledBytes (now (a .entry)) d) (length (now (out .entry)))) ⌝ }
     ensures { λ _. ⌜ now (out .exit) ≡ sets (now (out .entry)) 0 (whole (scaledBytes (now (a .entry)) d) (length (now (out .entry)))) ⌝ }
 {
-    if a.len() < 40 {
-        return 0;
-    }
-    if 4 < d {
+    if lacks_five(a, d) {
         return 0;
     }
     let s = scaled::Scaled::new(five_at(a), d as usize);
@@ -71,10 +69,7 @@ pub extern "C" fn magnitude_split(lg: &[u8], d: u64, out: &mut [u8]) -> u64
     ensures { λ r. ⌜ r ≡ length (whole (splitBytes (now (lg .entry)) d) (length (now (out .entry)))) ⌝ }
     ensures { λ _. ⌜ now (out .exit) ≡ sets (now (out .entry)) 0 (whole (splitBytes (now (lg .entry)) d) (length (now (out .entry)))) ⌝ }
 {
-    if lg.len() < 40 {
-        return 0;
-    }
-    if 4 < d {
+    if lacks_five(lg, d) {
         return 0;
     }
     let s = split::magnitude_split(five_at(lg), d as usize);
@@ -109,10 +104,7 @@ pub extern "C" fn factorize(a: &[u8], d: u64, depth: u32, out: &mut [u8]) -> u64
     ensures { λ r. ⌜ r ≡ length (whole (factorBytes depth (now (a .entry)) d) (length (now (out .entry)))) ⌝ }
     ensures { λ _. ⌜ now (out .exit) ≡ sets (now (out .entry)) 0 (whole (factorBytes depth (now (a .entry)) d) (length (now (out .entry)))) ⌝ }
 {
-    if a.len() < 40 {
-        return 0;
-    }
-    if 4 < d {
+    if lacks_five(a, d) {
         return 0;
     }
     let s = scaled::Scaled::new(five_at(a), d as usize);

@@ -1,5 +1,5 @@
 -- Doubles in lent bytes. Definitions only.
-use mathlib.Core.Bool.{cond}
+use mathlib.Core.Bool.{Bool, cond, _||_}
 use mathlib.Core.List.{List, [], _∷_, flatMap}
 use Prim.Native.Nat.{ℕ, zero, suc, _+_}
 use lib.Dec.{ltb, eqb}
@@ -15,6 +15,14 @@ f64sAt (suc k) s at = f64At s at ∷ f64sAt k s (at + 8)
 -- the five doubles in the first 40 bytes
 abbrev pub fiveAt : List ℕ → List Float
 fiveAt a = f64sAt 5 a 0
+
+-- there are fewer than five doubles, or the degree d is above 4
+unfoldable pub lacksFive : List ℕ → ℕ → Bool
+lacksFive a d = ltb (length a) 40 || ltb 4 d
+
+-- f of the five doubles and the degree; `other` where they are lacking
+unfoldable pub fiveOr : {A : Type 0} → A → (List Float → ℕ → A) → List ℕ → ℕ → A
+fiveOr other f a d = cond (lacksFive a d) other (f (fiveAt a) d)
 
 -- the bits of a double in eight bytes, lowest first
 abbrev pub doubleBytes : Float → List ℕ

@@ -4,7 +4,7 @@ ghost use mathlib.Core.Path.{_≡_};
 ghost use Prim.Native.Nat.{_+_, _*_, _≤_};
 ghost use lib.ListN.{length, take};
 ghost use lib.Seq.{sets};
-ghost use Rattle.lent.specs.Bytes.{doublesBytes, f64sAt, fiveAt, whole, unlessRefused, refusalOr};
+ghost use Rattle.lent.specs.Bytes.{doublesBytes, f64sAt, fiveAt, lacksFive, whole, unlessRefused, refusalOr};
 use float::f64_at;
 
 // The k doubles from at on, at the start of an array of 32.
@@ -33,6 +33,16 @@ pub fn five_at(a: &[u8]) -> [f64; 5]
         f64_at(a, 24),
         f64_at(a, 32),
     ]
+}
+
+// Whether there are fewer than five doubles, or the degree d is above 4.
+pub fn lacks_five(a: &[u8], d: u64) -> bool
+    ensures { λ r. ⌜ r ≡ lacksFive (now (a .entry)) d ⌝ }
+{
+    if a.len() < 40 {
+        return true;
+    }
+    4 < d
 }
 
 // All of xs from the start of out on.

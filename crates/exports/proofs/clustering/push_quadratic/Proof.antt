@@ -2,21 +2,22 @@
 -- Assumes nothing.
 use mathlib.Core.Path.{_≡_, ap, _∙_}
 use Rattle.band.specs.Quadratic.{pushQuadraticIn}
+use Rattle.lent.proofs.Five.{accepted}
 use Rattle.exports.specs.Clustering.{candidatesAt, pairsAt, foundNumbers}
 use Rattle.lent.proofs.Whole.{nothing, stored-as}
-use Rattle.exports.proofs.Polynomials.{accepted, holding, refused-bytes, lacking-bytes, held-bytes, quadratic-fits}
+use Rattle.exports.proofs.Polynomials.{holding, refused-bytes, lacking-bytes, held-bytes, quadratic-fits}
 use borrow.Author.Needs.{needs}
 use Rattle.exports.proofs.clustering.push_quadratic.Statement.{statement}
 use Rattle.exports.proofs.clustering.push_quadratic.Tie as tie
 
 returns : tie.Need-returns
-returns c = nothing _ _ (refused-bytes _ _ _ _ (c .before .refused .ensures) (c .if1 .taken))
+returns c = nothing _ _ (refused-bytes _ _ _ _ (c .before .lacks-five .ensures) (c .if1 .taken))
 
 returns-2 : tie.Need-returns-2
-returns-2 c = nothing _ _ (lacking-bytes _ _ _ _ (c .before .before .before .refused .ensures) (c .before .before .if1 .left) (c .before .lacks .ensures) (c .if2 .taken))
+returns-2 c = nothing _ _ (lacking-bytes _ _ _ _ (c .before .before .before .lacks-five .ensures) (c .before .before .if1 .left) (c .before .lacks .ensures) (c .if2 .taken))
 
 poly-at-requires : tie.Need-poly-at-requires
-poly-at-requires c κs = accepted (c .before .before .before .refused .ensures) (c .before .before .if1 .left)
+poly-at-requires c κs = accepted _ _ (c .before .before .before .lacks-five .ensures) (c .before .before .if1 .left)
 
 candidates-at-requires : tie.Need-candidates-at-requires
 candidates-at-requires c κs = let h = holding _ _ _ _ (c .before .before .lacks .ensures) (c .before .if2 .left) .0 in search needs
@@ -44,7 +45,7 @@ returns-3 c =
     let s = poly .poly-at .result in
     let same : pushQuadraticIn s (a .al) (a .be) (a .tol) (handed .candidates-at .result) (pairs .pairs-at .result) ≡ pushQuadraticIn s (a .al) (a .be) (a .tol) (candidatesAt (a .c .now) (a .n)) (pairsAt (a .c .now) (a .m)) = λ i. pushQuadraticIn s (a .al) (a .be) (a .tol) (handed .candidates-at .ensures .0 i) (pairs .pairs-at .ensures i) in
     let all = numbers .found-numbers .ensures ∙ ap foundNumbers (pushed .push-quadratic .ensures ∙ same) in
-    stored-as (a .out .now) _ _ (held-bytes _ _ _ _ (tested .before .before .before .refused .ensures) (tested .before .before .if1 .left) (tested .before .lacks .ensures) (tested .if2 .left) (poly .poly-at .ensures .0) all) (c .before .before .store .ensures)
+    stored-as (a .out .now) _ _ (held-bytes _ _ _ _ (tested .before .before .before .lacks-five .ensures) (tested .before .before .if1 .left) (tested .before .lacks .ensures) (tested .if2 .left) (poly .poly-at .ensures .0) all) (c .before .before .store .ensures)
 
 pub push-quadratic-spec : {M : Type 1} → statement M
 push-quadratic-spec = tie.close (tie.spec (λ c κs. search needs) returns (λ c κs. search needs) returns-2 poly-at-requires candidates-at-requires pairs-at-requires (λ c κs. search needs) found-numbers-requires (λ c. search needs) (λ c κs. search needs) (λ c. search needs) returns-3)
