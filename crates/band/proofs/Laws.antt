@@ -1,6 +1,6 @@
 -- The last way out of `within_band`, one turn of `critical_point` by what its tests found, and what a quadratic factor is by what `push_quadratic` found.
 -- Assumes nothing.
-use mathlib.Core.Path.{_≡_, refl, sym}
+use mathlib.Core.Path.{_≡_, refl, sym, _∙_}
 use mathlib.Core.Bool.{Bool, true, false}
 use mathlib.Core.List.{List}
 use mathlib.Core.Option.{none, some}
@@ -20,8 +20,8 @@ use Rattle.scaled.specs.declared.Scaled.{Scaled}
 use Rattle.roots.specs.declared.Roots.{Roots}
 use Rattle.roots.specs.declared.Pairs.{Pairs}
 use Rattle.roots.specs.Roots.{pair}
-use Rattle.band.specs.Band.{budgetOf, noiseWithin, noiseOf, baseOf, bandOf, withinBandOf}
-use Rattle.band.specs.Critical.{isBetweenOf, criticalNext, criticalPointOf}
+use Rattle.band.specs.Band.{budgetOf, noiseWithin, noiseOf, baseOf, bandOf, withinBandOf, bare}
+use Rattle.band.specs.Critical.{isBetweenOf, criticalNext, criticalPointOf, doubleAt}
 use Rattle.band.specs.Quadratic.{double, apart, complex, quadraticOf, quadraticBy, pushQuadraticIn, pushRootedIn}
 
 -- ---- the band: beyond the caller's, and not beyond the crude bound: the noise decides
@@ -54,22 +54,37 @@ module _ (f : List Float) (d : ℕ) (lo hi y : Float) {v : Derivs} (here : v ≡
       unfolding criticalNext
       critical-moved t = simp (sym here, steep, inside, sym there, t)
 
+-- ---- f, d and unit suffice
+abbrev barely : Scaled → Scaled
+barely poly = bare (poly .f) (poly .d) (poly .unit)
+
+pub same-within : (poly : Scaled) (half y tol : Float) → withinBandOf (barely poly) half y tol ≡ withinBandOf poly half y tol
+unfolding withinBandOf noiseOf
+same-within poly half y tol = refl
+
+same-double : (poly : Scaled) (mid tol : Float) → doubleAt (barely poly) mid tol ≡ doubleAt poly mid tol
+unfolding bandOf noiseOf criticalPointOf
+same-double poly mid tol = refl
+
 -- ---- what a quadratic factor is
-module _ (poly : Scaled) (al be tol : Float) (s : Disc) {near : Bool} (w : near ≡ withinBandOf poly (mul binary64 half64 (s .root)) (mul binary64 (neg half64) al) tol) where
+module _ (poly : Scaled) (al be tol : Float) (s : Disc) {near : Bool} (w : near ≡ withinBandOf (barely poly) (mul binary64 half64 (s .root)) (mul binary64 (neg half64) al) tol) where
   abbrev mid : Float
   mid = mul binary64 (neg half64) al
 
-  pub is-double : {band y : Float} → near ≡ true → band ≡ bandOf poly mid tol → y ≡ criticalPointOf poly mid (sub binary64 mid band) (add binary64 mid band) → quadraticBy poly al be s tol ≡ double y
+  is-near : withinBandOf poly (mul binary64 half64 (s .root)) mid tol ≡ near
+  is-near = sym (w ∙ same-within poly (mul binary64 half64 (s .root)) mid tol)
+
+  pub is-double : {y : Float} → near ≡ true → y ≡ doubleAt (barely poly) mid tol → quadraticBy poly al be s tol ≡ double y
   unfolding quadraticBy
-  is-double within b p = simp (sym w, within, sym b, sym p)
+  is-double within y = simp (is-near, within, sym (y ∙ same-double poly mid tol))
 
   pub is-apart : {q : Float} → near ≡ false → lt zero64 (s .disc) ≡ true → q ≡ farBy al (s .root) → quadraticBy poly al be s tol ≡ apart q (div binary64 be q)
   unfolding quadraticBy
-  is-apart beyond above q = simp (sym w, beyond, above, sym q)
+  is-apart beyond above q = simp (is-near, beyond, above, sym q)
 
   pub is-complex : near ≡ false → lt zero64 (s .disc) ≡ false → quadraticBy poly al be s tol ≡ complex (pair mid (mul binary64 half64 (s .root)))
   unfolding quadraticBy
-  is-complex beyond below = simp (sym w, beyond, below)
+  is-complex beyond below = simp (is-near, beyond, below)
 
 -- from its own discriminant it is the definition: the root of the size serves where disc is above 0 too
 same-quadratic : (poly : Scaled) (al be tol : Float) → quadraticBy poly al be (discOf al be) tol ≡ quadraticOf poly al be tol

@@ -1,9 +1,10 @@
 -- The clustering band of poly.rs: `band`, `within_band` and `noise` of Scaled, in the reference build. Definitions only.
 -- y is a place in the scaled variable, and one unit of x is `unit` there.
 use mathlib.Core.Bool.{Bool, true, false, cond}
-use mathlib.Core.List.{List}
+use mathlib.Core.List.{List, []}
 use Prim.Native.Nat.{ℕ, _+_, _-_}
 use lib.Dec.{eqb}
+use lib.IntN.{pos}
 use lib.ListN.{getD}
 use lib.Ieee.{Float, nan, binary64, add, sub, mul, div, lt, le, ne}
 use Rattle.facts.specs.Count.{countUp, countDown}
@@ -66,3 +67,7 @@ withinBandOf poly half y tol =
     let crude = mul binary64 (powiOf (sub binary64 half base) (poly .d)) (absOf (getD (poly .f) (poly .d) nan)) in
     let near = le half (add binary64 base (noiseOf poly y)) in
     cond (le half base) true (cond (lt (budgetOf (poly .f) (poly .d) y) crude) false near)
+
+-- a polynomial of which f, d and unit alone are at hand: the band and critical points look at no more
+abbrev pub bare : List Float → ℕ → Float → Scaled
+bare f d unit = record { f = f; g = []; lg = []; d = d; e = pos 0; unit = unit }

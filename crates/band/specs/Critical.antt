@@ -3,13 +3,13 @@ use mathlib.Core.Bool.{Bool, cond, not, _&&_}
 use mathlib.Core.List.{List}
 use mathlib.Core.Option.{Option, none, some}
 use Prim.Native.Nat.{ℕ}
-use lib.Ieee.{Float, binary64, sub, mul, div, le}
+use lib.Ieee.{Float, binary64, add, sub, mul, div, le}
 use Rattle.facts.specs.Turns.{turnsOf}
 use Rattle.float.specs.Methods.{absOf}
 use Rattle.horner.specs.Taylor.{derivs12Of}
 use Rattle.refine.specs.Newton.{flatOf, noGainOf}
 use Rattle.scaled.specs.declared.Scaled.{Scaled}
-use Rattle.band.specs.Band.{baseOf}
+use Rattle.band.specs.Band.{baseOf, bandOf}
 use Rattle.band.specs.declared.TurningPoint.{TurningPoint}
 use Rattle.band.specs.declared.TurningPoint.the-variants.{At, None}
 
@@ -28,6 +28,10 @@ criticalNext f d lo hi y =
 -- `critical_point`: at most four turns from y, each to a place within [lo, hi]
 unfoldable pub criticalPointOf : Scaled → Float → Float → Float → Float
 criticalPointOf poly y lo hi = turnsOf (criticalNext (poly .f) (poly .d) lo hi) 4 y
+
+-- where a double root within the band about mid is: where these turns end within it
+abbrev pub doubleAt : Scaled → Float → Float → Float
+doubleAt poly mid tol = let band = bandOf poly mid tol in criticalPointOf poly mid (sub binary64 mid band) (add binary64 mid band)
 
 -- `extremum`: the place where these turns end, if Newton's step |d1 / d2| from there is within the caller's band: |d1| <= tol * (unit + |y|) * |d2|
 unfoldable pub extremumOf : Scaled → Float → Float → Float → Float → TurningPoint

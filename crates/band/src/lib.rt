@@ -2,8 +2,9 @@
 // It rests on the leaves, `horner`, `refine`, `factor`, `scaled` and `roots`; lists and the inquiry rest on it.
 ghost use mathlib.Core.Path.{_≡_};
 ghost use Prim.Native.Nat.{_≤_};
-ghost use Rattle.band.specs.Band.{magnitudeOf, budgetOf, kthRootOf, radiusStep, radiusOf, noiseWithin, noiseOf, baseOf, bandOf, withinBandOf};
-ghost use Rattle.band.specs.Critical.{isBetweenOf, criticalPointOf, extremumOf};
+ghost use Rattle.facts.specs.Turns.{turnsOf};
+ghost use Rattle.band.specs.Band.{magnitudeOf, budgetOf, kthRootOf, radiusStep, radiusOf, noiseWithin, noiseOf, baseOf, bandOf, withinBandOf, bare};
+ghost use Rattle.band.specs.Critical.{isBetweenOf, criticalNext, criticalPointOf, extremumOf, doubleAt};
 ghost use Rattle.band.specs.Quadratic.{pushQuadraticIn, pushRootedIn};
 
 const NOISE_FACTOR: f64 = 4.0;
@@ -119,17 +120,23 @@ pub fn band(poly: scaled::Scaled, y: f64, tol: f64) -> f64
     base_band(poly.unit, y, tol) + noise(poly, y)
 }
 
-// The crude bound first: the noise needs roots.
 pub fn within_band(poly: scaled::Scaled, half: f64, y: f64, tol: f64) -> bool
     requires { ⌜ poly .d ≤ 4 ⌝ }
     ensures { λ r. ⌜ r ≡ withinBandOf poly half y tol ⌝ }
 {
-    let base = base_band(poly.unit, y, tol);
+    let f = poly.f;
+    within(f, poly.d, poly.unit, half, y, tol)
+}
+
+// The crude bound first: the noise needs roots.
+fn within(f: [f64; 5], d: usize, unit: f64, half: f64, y: f64, tol: f64) -> bool
+    requires { ⌜ d ≤ 4 ⌝ }
+    ensures { λ r. ⌜ r ≡ withinBandOf (bare f d unit) half y tol ⌝ }
+{
+    let base = base_band(unit, y, tol);
     if half <= base {
         return true;
     }
-    let f = poly.f;
-    let d = poly.d;
     let most = budget(f, d, y);
     if float::powi(half - base, d) * float::abs(f[d]) > most {
         return false;
@@ -143,13 +150,19 @@ fn is_between(lo: f64, x: f64, hi: f64) -> bool
     lo <= x && x <= hi
 }
 
-// Newton's method on f', each step to a place within [lo, hi].
 pub fn critical_point(poly: scaled::Scaled, y0: f64, lo: f64, hi: f64) -> f64
     requires { ⌜ poly .d ≤ 4 ⌝ }
     ensures { λ r. ⌜ r ≡ criticalPointOf poly y0 lo hi ⌝ }
 {
     let f = poly.f;
-    let d = poly.d;
+    critical(f, poly.d, y0, lo, hi)
+}
+
+// Newton's method on f', each step to a place within [lo, hi].
+fn critical(f: [f64; 5], d: usize, y0: f64, lo: f64, hi: f64) -> f64
+    requires { ⌜ d ≤ 4 ⌝ }
+    ensures { λ r. ⌜ r ≡ turnsOf (criticalNext f d lo hi) 4 y0 ⌝ }
+{
     let mut y = y0;
     let mut at = horner::derivs12(f, d, y0);
     let mut k: usize = 0;
@@ -186,6 +199,15 @@ pub fn extremum(poly: scaled::Scaled, y: f64, lo: f64, hi: f64, tol: f64) -> Tur
     TurningPoint::None
 }
 
+// Where a double root within the band about mid is.
+fn double_at(f: [f64; 5], d: usize, unit: f64, mid: f64, tol: f64) -> f64
+    requires { ⌜ d ≤ 4 ⌝ }
+    ensures { λ r. ⌜ r ≡ doubleAt (bare f d unit) mid tol ⌝ }
+{
+    let reach = base_band(unit, mid, tol) + noise_within(f, d, mid, budget(f, d, mid));
+    critical(f, d, mid, mid - reach, mid + reach)
+}
+
 // Of y^2 + al*y + be: a double root within the band, two simple roots, or a complex pair.
 pub fn push_quadratic(
     poly: scaled::Scaled,
@@ -216,9 +238,9 @@ pub fn push_rooted(
 {
     let mid = -0.5 * al;
     let half = 0.5 * s.root;
-    if within_band(poly, half, mid, tol) {
-        let reach = band(poly, mid, tol);
-        let y = critical_point(poly, mid, mid - reach, mid + reach);
+    let f = poly.f;
+    if within(f, poly.d, poly.unit, half, mid, tol) {
+        let y = double_at(f, poly.d, poly.unit, mid, tol);
         let roots = out.keep(y, 2);
         return Found { roots, pairs };
     }

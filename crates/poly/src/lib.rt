@@ -241,9 +241,8 @@ pub fn real_roots(coeffs: &[f64], tol: f64) -> Answer
     ensures { λ r. ⌜ r ≡ realRootsOf (now (coeffs .entry)) tol ⌝ }
 {
     let s = solve(coeffs, tol);
-    let poly = s.poly;
     Answer {
         number: s.number,
-        roots: unscaled_all(s.roots, poly.e),
+        roots: unscaled_all(s.roots, s.poly.e),
     }
 }

@@ -8,9 +8,9 @@ use Rattle.band.proofs.push_rooted.Tie as tie
 returns : tie.Need-returns
 unfolding pushRootedIn pushFactorIn
 returns c =
-    let t = c .before .before .before in
+    let t = c .before .before in
     let w = t .before in
-    rw (is-double _ _ _ _ (w .before .before .args .s) (w .within-band .ensures) (t .if1 .taken) (c .before .before .band .ensures) (c .before .critical-point .ensures))
+    rw (is-double (w .before .before .before .args .poly) _ _ _ (w .before .before .before .args .s) (w .within .ensures) (t .if1 .taken) (c .before .double-at .ensures))
     (rw (c .keep .ensures))
 
 returns-2 : tie.Need-returns-2
@@ -18,7 +18,7 @@ unfolding pushRootedIn pushFactorIn
 returns-2 c =
     let t = c .before .before .before .before .before in
     let w = t .before in
-    rw (is-apart _ _ _ _ (w .before .before .args .s) (w .within-band .ensures) (t .if1 .left) (c .before .before .before .if2 .taken) (c .before .before .far-by .ensures))
+    rw (is-apart (w .before .before .before .args .poly) _ _ _ (w .before .before .before .args .s) (w .within .ensures) (t .if1 .left) (c .before .before .before .if2 .taken) (c .before .before .far-by .ensures))
     (rw (c .keep3 .ensures, c .before .keep2 .ensures))
 
 returns-3 : tie.Need-returns-3
@@ -26,14 +26,13 @@ unfolding pushRootedIn pushFactorIn
 returns-3 c =
     let t = c .before .before .before in
     let w = t .before in
-    rw (is-complex _ _ _ _ (w .before .before .args .s) (w .within-band .ensures) (t .if1 .left) (c .before .if2 .left))
+    rw (is-complex (w .before .before .before .args .poly) _ _ _ (w .before .before .before .args .s) (w .within .ensures) (t .if1 .left) (c .before .if2 .left))
     (rw (c .push .ensures))
 
 pub push-rooted-spec : {M : Type 1} → statement M
 push-rooted-spec =
     tie.close
     (tie.spec
-    (λ c κs. search needs)
     (λ c κs. search needs)
     (λ c κs. search needs)
     (λ c κs. search needs)

@@ -1,0 +1,13 @@
+-- `double_at` is its definition, by what its calls give. Assumes nothing.
+use Rattle.band.specs.Band.{noiseOf, bandOf}
+use Rattle.band.specs.Critical.{criticalPointOf}
+use borrow.Author.Needs.{needs}
+use Rattle.band.proofs.double_at.Statement.{statement}
+use Rattle.band.proofs.double_at.Tie as tie
+
+returns : tie.Need-returns
+unfolding noiseOf bandOf criticalPointOf
+returns c = rw (c .critical .ensures, c .before .noise-within .ensures, c .before .before .budget .ensures, c .before .before .before .base-band .ensures)
+
+pub double-at-spec : {M : Type 1} → statement M
+double-at-spec = tie.close (tie.spec (λ c κs. search needs) (λ c κs. search needs) (λ c κs. search needs) (λ c κs. search needs) returns)
