@@ -192,6 +192,7 @@ fn lists(r: &mut Random) -> Vec<Row> {
     };
     let mut rows = Vec::new();
     for (d, names) in (2..).zip(NAMES) {
+        let most = if d == 4 { 1.4 } else { 2.0 };
         for (mix, name) in names.into_iter().enumerate() {
             let inputs: Vec<_> = (0..FACTORED).map(|_| make(r, mix, d)).collect();
             let inputs: Vec<_> = inputs.into_iter().map(|p| (p, port::forty(p))).collect();
@@ -203,7 +204,7 @@ fn lists(r: &mut Random) -> Vec<Row> {
             let rust = |(p, _): ([f64; 5], [u8; 40])| {
                 real_roots(&p[..=d], tol).first().map_or(0.0, |root| root.value)
             };
-            rows.push(row((name, "geomcore's"), Aim::Times(2.0), &inputs, port, rust));
+            rows.push(row((name, "geomcore's"), Aim::Times(most), &inputs, port, rust));
         }
     }
     rows

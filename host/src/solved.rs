@@ -51,11 +51,13 @@ fn add(outcome: &mut Outcome, (abc, tol): Quadratic, (handed, x): (Solution, f64
         outcome.differs(|| ((abc, tol), (handed, x)).shown());
     }
     outcome.beside(&as_list(refusing(&UNTOUCHED, abc, tol)), &as_list(wanted), true);
-    let (refusal, (n, _)) = wanted;
-    let word = |k| refusal == 0 && n == k;
-    let words = [0, 1, 2, 3, 4].map(word);
-    let [two, one, linear, degenerate, empty] = words;
-    outcome.met.add(&[two, one, linear, degenerate, empty, refusal == 1, refusal == 5, centre != 0.0]);
+    let mut cases = [false; CASES.len()];
+    match wanted {
+        (0, (n, _)) => cases[n as usize] = true,
+        (refusal, _) => cases[if refusal == 1 { 5 } else { 6 }] = true,
+    }
+    cases[7] = centre != 0.0;
+    outcome.met.add(&cases);
 }
 
 /// `count` made quadratics, the kinds in turn.

@@ -28,18 +28,14 @@ fn all<T: Copy>(kinds: &[Kind<T>]) -> impl Iterator<Item = T> {
 #[test]
 fn solved() {
     let kinds: Vec<Kind<Quadratic>> = every_kind(&mut Random::new(501), EACH, quadratic);
-    compare(
-        "solve_quadratic",
-        501,
-        &kinds,
-        |(q, t)| port::solve_quadratic(q, t),
-        |(q, t)| (REFERENCE.quadratic)(q, t),
-    );
+    let rust = |(q, t): Quadratic| (REFERENCE.quadratic)(q, t);
+    compare("solve_quadratic", 501, &kinds, |(q, t)| port::solve_quadratic(q, t), rust);
     let words = ["two", "one", "linear", "degenerate", "empty"];
-    tally("solve_quadratic", &words, all(&kinds).map(|(q, t)| (REFERENCE.quadratic)(q, t).0 as usize));
-    compare("quadratic", 501, &kinds, |(q, t)| port::quadratic(q, t), |(q, t)| refusing(&REFERENCE, q, t));
+    tally("solve_quadratic", &words, all(&kinds).map(|q| rust(q).0 as usize));
+    let refused = |(q, t): Quadratic| refusing(&REFERENCE, q, t);
+    compare("quadratic", 501, &kinds, |(q, t)| port::quadratic(q, t), refused);
     let words = ["answered", "refused 1", "", "", "", "refused 5"];
-    tally("quadratic", &words, all(&kinds).map(|(q, t)| refusing(&REFERENCE, q, t).0 as usize));
+    tally("quadratic", &words, all(&kinds).map(|q| refused(q).0 as usize));
 }
 
 #[test]
