@@ -4,7 +4,7 @@ use crate::answer::Answer;
 use crate::compare::{bits, say};
 use crate::cranks::{self, Crank};
 use crate::inquiries::{Inquiry, List, REPLIES, Ran, Touches, recorded, same_places};
-use crate::lister::{finite, trimmed};
+use crate::lister::{finite, refusal, trimmed};
 use crate::lists::{KINDS, handed_in, tolerance};
 use crate::pieces::Pieces;
 use crate::polynomials;
@@ -13,7 +13,7 @@ use crate::port::inquiries::Shown;
 use crate::port::quadratics::{self, Solution};
 use crate::quadratics::{quadratic, solution};
 use crate::random::Random;
-use crate::roots::{refusal, shown, tolerance_for};
+use crate::roots::{shown, tolerance_for};
 use crate::telling::{self, Telling};
 use crate::trees::Tree;
 use std::panic;
@@ -228,12 +228,12 @@ type Refusal = (&'static str, &'static str, fn(&Input) -> u64);
 const REFUSALS: [Refusal; 6] = [
     ("2 before 1", "lists", |input| match input {
         Input::List(a, _) if trimmed(a) < 2 => 2,
-        Input::List(a, _) => refusal(a),
+        Input::List(a, _) => refusal(a).into(),
         _ => 0,
     }),
     ("3 before 1", "lists", |input| match input {
         Input::List(a, _) if trimmed(a) > 5 => 3,
-        Input::List(a, _) => refusal(a),
+        Input::List(a, _) => refusal(a).into(),
         _ => 0,
     }),
     ("infinities in the first five only", "lists", |input| match input {
@@ -244,7 +244,7 @@ const REFUSALS: [Refusal; 6] = [
     }),
     ("the length before trailing zeros", "lists", |input| match input {
         Input::List(a, _) if finite(a) && a.len() > 5 => 3,
-        Input::List(a, _) => refusal(a),
+        Input::List(a, _) => refusal(a).into(),
         _ => 0,
     }),
     ("5 before 1", "cranks", |input| match input {
