@@ -1,0 +1,3 @@
+pub mod Values
+pub mod Steps
+pub mod Computed
