@@ -1,2 +1,3 @@
+pub mod Unfolded
 pub mod Steps
 pub mod Proved

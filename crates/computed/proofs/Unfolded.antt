@@ -1,0 +1,64 @@
+-- The definitions that the values go through. A fact that names a group on its `unfolding` line may compute these. Assumes nothing.
+use mathlib.Core.List.{flatMap}
+use Prim.Native.Nat.{ℕ}
+use lib.Ieee.{sub, mul, div, le, ne, ofInt, isNan, ofBits, neg}
+use Rattle.facts.specs.Count.{countUp, countDown}
+use Rattle.facts.specs.Turns.{turnsOf}
+use Rattle.facts.specs.Sort.{sortedBy, insertedAll, insertedBy}
+use Rattle.float.specs.Methods.{isFiniteOf, absOf, copysignOf, minOf, maxOf, totalLeOf, powiOf}
+use Rattle.float.specs.Floor.{floorOf}
+use Rattle.scale.specs.Scale.{ldexpOf}
+use Rattle.decode.specs.Exponent.{exponentOf}
+use Rattle.log2.specs.Log.{log2GridOf}
+use Rattle.sqrt.specs.Root.{sqrtOf}
+use Rattle.cbrt.specs.Root.{cbrtOf}
+use Rattle.horner.specs.Loops.{downTo}
+use Rattle.horner.specs.Product.{splitHigh, productError, twoProdOf, discriminantOf}
+use Rattle.horner.specs.Horner.{hornerStep, valueSlopeOf, sumError, compensatedStep, compensatedOf, valueSlopeCompensatedOf}
+use Rattle.horner.specs.Taylor.{derivsStep, derivs12Of}
+use Rattle.square.specs.Square as square
+use Rattle.refine.specs.Refine.{overOf, weightedOf, normOf, isSettledOf, advancedOf, nextOf, refineOf}
+use Rattle.refine.specs.Newton.{flatOf, noGainOf, newtonNext, newtonCubicOf}
+use Rattle.factor.specs.Cubic.{oneRootOf, depressedRootsOf, cubicClosedFormOf, isolationOf, betterOf, mostIsolatedOf, cubicFactorOf}
+use Rattle.factor.specs.Isolated.{farRootOf, rootPairOf, isBetterOf, judgedOf, bestRootOf, isolatedRootOf, peelRootOf}
+use Rattle.factor.specs.Quartic.{largestOf, resolventOf, isClearOf, ferrariOf, quarticFactorOf}
+use Rattle.scaled.specs.Exponent.{scaleExponentOf}
+use Rattle.scaled.specs.Scaled.{topOf, shiftOf, coefficientOf, coefficientsOf, monicAt, monicOf, sizesOf, logSizeOf, logSizesOf, scaledOf}
+use Rattle.split.specs.Hull.{crossOf, poppedOf, hullStep, hullOf, magOf}
+use Rattle.split.specs.Gap.{exp2Of, splitFrom, magnitudeSplitOf}
+use Rattle.factors.specs.Factors.{pushLinOf, pushQuadOf}
+use Rattle.factors.specs.Large.{quadUnitsOf, factorUnitsOf, endsOf, withUnit, largeFrom, largeOf}
+use Rattle.factors.specs.Quotient.{termOf, nextAt, mulOf, productOf, accOf, quotientOf, usableOf, mergedOf}
+use Rattle.factorize.specs.Factorize.{pairedOf, quarticFactorsOf, outOf, secondOf, factorsFrom, factorizeOf}
+use Rattle.roots.specs.Roots.{held, kept, paired}
+use Rattle.band.specs.Band.{magnitudeStep, magnitudeOf, budgetOf, baseOf, withinBandOf}
+use Rattle.band.specs.Critical.{criticalNext, criticalPointOf, extremumOf}
+use Rattle.band.specs.Quadratic as band
+use Rattle.polish.specs.Polish.{isLongOf, isSmallOf, polishNext, polishOf}
+use Rattle.asking.specs.Asking.{answered, _then_, each}
+use Rattle.inquiry.specs.Touching.{pairOrder, ordered, linkAt, contactOf, emitted, itemTurn, chained, touching}
+
+-- doubles, loops, orders and leaves
+unfoldable pub arithmetic : ℕ
+unfolding ofBits neg sub mul div le ne ofInt isNan isFiniteOf absOf copysignOf minOf maxOf totalLeOf powiOf floorOf flatMap countUp countDown turnsOf sortedBy insertedAll insertedBy ldexpOf exponentOf log2GridOf sqrtOf cbrtOf
+arithmetic = 0
+
+-- layers 2 and 3
+unfoldable pub evaluation : ℕ
+unfolding downTo splitHigh productError twoProdOf discriminantOf hornerStep valueSlopeOf sumError compensatedStep compensatedOf valueSlopeCompensatedOf derivsStep derivs12Of square.sizesOf square.scaleOf square.leastOf square.largerOf square.pivotOf square.swapPivotOf square.loseOf square.reduceStep square.reduceOf square.restOf square.substituteStep square.substituteOf square.solveFrom square.solveSquareOf overOf weightedOf normOf isSettledOf advancedOf nextOf refineOf flatOf noGainOf newtonNext newtonCubicOf
+evaluation = 0
+
+-- layer 4
+unfoldable pub factoring : ℕ
+unfolding oneRootOf depressedRootsOf cubicClosedFormOf isolationOf betterOf mostIsolatedOf cubicFactorOf farRootOf rootPairOf isBetterOf judgedOf bestRootOf isolatedRootOf peelRootOf largestOf resolventOf isClearOf ferrariOf quarticFactorOf
+factoring = 0
+
+-- layer 5
+unfoldable pub scaling : ℕ
+unfolding scaleExponentOf topOf shiftOf coefficientOf coefficientsOf monicAt monicOf sizesOf logSizeOf logSizesOf scaledOf crossOf poppedOf hullStep hullOf magOf exp2Of splitFrom magnitudeSplitOf pushLinOf pushQuadOf quadUnitsOf factorUnitsOf endsOf withUnit largeFrom largeOf termOf nextAt mulOf productOf accOf quotientOf usableOf mergedOf pairedOf quarticFactorsOf outOf secondOf factorsFrom factorizeOf
+scaling = 0
+
+-- layer 6
+unfoldable pub solving : ℕ
+unfolding held kept paired magnitudeStep magnitudeOf budgetOf baseOf withinBandOf criticalNext criticalPointOf extremumOf band.quadraticOf band.pushFactor band.pushQuadraticOf isLongOf isSmallOf polishNext polishOf answered _then_ each pairOrder ordered linkAt contactOf emitted itemTurn chained touching
+solving = 0
