@@ -28,7 +28,7 @@ struct Made {
     /// multiplicity or by more than the band `tol * (1 + |x|)`.
     usual: u64,
     noticed: u64,
-    /// The shortest input of each sort of departure.
+    /// The shortest input of each sort of departure that the untouched Rust has alike.
     shown: [Option<Line>; 3],
 }
 
@@ -51,7 +51,8 @@ impl Made {
             _ => 0,
         };
         *[&mut self.bits, &mut self.count, &mut self.multiplicity][sort] += 1;
-        self.alike += answer.same(untouched) as u64;
+        let alike = answer.same(untouched);
+        self.alike += alike as u64;
         if sort == 0 {
             let pairs = || answer.roots().iter().zip(wanted.roots());
             let apart = |(a, b): (&Root, &Root)| {
@@ -70,7 +71,7 @@ impl Made {
             self.noticed += (sort > 0 || moved()) as u64;
         }
         let text = shown(input.0, input.1);
-        if self.shown[sort].as_ref().is_none_or(|line| digits(&text) < line.0) {
+        if alike && self.shown[sort].as_ref().is_none_or(|line| digits(&text) < line.0) {
             let (here, there) = (answer.text(), wanted.text());
             let line = format!("{text}: {here}, reference build {there}");
             self.shown[sort] = Some((digits(&text), line));

@@ -7,7 +7,7 @@ use host::lists::TOLERANCES;
 use host::met::{OF_LISTS, WAYS};
 use host::outcome::Outcome;
 use host::port;
-use host::roots::{by_untouched, every_short_list, made, reference};
+use host::roots::{every_short_list, made, reference};
 
 const TOL: f64 = 1.0 / (1u64 << 30) as f64;
 const INFINITE: f64 = f64::INFINITY;
@@ -113,24 +113,6 @@ fn wrong_and_kept() {
         0x4105_5555_5554_F4D4,
     ];
     roots(&[1.0, 0.0, 16.0, ldexp(1.0, -21), 64.0], TOL, &simple(wrong));
-}
-
-/// Where the untouched Rust answers otherwise: by the third angle, by a logarithm rounded up to a
-/// whole number in e, and by one in the leading exponent.
-#[test]
-fn departures() {
-    let depart = |coeffs: &[f64], wanted: &[Root], rust: &[Root]| {
-        roots(coeffs, TOL, wanted);
-        assert!(by_untouched(coeffs, TOL).same(&Answer::new(0, rust)), "{coeffs:?}");
-    };
-    let twice = |bits| [(2.0, 1), (double(bits), 2)];
-    depart(&[-18.0, 21.0, -8.0, 1.0], &twice(0x4008_0000_0000_0002), &twice(0x4007_FFFF_FFFF_FFFE));
-    let tiny = double(0x000F_FFFF_FFFF_FFFF);
-    let far = (double(0x7FE0_0000_0000_0001), 1);
-    depart(&[2.0, 2.0, -2.0, tiny], &[(-0.0, 2), far], &[(0.5, 2), far]);
-    let near = |bits| [(-1.0, 1), (double(bits), 1), (0.5, 1)];
-    let steep = [-2.0, -ldexp(1.0, 1023), ldexp(1.0, 1023), f64::MAX];
-    depart(&steep, &near(0x8010 << 48), &near(0x800F_FFFF_FFFF_FFFF));
 }
 
 fn all_equal(name: &str, outcome: &Outcome) {
