@@ -6,6 +6,8 @@ use lib.Ieee.{Float, nan, binary64, add, sub, mul, neg}
 use Rattle.float.specs.Literals.{zero64, one64}
 use Rattle.float.specs.Methods.{absOf}
 use Rattle.refine.specs.Refine.{System}
+use Rattle.refine.specs.declared.System4.{System4}
+use Rattle.refine.specs.declared.System4.the-variants.{Quartic, Peel}
 
 abbrev at : List Float → ℕ → Float
 at x i = getD x i nan
@@ -106,3 +108,9 @@ peelJacobianOf x =
 
 abbrev pub peelSystem : Float → Float → Float → Float → System
 peelSystem b c d e = record { res = peelResidualOf b c d e; mag = peelMagnitudeOf b c d e; jac = peelJacobianOf }
+
+-- ---- both quartic systems
+
+abbrev pub systemOf : System4 → System
+systemOf (Quartic b c d e) = quarticSystem b c d e
+systemOf (Peel b c d e) = peelSystem b c d e

@@ -4,7 +4,7 @@ ghost use mathlib.Core.Path.{_≡_};
 ghost use Rattle.float.specs.Methods.{allFiniteOf};
 ghost use Rattle.square.specs.Step.{step3, step4};
 ghost use Rattle.refine.specs.Refine.{overOf, isSettledOf, weighRowOf, weighRowsOf, trialOf, noLessOf, refineOf};
-ghost use Rattle.refine.specs.Systems.{size2Of, size3Of, size4Of, cubicResidualOf, cubicMagnitudeOf, cubicJacobianOf, cubicSystem, quarticResidualOf, quarticMagnitudeOf, quarticJacobianOf, quarticSystem, peelResidualOf, peelMagnitudeOf, peelJacobianOf, peelSystem};
+ghost use Rattle.refine.specs.Systems.{size2Of, size3Of, size4Of, cubicResidualOf, cubicMagnitudeOf, cubicJacobianOf, cubicSystem, quarticResidualOf, quarticMagnitudeOf, quarticJacobianOf, quarticSystem, peelResidualOf, peelMagnitudeOf, peelJacobianOf, peelSystem, systemOf};
 ghost use Rattle.refine.specs.Weighed.{weigh3Of, weigh4Of};
 ghost use Rattle.refine.specs.Newton.{flatOf, noGainOf, newtonCubicOf};
 
@@ -266,33 +266,6 @@ fn quartic_jacobian(x: [f64; 4]) -> [[f64; 4]; 4]
     ]
 }
 
-pub fn refine_quartic(b: f64, c: f64, d: f64, e: f64, x0: [f64; 4]) -> [f64; 4]
-    ensures { λ r. ⌜ r ≡ refineOf 4 (quarticSystem b c d e) x0 ⌝ }
-{
-    let mut x = x0;
-    let mut at = quartic_at(b, c, d, e, x0);
-    let mut k: usize = 0;
-    while k < 8 {
-        if is_settled(at.norm) {
-            return x;
-        }
-        let j = quartic_jacobian(x);
-        let trial = trial4(x, at, j);
-        if !trial.ok {
-            return x;
-        }
-        let next = trial.x;
-        let there = quartic_at(b, c, d, e, next);
-        if no_less(at.norm, there.norm) {
-            return x;
-        }
-        x = next;
-        at = there;
-        k += 1;
-    }
-    x
-}
-
 // ---- y^4 + b*y^3 + c*y^2 + d*y + e = (y - x0) * (y^3 + x1*y^2 + x2*y + x3)
 
 fn peel_at(b: f64, c: f64, d: f64, e: f64, x: [f64; 4]) -> Weighed4
@@ -326,23 +299,49 @@ fn peel_jacobian(x: [f64; 4]) -> [[f64; 4]; 4]
     ]
 }
 
-pub fn refine_peel(b: f64, c: f64, d: f64, e: f64, x0: [f64; 4]) -> [f64; 4]
-    ensures { λ r. ⌜ r ≡ refineOf 4 (peelSystem b c d e) x0 ⌝ }
+// ---- both quartic systems by one loop
+
+// A system of four equations, with the coefficients b, c, d and e.
+enum System4 {
+    Quartic(f64, f64, f64, f64),
+    Peel(f64, f64, f64, f64),
+}
+
+fn at4(s: System4, x: [f64; 4]) -> Weighed4
+    ensures { λ r. ⌜ r ≡ weigh4Of (systemOf s .res x) (systemOf s .mag x) ⌝ }
+{
+    match s {
+        System4::Quartic(b, c, d, e) => quartic_at(b, c, d, e, x),
+        System4::Peel(b, c, d, e) => peel_at(b, c, d, e, x),
+    }
+}
+
+fn jacobian4(s: System4, x: [f64; 4]) -> [[f64; 4]; 4]
+    ensures { λ r. ⌜ r ≡ systemOf s .jac x ⌝ }
+{
+    match s {
+        System4::Quartic(_, _, _, _) => quartic_jacobian(x),
+        System4::Peel(_, _, _, _) => peel_jacobian(x),
+    }
+}
+
+fn refine4(s: System4, x0: [f64; 4]) -> [f64; 4]
+    ensures { λ r. ⌜ r ≡ refineOf 4 (systemOf s) x0 ⌝ }
 {
     let mut x = x0;
-    let mut at = peel_at(b, c, d, e, x0);
+    let mut at = at4(s, x0);
     let mut k: usize = 0;
     while k < 8 {
         if is_settled(at.norm) {
             return x;
         }
-        let j = peel_jacobian(x);
+        let j = jacobian4(s, x);
         let trial = trial4(x, at, j);
         if !trial.ok {
             return x;
         }
         let next = trial.x;
-        let there = peel_at(b, c, d, e, next);
+        let there = at4(s, next);
         if no_less(at.norm, there.norm) {
             return x;
         }
@@ -351,6 +350,18 @@ pub fn refine_peel(b: f64, c: f64, d: f64, e: f64, x0: [f64; 4]) -> [f64; 4]
         k += 1;
     }
     x
+}
+
+pub fn refine_quartic(b: f64, c: f64, d: f64, e: f64, x0: [f64; 4]) -> [f64; 4]
+    ensures { λ r. ⌜ r ≡ refineOf 4 (quarticSystem b c d e) x0 ⌝ }
+{
+    refine4(System4::Quartic(b, c, d, e), x0)
+}
+
+pub fn refine_peel(b: f64, c: f64, d: f64, e: f64, x0: [f64; 4]) -> [f64; 4]
+    ensures { λ r. ⌜ r ≡ refineOf 4 (peelSystem b c d e) x0 ⌝ }
+{
+    refine4(System4::Peel(b, c, d, e), x0)
 }
 
 // ---- newton_cubic
