@@ -325,11 +325,13 @@ fn jacobian4(s: System4, x: [f64; 4]) -> [[f64; 4]; 4]
     }
 }
 
-fn refine4(s: System4, x0: [f64; 4]) -> [f64; 4]
+// From x0, with the equations there handed in: so at4 is called in one place, and costs no call.
+fn refine4(s: System4, at0: Weighed4, x0: [f64; 4]) -> [f64; 4]
+    requires { ⌜ at0 ≡ weigh4Of (systemOf s .res x0) (systemOf s .mag x0) ⌝ }
     ensures { λ r. ⌜ r ≡ refineOf 4 (systemOf s) x0 ⌝ }
 {
     let mut x = x0;
-    let mut at = at4(s, x0);
+    let mut at = at0;
     let mut k: usize = 0;
     while k < 8 {
         if is_settled(at.norm) {
@@ -355,13 +357,13 @@ fn refine4(s: System4, x0: [f64; 4]) -> [f64; 4]
 pub fn refine_quartic(b: f64, c: f64, d: f64, e: f64, x0: [f64; 4]) -> [f64; 4]
     ensures { λ r. ⌜ r ≡ refineOf 4 (quarticSystem b c d e) x0 ⌝ }
 {
-    refine4(System4::Quartic(b, c, d, e), x0)
+    refine4(System4::Quartic(b, c, d, e), quartic_at(b, c, d, e, x0), x0)
 }
 
 pub fn refine_peel(b: f64, c: f64, d: f64, e: f64, x0: [f64; 4]) -> [f64; 4]
     ensures { λ r. ⌜ r ≡ refineOf 4 (peelSystem b c d e) x0 ⌝ }
 {
-    refine4(System4::Peel(b, c, d, e), x0)
+    refine4(System4::Peel(b, c, d, e), peel_at(b, c, d, e, x0), x0)
 }
 
 // ---- newton_cubic

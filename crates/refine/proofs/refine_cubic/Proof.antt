@@ -1,59 +1,44 @@
--- `refine_cubic` is its definition: the turns left, from the present place, give the result. Assumes nothing.
-use mathlib.Core.Path.{_≡_, refl, sym, _∙_}
-use Prim.Native.Nat.{_-_, _≤_}
-use borrow.Author.Tests.{not-true, not-false}
-use Rattle.facts.specs.Turns.{turnsOf, turns-stop, turns-go, turns-end}
+-- `refine_cubic` is its definition: before each turn, the turns left give the result. Assumes nothing.
+use Prim.Native.Nat.{_-_}
 use Rattle.square.proofs.Steps.{no-step3, a-step3}
-use Rattle.refine.specs.Refine.{nextOf, refineOf}
-use Rattle.refine.specs.Systems.{cubicSystem, cubicResidualOf, cubicMagnitudeOf}
-use Rattle.refine.specs.Weighed.{weigh3Of}
-use Rattle.refine.proofs.Laws.{known3, next-settled, next-none, next-held, next-moved}
+use Rattle.refine.specs.Refine.{refineOf}
+use Rattle.refine.specs.Systems.{cubicSystem}
+use Rattle.refine.proofs.Laws.{Turn, known3, first-turn, after-turns, stop-settled, stop-stuck, stop-held, next-turn}
 use borrow.Author.Needs.{needs}
 use Rattle.refine.proofs.refine_cubic.Statement.{statement}
 use Rattle.refine.proofs.refine_cubic.Tie as tie
 
 abbrev Inv-loop : tie.InvT-loop
-Inv-loop b c d x₀ at₀ k₀ x at k = (k ≤ 8) × (at ≡ weigh3Of (cubicResidualOf b c d x) (cubicMagnitudeOf b c d x)) × (turnsOf (nextOf 3 (cubicSystem b c d)) (8 - k) x ≡ refineOf 3 (cubicSystem b c d) x₀)
+Inv-loop b c d x₀ at₀ k₀ x at k = Turn 3 (cubicSystem b c d) (refineOf 3 (cubicSystem b c d) x₀) x (at .w) (at .mag) (at .norm) k
 
 abbrev μ-loop : tie.MeasureT-loop
 μ-loop b c d x₀ at₀ k₀ x at k = 8 - k
 
 loop-holds : tie.Need-loop-holds Inv-loop μ-loop
-unfolding refineOf
-loop-holds c = (search needs, c .cubic-at .ensures, refl)
+loop-holds c = first-turn (known3 (c .cubic-at .ensures))
 
 returns : tie.Need-returns Inv-loop μ-loop
-returns c =
-    let l = c .before .before .before .loop in
-    let here = known3 (cubicSystem _ _ _) (l .inv .1) in
-    sym (turns-stop _ _ _ (next-settled here (sym (c .before .is-settled .ensures) ∙ c .if1 .taken))) ∙ l .inv .2
+returns c = stop-settled (c .before .before .before .loop .inv) (c .before .is-settled .ensures) (c .if1 .taken)
 
 returns-2 : tie.Need-returns-2 Inv-loop μ-loop
 returns-2 c =
-    let l = c .before .before .before .before .before .before .before .loop in
-    let here = known3 (cubicSystem _ _ _) (l .inv .1) in
-    let moving = sym (c .before .before .before .before .before .is-settled .ensures) ∙ c .before .before .before .before .if1 .left in
-    sym (turns-stop _ _ _ (next-none here moving (c .before .before .before .cubic-jacobian .ensures) (no-step3 _ (c .before .before .trial3 .ensures) (not-true _ (c .if2 .taken))))) ∙ l .inv .2
+    let p = c .before .before .before .before in
+    stop-stuck (p .before .before .before .loop .inv) (p .before .is-settled .ensures) (p .if1 .left) (c .before .before .before .cubic-jacobian .ensures) (no-step3 _ (c .before .before .trial3 .ensures) (c .if2 .taken))
 
 returns-3 : tie.Need-returns-3 Inv-loop μ-loop
 returns-3 c =
-    let l = c .before .before .before .before .before .before .before .before .before .before .before .loop in
-    let here = known3 (cubicSystem _ _ _) (l .inv .1) in
-    let moving = sym (c .before .before .before .before .before .before .before .before .before .is-settled .ensures) ∙ c .before .before .before .before .before .before .before .before .if1 .left in
-    let tries = a-step3 _ (c .before .before .before .before .before .before .trial3 .ensures) (not-false _ (c .before .before .before .before .if2 .left)) in
-    sym (turns-stop _ _ _ (next-held here moving (c .before .before .before .before .before .before .before .cubic-jacobian .ensures) tries (known3 _ (c .before .before .cubic-at2 .ensures)) (sym (c .before .no-less .ensures) ∙ c .if3 .taken))) ∙ l .inv .2
+    let q = c .before .before .before .before in
+    let p = q .before .before .before .before in
+    stop-held (p .before .before .before .loop .inv) (p .before .is-settled .ensures) (p .if1 .left) (q .before .before .before .cubic-jacobian .ensures) (a-step3 _ (q .before .before .trial3 .ensures) (q .if2 .left)) (known3 (c .before .before .cubic-at2 .ensures)) (c .before .no-less .ensures) (c .if3 .taken)
 
 loop-again : tie.Need-loop-again Inv-loop μ-loop
 loop-again c =
-    let l = c .before .before .before .before .before .before .before .before .before .before .before .loop in
-    let here = known3 (cubicSystem _ _ _) (l .inv .1) in
-    let moving = sym (c .before .before .before .before .before .before .before .before .before .is-settled .ensures) ∙ c .before .before .before .before .before .before .before .before .if1 .left in
-    let tries = a-step3 _ (c .before .before .before .before .before .before .trial3 .ensures) (not-false _ (c .before .before .before .before .if2 .left)) in
-    let moved = next-moved here moving (c .before .before .before .before .before .before .before .cubic-jacobian .ensures) tries (known3 _ (c .before .before .cubic-at2 .ensures)) (sym (c .before .no-less .ensures) ∙ c .if3 .left) in
-    (search needs, c .before .before .cubic-at2 .ensures, sym (turns-go _ 8 _ _ _ (search needs) moved) ∙ l .inv .2)
+    let q = c .before .before .before .before in
+    let p = q .before .before .before .before in
+    next-turn (p .before .before .before .loop .inv) (p .before .is-settled .ensures) (p .if1 .left) (q .before .before .before .cubic-jacobian .ensures) (a-step3 _ (q .before .before .trial3 .ensures) (q .if2 .left)) (known3 (c .before .before .cubic-at2 .ensures)) (c .before .no-less .ensures) (search needs) (c .if3 .left)
 
 returns-4 : tie.Need-returns-4 Inv-loop μ-loop
-returns-4 c = sym (turns-end _ 8 _ _ (search needs)) ∙ c .before .loop .inv .2
+returns-4 c = after-turns (c .before .loop .inv) (search needs)
 
 pub refine-cubic-spec : {M : Type 1} → statement M
 refine-cubic-spec =

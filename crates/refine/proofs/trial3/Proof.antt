@@ -1,7 +1,5 @@
 -- `trial3` is its definition, by what elimination gave. Assumes nothing.
-use mathlib.Core.Path.{refl, ap, sym, _∙_}
-use mathlib.Core.Option.{none}
-use borrow.Author.Tests.{not-true, not-false}
+use mathlib.Core.Path.{ap, sym, _∙_}
 use Rattle.square.specs.Step.{step3}
 use Rattle.square.proofs.Steps.{no-step3, a-step3}
 use Rattle.refine.proofs.Laws.{trial-none, trial-far, trial-there}
@@ -11,21 +9,20 @@ use Rattle.refine.proofs.trial3.Tie as tie
 
 returns : tie.Need-returns
 returns c =
-    let t = c .before .before .solve-square3 in
-    let none = no-step3 _ (t .ensures) (not-true _ (c .if1 .taken)) in
-    t .ensures ∙ ap step3 (none ∙ sym (trial-none 3 _ _ _ _ _ _ (c .before .before .before .weigh-rows3 .ensures) refl none))
+    let t = c .before .before in
+    t .solve-square3 .ensures ∙ ap step3 (sym (trial-none 3 _ _ _ _ _ (t .before .weigh-rows3 .ensures) (no-step3 _ (t .solve-square3 .ensures) (c .if1 .taken))))
 
 returns-2 : tie.Need-returns-2
 unfolding step3
 returns-2 c =
-    let step = a-step3 _ (c .before .before .before .before .before .before .solve-square3 .ensures) (not-false _ (c .before .before .before .before .if1 .left)) in
-    ap step3 (sym (trial-far 3 _ _ _ _ _ _ (c .before .before .before .before .before .before .before .weigh-rows3 .ensures) step _ refl (sym (c .before .all-finite .ensures) ∙ not-true _ (c .if2 .taken))))
+    let t = c .before .before .before .before .before .before in
+    ap step3 (sym (trial-far 3 _ _ _ _ _ (t .before .weigh-rows3 .ensures) _ (a-step3 _ (t .solve-square3 .ensures) (c .before .before .before .before .if1 .left)) (c .before .all-finite .ensures) (c .if2 .taken)))
 
 returns-3 : tie.Need-returns-3
 unfolding step3
 returns-3 c =
-    let step = a-step3 _ (c .before .before .before .before .before .before .solve-square3 .ensures) (not-false _ (c .before .before .before .before .if1 .left)) in
-    ap step3 (sym (trial-there 3 _ _ _ _ _ _ (c .before .before .before .before .before .before .before .weigh-rows3 .ensures) step _ refl (sym (c .before .all-finite .ensures) ∙ not-false _ (c .if2 .left))))
+    let t = c .before .before .before .before .before .before in
+    ap step3 (sym (trial-there 3 _ _ _ _ _ (t .before .weigh-rows3 .ensures) _ (a-step3 _ (t .solve-square3 .ensures) (c .before .before .before .before .if1 .left)) (c .before .all-finite .ensures) (c .if2 .left)))
 
 pub trial3-spec : {M : Type 1} → statement M
 trial3-spec =
