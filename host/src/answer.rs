@@ -1,6 +1,5 @@
 //! What is answered to a list.
 use crate::compare::bits;
-use crate::port::double;
 
 /// A place and its multiplicity.
 pub type Root = (f64, u32);
@@ -21,9 +20,9 @@ impl Answer {
     }
 
     /// From nine doubles of the port: how many roots, and four places with their multiplicities.
-    pub fn read(out: &[u8]) -> Answer {
-        let len = double(out, 0) as usize;
-        let root = std::array::from_fn(|k| (double(out, 2 * k + 1), double(out, 2 * k + 2) as u32));
+    pub fn read(out: &[f64]) -> Answer {
+        let len = out[0] as usize;
+        let root = std::array::from_fn(|k| (out[2 * k + 1], out[2 * k + 2] as u32));
         assert!(root[len..].iter().all(|r| r.0.to_bits() == 0 && r.1 == 0), "after the last");
         Answer { refusal: 0, len, root }
     }

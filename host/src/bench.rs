@@ -54,6 +54,13 @@ fn pass<T: Copy>(inputs: &[T], f: impl Fn(T) -> f64) -> f64 {
     start.elapsed().as_nanos() as f64
 }
 
+/// The sum of the N doubles that `fill` stores.
+fn sum<const N: usize>(fill: impl Fn(&mut [u8]) -> u64) -> f64 {
+    let mut out = [[0; 8]; N];
+    fill(out.as_flattened_mut());
+    out.into_iter().map(f64::from_le_bytes).sum()
+}
+
 fn row<T: Copy>(
     names: (&'static str, &'static str),
     aim: Aim,
@@ -75,31 +82,19 @@ fn roots(r: &mut Random) -> Vec<Row> {
 
 fn angles(r: &mut Random) -> Vec<Row> {
     let v: Vec<f64> = (0..VALUES).map(|_| 2.0 * r.unit() - 1.0).collect();
-    let pair = |v| {
-        let mut out = [0; 16];
-        port::leaf_third_angle(v, &mut out);
-        port::double(&out, 0) + port::double(&out, 1)
-    };
+    let pair = |v| sum::<2>(|out| port::leaf_third_angle(v, out));
     let both = |v: f64| {
         let (s, c) = (v.acos() / 3.0).sin_cos();
         s + c
     };
-    let cosine = |v: f64| (v.acos() / 3.0).cos();
-    vec![
-        row(("third_cos", "cos(acos/3)"), Aim::Open, &v, |v| port::leaf_third_cos(v), cosine),
-        row(("third_angle", "sin_cos(acos/3)"), Aim::Times(3.0), &v, pair, both),
-    ]
+    vec![row(("third_angle", "sin_cos(acos/3)"), Aim::Times(3.0), &v, pair, both)]
 }
 
 fn logarithms(r: &mut Random) -> Vec<Row> {
     let x: Vec<f64> = (0..VALUES).map(|_| 1e-3 + 2000.0 * r.unit()).collect();
     let fives: Vec<[u8; 40]> =
         x.chunks_exact(5).map(|a| port::bytes(a).try_into().unwrap()).collect();
-    let five = |a: [u8; 40]| {
-        let mut out = [0; 40];
-        port::leaf_log2_five(&a, &mut out);
-        (0..5).map(|i| port::double(&out, i)).sum()
-    };
+    let five = |a: [u8; 40]| sum::<5>(|out| port::leaf_log2_five(&a, out));
     let rust = |a: [u8; 40]| (0..5).map(|i| port::double(&a, i).log2()).sum();
     let mut by_five = row(("log2_five", "f64::log2"), Aim::Nanoseconds(20.0), &fives, five, rust);
     by_five.port /= 5.0;
@@ -134,32 +129,38 @@ fn rust_ldexp() -> (&'static str, fn(f64, i32) -> f64) {
     ("powi, once", |x, k| x * 2f64.powi(k))
 }
 
-/// Elimination and factors of polynomials with roots from -2 to 2. By the port a call gives one
-/// number of the answer, which it computes whole.
+/// Elimination and factors of polynomials with roots from -2 to 2.
 #[cfg(geomcore)]
 fn factors(r: &mut Random) -> Vec<Row> {
     use crate::polynomials::{monic, system};
+    use crate::port::exported;
     use reference::untouched::{poly, solve};
-    let systems: Vec<_> = (0..FACTORED).map(|_| system::<4>(r, 1)).collect();
-    let unknown = |(m, b, tol)| port::solve_square4_first(m, b, tol);
-    let solved = |(m, b, tol)| solve::solve_square(m, b, tol).map_or(0.0, |x: [f64; 4]| x[0]);
+    type System = ([[f64; 4]; 4], [f64; 4], f64);
+    let systems = (0..FACTORED).map(|_| system::<4>(r, 1));
+    let systems: Vec<_> = systems.map(|(m, b, tol)| ((m, b, tol), port::system4(m, b))).collect();
+    let unknowns = |((_, _, tol), bytes): (System, [u8; 160])| {
+        sum::<5>(|out| exported::solve_square4(&bytes, tol, out))
+    };
+    let solved = |((m, b, tol), _): (System, [u8; 160])| {
+        solve::solve_square(m, b, tol).map_or(0.0, |x: [f64; 4]| x.iter().sum())
+    };
     let cubics: Vec<_> = (0..FACTORED).map(|_| monic::<3>(r, 1)).collect();
-    let root = |[b, c, d]: [f64; 3]| port::cubic_factor_r(b, c, d);
+    let line = |[b, c, d]: [f64; 3]| sum::<3>(|out| exported::cubic_factor(b, c, d, out));
     let cubic = |[b, c, d]: [f64; 3]| {
         let (r, e, f) = poly::cubic_factor(b, c, d);
         r + e + f
     };
     let quartics: Vec<_> = (0..FACTORED).map(|_| monic::<4>(r, 1)).collect();
-    let al = |[b, c, d, e]: [f64; 4]| port::quartic_factor_al(b, c, d, e);
+    let pairs = |[b, c, d, e]: [f64; 4]| sum::<4>(|out| exported::quartic_factor(b, c, d, e, out));
     let quartic = |[b, c, d, e]: [f64; 4]| {
         let [(al, be), (ga, de)] = poly::quartic_factor(b, c, d, e);
         al + be + ga + de
     };
     let beside = "geomcore's";
     vec![
-        row(("solve_square, 4", beside), Aim::Open, &systems, unknown, solved),
-        row(("cubic_factor", beside), Aim::Open, &cubics, root, cubic),
-        row(("quartic_factor", beside), Aim::Open, &quartics, al, quartic),
+        row(("solve_square, 4", beside), Aim::Open, &systems, unknowns, solved),
+        row(("cubic_factor", beside), Aim::Open, &cubics, line, cubic),
+        row(("quartic_factor", beside), Aim::Open, &quartics, pairs, quartic),
     ]
 }
 
@@ -286,26 +287,25 @@ fn cranks(_: &mut Random) -> Vec<Row> {
     Vec::new()
 }
 
-/// Quadratics with two roots, one or none, from the coefficients to the first place.
+/// Quadratics with two roots, one or none, from the coefficients to the places.
 #[cfg(geomcore)]
 fn quadratics(r: &mut Random) -> Vec<Row> {
-    use crate::port::quadratics::{quadratic_centre, solve_quadratic_first};
+    use crate::port::exported::{quadratic_centre, solve_quadratic};
     use crate::quadratics::{TOL, quadratic};
     use reference::untouched::{Tolerance, equation};
     let tol = Tolerance { confusion: TOL, angular: TOL, parametric: TOL };
     let inputs: Vec<_> = (0..VALUES).map(|i| quadratic(r, [1, 3, 5][i % 3]).0).collect();
-    let first = |[a, b, c]: [f64; 3]| solve_quadratic_first(a, b, c, TOL, TOL);
+    let places = |[a, b, c]: [f64; 3]| sum::<3>(|out| solve_quadratic(a, b, c, TOL, TOL, out));
     let solved = |[a, b, c]: [f64; 3]| match equation::solve_quadratic(a, b, c, tol) {
-        equation::QuadraticSolution::Two(x, _)
-        | equation::QuadraticSolution::One(x)
-        | equation::QuadraticSolution::Linear(x) => x,
+        equation::QuadraticSolution::Two(x, y) => x + y,
+        equation::QuadraticSolution::One(x) | equation::QuadraticSolution::Linear(x) => x,
         _ => f64::NAN,
     };
     let centre = |[a, b, _]: [f64; 3]| quadratic_centre(a, b, TOL);
     let centred = |[a, b, _]: [f64; 3]| equation::quadratic_centre(a, b, tol);
     let beside = "geomcore's";
     vec![
-        row(("solve_quadratic", beside), Aim::Open, &inputs, first, solved),
+        row(("solve_quadratic", beside), Aim::Open, &inputs, places, solved),
         row(("quadratic_centre", beside), Aim::Open, &inputs, centre, centred),
     ]
 }

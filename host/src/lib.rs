@@ -30,6 +30,7 @@ pub mod hard;
 pub mod inputs;
 #[cfg(geomcore)]
 pub mod inquiries;
+pub mod lent;
 pub mod lister;
 pub mod lists;
 pub mod met;

@@ -1,8 +1,9 @@
 //! Evaluation by the port against the reference build.
 #![cfg(geomcore)]
-use host::compare::{bits, compare, say};
+use host::compare::compare;
+use host::lent::whole_or_nothing;
 use host::polynomials::{evaluated, every_kind, quadratics};
-use host::port;
+use host::port::{self, exported};
 use host::random::Random;
 use host::reference::patched::poly;
 
@@ -19,7 +20,7 @@ fn products() {
         [p[r.below(5) as usize], y]
     };
     let kinds = every_kind(&mut Random::new(201), EACH, factors);
-    let port = |[a, b]: [f64; 2]| [port::two_prod_prod(a, b), port::two_prod_err(a, b)];
+    let port = |[a, b]: [f64; 2]| port::two_prod(a, b);
     compare("two_prod", 201, &kinds, port, |[a, b]| pair(poly::two_prod(a, b)));
 }
 
@@ -52,17 +53,17 @@ fn derivatives() {
     compare("taylor", 204, &kinds, |(p, d, y)| port::taylor(p, d, y), rust);
 }
 
+/// Bytes that are too few, and degrees above 4: nothing is written.
 #[test]
-fn degrees_above_four() {
-    let p = [1.0, 2.0, 3.0, 4.0, 5.0];
-    let nan = bits(f64::NAN);
-    for d in [5, 6, 1 << 32, u64::MAX] {
-        let pairs = [port::value_slope, port::compensated, port::derivs12].map(|f| f(p, d, 2.0));
-        let all = pairs.into_iter().flatten().chain(port::taylor(p, d, 2.0));
-        assert!(all.map(bits).all(|n| n == nan), "degree {d}");
+fn refusals() {
+    whole_or_nothing("two_prod", 0, 16, |_, out| exported::two_prod(0.1, 0.3, out));
+    for d in [0, 1, 2, 3, 4, 5, 6, 1 << 32, u64::MAX] {
+        let size = |n| if d <= 4 { n } else { 0 };
+        let value = |p: &[u8], out: &mut [u8]| exported::value_slope(p, d, 2.0, out);
+        whole_or_nothing("value_slope", 40, size(16), value);
+        let value = |p: &[u8], out: &mut [u8]| exported::value_slope_compensated(p, d, 2.0, out);
+        whole_or_nothing("value_slope_compensated", 40, size(16), value);
+        whole_or_nothing("derivs12", 40, size(16), |p, out| exported::derivs12(p, d, 2.0, out));
+        whole_or_nothing("taylor", 40, size(40), |p, out| exported::taylor(p, d, 2.0, out));
     }
-    for k in [5, 6, 1 << 32, u64::MAX] {
-        assert_eq!(bits(port::taylor_at(1.0, 2.0, 3.0, 4.0, 5.0, 4, 2.0, k)), nan, "place {k}");
-    }
-    say("degrees and places above 4: NaN");
 }

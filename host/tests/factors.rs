@@ -1,8 +1,9 @@
 //! Factors of cubics and quartics by the port against the reference build.
 #![cfg(geomcore)]
-use host::compare::{bits, compare, say};
+use host::compare::{compare, say};
+use host::lent::whole_or_nothing;
 use host::polynomials::{every_kind, monic, polynomial, quadratics};
-use host::port;
+use host::port::{self, exported};
 use host::random::Random;
 use host::reference::patched::poly;
 
@@ -58,10 +59,14 @@ fn peeled() {
     compare("peel_root", 404, &kinds, |(a, y)| port::peel_root(a, y), rust);
 }
 
+/// Bytes that are too few: nothing is written.
 #[test]
-fn places_beyond() {
-    for k in [3, 4, 1 << 32, u64::MAX] {
-        let x = port::cubic_closed_form_at(-6.0, 11.0, -6.0, k);
-        assert_eq!(bits(x), bits(f64::NAN), "place {k}");
-    }
+fn refusals() {
+    let [b, c, d, e] = [-10.0, 35.0, -50.0, 24.0];
+    let closed = |_: &[u8], out: &mut [u8]| exported::cubic_closed_form(b, c, d, out);
+    whole_or_nothing("cubic_closed_form", 0, 32, closed);
+    whole_or_nothing("cubic_factor", 0, 24, |_, out| exported::cubic_factor(b, c, d, out));
+    whole_or_nothing("quartic_factor", 0, 32, |_, out| exported::quartic_factor(b, c, d, e, out));
+    whole_or_nothing("isolated_root", 0, 16, |_, out| exported::isolated_root(b, c, d, e, out));
+    whole_or_nothing("peel_root", 0, 32, |_, out| exported::peel_root(b, c, d, e, 1.0, out));
 }

@@ -69,7 +69,7 @@ fn line_by_port(record: &[u8]) -> String {
         b'c' => format!("cbrt {} {}", hex(x), hex(port::leaf_cbrt(x))),
         b'l' => format!("log2 {} {}", hex(x), hex(port::leaf_log2(x))),
         b'a' => {
-            let (c, s) = (port::leaf_third_cos(x), port::leaf_third_sin(x));
+            let (c, s) = port::third_angle(x);
             format!("third {} {} {}", hex(x), hex(c), hex(s))
         }
         b'd' => format!("ldexp {} {k} {}", hex(x), hex(port::leaf_ldexp(x, k))),

@@ -54,15 +54,7 @@ fn log2_five(a: [f64; 5]) -> [f64; 5] {
 #[test]
 fn third_angle() {
     let kinds = inputs::third(&mut Random::new(104));
-    let single = |v| (port::leaf_third_cos(v), port::leaf_third_sin(v));
-    compare("third_cos and third_sin", 104, &kinds, single, exact::third_angle);
-    compare("third_angle", 104, &kinds, third_pair, exact::third_angle);
-}
-
-fn third_pair(v: f64) -> (f64, f64) {
-    let mut out = [0; 16];
-    assert_eq!(port::leaf_third_angle(v, &mut out), 16);
-    (port::double(&out, 0), port::double(&out, 1))
+    compare("third_angle", 104, &kinds, port::third_angle, exact::third_angle);
 }
 
 #[test]

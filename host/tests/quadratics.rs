@@ -2,7 +2,9 @@
 //! entries.
 #![cfg(geomcore)]
 use host::compare::{Kind, bits, compare, kind, say};
+use host::lent::whole_or_nothing;
 use host::polynomials::every_kind;
+use host::port::exported;
 use host::port::quadratics::{self as port, Solution};
 use host::quadratics::{Quadratic, TOL, crank, quadratic, solution};
 use host::random::Random;
@@ -142,7 +144,23 @@ fn inputs_that_show_a_mistake() {
     assert_eq!(port::crank_front([0.0, 0.0, 0.0, 0.0, 1.0]).1.0, 7);
     assert_eq!(port::crank_front([1.0, 0.0, 0.0, 0.0, 0.0]).1.0, 6);
     assert_eq!(port::crank_front([0.0, 0.0, 1.0, 0.0, 0.0]).1.0, 4);
-    for i in [5, 6, 1 << 32, u64::MAX] {
-        assert_eq!(bits(port::crank_front_at(0.0, 0.0, 1.0, 0.0, 0.0, i)), bits(f64::NAN));
+}
+
+/// Bytes that are too few: nothing is written, and a refusal is said in any room.
+#[test]
+fn refusals() {
+    let said = |a, out: &mut [u8]| exported::quadratic(a, -3.0, 2.0, TOL, TOL, out);
+    whole_or_nothing("quadratic", 0, 24, |_, out| said(1.0, out));
+    let solved = |_: &[u8], out: &mut [u8]| exported::solve_quadratic(1.0, 0.0, 1.0, TOL, TOL, out);
+    whole_or_nothing("solve_quadratic", 0, 24, solved);
+    whole_or_nothing("shifted", 0, 24, |_, out| exported::shifted(1, 0.5, 0.0, 2.0, out));
+    let touching = |_: &[u8], out: &mut [u8]| exported::touching_at(0, 0.5, 1.0, 0.75, true, out);
+    whole_or_nothing("touching_at", 0, 24, touching);
+    let front = |e, out: &mut [u8]| exported::crank_front(0.0, 0.0, 1.0, 0.0, e, out);
+    whole_or_nothing("crank_front", 0, 48, |_, out| front(0.5, out));
+    for room in 0..=64 {
+        let mut out = vec![0x5A; room];
+        assert_eq!((said(f64::NAN, &mut out), front(f64::NAN, &mut out)), (1, 1));
+        assert!(out.iter().all(|&byte| byte == 0x5A), "room for {room}");
     }
 }

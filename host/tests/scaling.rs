@@ -1,7 +1,9 @@
 //! Scaling and gaps by the port against the reference build.
 #![cfg(geomcore)]
 use host::compare::{compare_made, say};
+use host::lent::whole_or_nothing;
 use host::lists::{KINDS, List, list, steps};
+use host::port::exported;
 use host::random::Random;
 use host::reference::patched::poly::{self, Scaled};
 use host::tally::Tally;
@@ -218,29 +220,15 @@ fn factored_at_depths() {
     assert!(ways.iter().all(|way| way.1 > 0), "factorize at depths: {ways:?}");
 }
 
-type Export = fn(&[u8], u64, &mut [u8]) -> u64;
-
-/// Slices that are too short, and degrees above 4: nothing is written.
+/// Bytes that are too few, and degrees above 4: nothing is written.
 #[test]
 fn refusals() {
-    let a = port::bytes(&[1.0, 2.0, -3.0, 4.0, 5.0, 6.0]);
-    let exports: [(Export, usize); 3] = [
-        (port::scaled_new_bytes, 144),
-        (port::magnitude_split_bytes, 24),
-        (|a, d, out| port::factorize_bytes(a, d, 0, out), 80),
-    ];
-    for (export, size) in exports {
-        let before: Vec<u8> = (0..200).map(|i| i as u8 ^ 0x5A).collect();
-        for (from, d, room) in (0..=48)
-            .flat_map(|n| [0, 4, 5, u64::MAX].map(|d| (n, d, 200)))
-            .chain((0..=200).map(|room| (40, 3, room)))
-        {
-            let mut out = before.clone();
-            let stored = export(&a[..from], d, &mut out[..room]);
-            let whole = from >= 40 && d <= 4 && room >= size;
-            assert_eq!(stored, if whole { size as u64 } else { 0 }, "{from} bytes, {d}, {room}");
-            let kept = if whole { size } else { 0 };
-            assert_eq!(out[kept..], before[kept..], "{from} bytes, degree {d}, room {room}");
-        }
+    for d in [0, 3, 4, 5, u64::MAX] {
+        let size = |n| if d <= 4 { n } else { 0 };
+        whole_or_nothing("Scaled::new", 40, size(144), |a, out| exported::scaled_new(a, d, out));
+        let split = |lg: &[u8], out: &mut [u8]| exported::magnitude_split(lg, d, out);
+        whole_or_nothing("magnitude_split", 40, size(24), split);
+        let factors = |a: &[u8], out: &mut [u8]| exported::factorize(a, d, 0, out);
+        whole_or_nothing("factorize", 40, size(80), factors);
     }
 }

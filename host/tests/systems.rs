@@ -1,8 +1,9 @@
 //! Square systems and their refinement by the port against the reference build.
 #![cfg(geomcore)]
 use host::compare::{Kind, Same, Shown, bits, compare, say};
+use host::lent::whole_or_nothing;
 use host::polynomials::{every_kind, polynomial, refined, system};
-use host::port;
+use host::port::{self, exported};
 use host::random::Random;
 use host::reference::patched::{poly, solve};
 
@@ -40,14 +41,18 @@ fn size_four() {
     solved(302, port::solve_square4);
 }
 
+/// Bytes that are too few: nothing is written.
 #[test]
-fn places_beyond() {
-    for k in [3, 4, 1 << 32, u64::MAX] {
-        let x = port::solve_square3_at(
-            1.0, 0.0, 0.0, 0.0, 1.0, 0.0, 0.0, 0.0, 1.0, 5.0, 6.0, 7.0, 0.0, k,
-        );
-        assert_eq!(bits(x), bits(f64::NAN), "place {k}");
-    }
+fn refusals() {
+    whole_or_nothing("size 3", 96, 32, |s, out| exported::solve_square3(s, 0.0, out));
+    whole_or_nothing("size 4", 160, 40, |s, out| exported::solve_square4(s, 0.0, out));
+    let [b, c, d, e] = [-10.0, 35.0, -50.0, 24.0];
+    let cubic = |x: &[u8], out: &mut [u8]| exported::refine_cubic(b, c, d, x, out);
+    whole_or_nothing("refine, cubic", 24, 24, cubic);
+    let quartic = |x: &[u8], out: &mut [u8]| exported::refine_quartic(b, c, d, e, x, out);
+    whole_or_nothing("refine, quartic", 32, 32, quartic);
+    let peel = |x: &[u8], out: &mut [u8]| exported::refine_peel(b, c, d, e, x, out);
+    whole_or_nothing("refine, peel", 32, 32, peel);
 }
 
 fn cubic_rust(([b, c, d], x): ([f64; 3], [f64; 3])) -> [f64; 3] {

@@ -1,17 +1,16 @@
 -- What an answer to doubles in lent bytes says and stores.
 -- Assumes nothing.
 use mathlib.Core.Path.{_≡_}
-use mathlib.Core.Bool.{true, false}
-use mathlib.Core.List.{List}
+use mathlib.Core.Bool.{Bool, true, false}
+use mathlib.Core.List.{List, []}
 use Prim.Native.Nat.{ℕ, _*_, _/_, _<_, _≤_}
 use lib.Dec.{ltb}
 use lib.ListN.{length}
-use lib.Seq.{sets}
 use lib.Ieee.{Float}
 use borrow.Author.Tests.{lt-ltb, le-ltb}
-use Rattle.lent.specs.Bytes.{whole}
-use Rattle.exports.specs.Lists.{notDoubles, bytesOr, saysOr}
-use Rattle.lent.proofs.Whole.{Answered, nothing}
+use Rattle.lent.specs.Bytes.{unless, Answered}
+use Rattle.exports.specs.Lists.{notDoubles}
+use Rattle.lent.proofs.Whole.{nothing, answered-as, is-other, is-given}
 
 -- ---- whether the bytes are doubles
 module _ (s : List ℕ) where
@@ -23,15 +22,10 @@ module _ (s : List ℕ) where
   unfolding notDoubles
   whole-doubles h = simp (le-ltb _ _ h)
 
--- of the bytes s, an answer xs that is refused under n, what is said, and the bytes m left where l were
-abbrev pub Said : List ℕ → ℕ → List Float → List ℕ → ℕ → List ℕ → Type 0
-Said s n xs l r m = (r ≡ saysOr s n xs (length l)) × (m ≡ sets l 0 (whole (bytesOr s n xs) (length l)))
+-- ---- what is said of an answer ys that is refused under k, and stored: by whether they are
+module _ (k : ℕ) (ys : List Float) (l : List ℕ) {p b : Bool} (e : b ≡ p) where
+  pub no-doubles : b ≡ true → Answered (unless 0 p k) (unless [] p ys) l 0 l
+  no-doubles t = answered-as (is-other 0 k e t) (is-other [] ys e t) (nothing l)
 
-module _ (s : List ℕ) (n : ℕ) (xs : List Float) (l : List ℕ) where
-  pub no-doubles : notDoubles s ≡ true → Said s n xs l 0 l
-  unfolding saysOr bytesOr
-  no-doubles h = (simp h, nothing (bytesOr s n xs) l (simp h) .1)
-
-  pub of-doubles : (r : ℕ) (m : List ℕ) → notDoubles s ≡ false → Answered n xs l r m → Said s n xs l r m
-  unfolding saysOr bytesOr
-  of-doubles r m h w = simp h w
+  pub of-doubles : {n r : ℕ} {xs : List Float} {m : List ℕ} → b ≡ false → n ≡ k → xs ≡ ys → Answered n xs l r m → Answered (unless 0 p k) (unless [] p ys) l r m
+  of-doubles t h g w = answered-as (is-given 0 k e t h) (is-given [] ys e t g) w

@@ -1,7 +1,7 @@
--- What the exports below the list answer, by what their tests found; and that counts and multiplicities stay within theirs.
+-- What the exports below the list are handed, and that counts and multiplicities stay within theirs.
 -- Assumes nothing.
-use mathlib.Core.Path.{_≡_, refl, sym, ap, subst⁻¹, _∙_}
-use mathlib.Core.Bool.{Bool, true, false, _||_}
+use mathlib.Core.Path.{_≡_, refl, sym, subst⁻¹, _∙_}
+use mathlib.Core.Bool.{Bool, false, _||_}
 use mathlib.Core.List.{List, [], _∷_}
 use Prim.Native.Nat.{ℕ, zero, suc, _^_, _≤_, _<_}
 use native.Mathlib.Omega.{arith}
@@ -9,9 +9,7 @@ use borrow.Author.Tests.{ltb-false}
 use lib.Dec.{ltb}
 use lib.ListN.{length, take}
 use lib.Ieee.{Float}
-use Rattle.facts.specs.Cond.{if-taken, if-left}
 use Rattle.scaled.specs.declared.Scaled.{Scaled}
-use Rattle.scaled.specs.Scaled.{scaledOf}
 use Rattle.roots.specs.declared.RealRoot.{RealRoot}
 use Rattle.roots.specs.declared.Roots.{Roots}
 use Rattle.roots.specs.declared.Pairs.{Pairs}
@@ -22,40 +20,15 @@ use Rattle.band.specs.declared.Found.{Found}
 use Rattle.band.specs.Quadratic.{Factor, double, apart, complex, quadraticOf, pushFactorIn, pushQuadraticIn}
 use Rattle.finish.specs.Finish.{finishOf}
 use Rattle.finish.proofs.Counts.{finish-counts}
-use Rattle.lent.specs.Bytes.{doublesBytes, fiveAt, lacksFive}
-use Rattle.lent.proofs.Five.{none-holds, no-five, is-five}
-use Rattle.exports.specs.Clustering.{polyOr, candidateAt, candidatesAt, pairsAt, lacksOf, polyBytes}
+use Rattle.lent.proofs.Five.{none-holds}
+use Rattle.exports.specs.Clustering.{candidateAt, candidatesAt, pairsAt, lacksOf}
 
--- ---- the polynomial
-module _ {A : Type 0} (other : A) (f : Scaled → A) (a : List ℕ) (d : ℕ) {b : Bool} (e : b ≡ lacksFive a d) where
-  pub is-other : b ≡ true → other ≡ polyOr other f a d
-  unfolding polyOr
-  is-other t = no-five a d e other _ t
-
-  pub is-of : {s : Scaled} {r : A} → b ≡ false → s ≡ scaledOf (fiveAt a) d → r ≡ f s → r ≡ polyOr other f a d
-  unfolding polyOr
-  is-of t h k = is-five a d e other _ t refl (k ∙ ap f h)
-
--- ---- the bytes
 pub holding : (c : List ℕ) (size n m : ℕ) {b : Bool} → b ≡ lacksOf c size n m → b ≡ false → (size ≤ length c) × ((n ≤ 4) × (m ≤ 2))
 unfolding lacksOf
 holding c size n m e t =
     let h = none-holds (ltb (length c) size) (ltb 4 n || ltb 2 m) (sym e ∙ t) in
     let k = none-holds (ltb 4 n) (ltb 2 m) (h .1) in
     (ltb-false (length c) size (h .0), (ltb-false 4 n (k .0), ltb-false 2 m (k .1)))
-
-module _ (f : Scaled → List Float) (a : List ℕ) (d : ℕ) (l : Bool) {b : Bool} (e : b ≡ lacksFive a d) where
-  pub refused-bytes : b ≡ true → polyBytes f a d l ≡ []
-  unfolding polyBytes
-  refused-bytes t = sym (is-other [] _ a d e t)
-
-  pub lacking-bytes : {k : Bool} → b ≡ false → k ≡ l → k ≡ true → polyBytes f a d l ≡ []
-  unfolding polyBytes
-  lacking-bytes t w h = sym (is-of [] _ a d e t refl (if-taken [] _ (sym w ∙ h) refl))
-
-  pub held-bytes : {k : Bool} {s : Scaled} {xs : List Float} → b ≡ false → k ≡ l → k ≡ false → s ≡ scaledOf (fiveAt a) d → xs ≡ f s → doublesBytes xs ≡ polyBytes f a d l
-  unfolding polyBytes
-  held-bytes t w h p x = is-of [] _ a d e t p (if-left [] _ (sym w ∙ h) (ap doublesBytes x))
 
 -- ---- candidates
 pub four-candidates : (c : List ℕ) (n : ℕ) {p q r s : RealRoot} → p ≡ candidateAt c 0 → q ≡ candidateAt c 1 → r ≡ candidateAt c 2 → s ≡ candidateAt c 3

@@ -1,5 +1,5 @@
 -- What the exports below the list answer. Definitions only.
-use mathlib.Core.Bool.{Bool, cond, _||_}
+use mathlib.Core.Bool.{Bool, _||_}
 use mathlib.Core.List.{List, [], _∷_, _++_}
 use Prim.Native.Nat.{ℕ, _+_, _*_}
 use lib.Dec.{ltb}
@@ -19,13 +19,13 @@ use Rattle.band.specs.declared.TurningPoint.the-variants.{At, None}
 use Rattle.band.specs.declared.Found.{Found}
 use Rattle.band.specs.Quadratic.{pushQuadraticIn}
 use Rattle.finish.specs.Finish.{finishOf}
-use Rattle.lent.specs.Bytes.{doublesBytes, fiveOr}
+use Rattle.lent.specs.Bytes.{fiveAt, lacksFive, unless}
 use Rattle.lent.specs.Numbers.{number}
 use Rattle.exports.specs.Lists.{rootNumbers}
 
--- f of the polynomial with five doubles as coefficients and the degree d; `other` where they are lacking
-unfoldable pub polyOr : {A : Type 0} → A → (Scaled → A) → List ℕ → ℕ → A
-polyOr other f a d = fiveOr other (λ x d. f (scaledOf x d)) a d
+-- the polynomial with five doubles as coefficients and the degree d
+abbrev pub polyAt : List ℕ → ℕ → Scaled
+polyAt a d = scaledOf (fiveAt a) d
 
 -- the place of a turning point
 unfoldable pub turningOrNan : TurningPoint → Float
@@ -52,18 +52,17 @@ foundNumbers s =
     let at : ℕ → Pair = λ i. getD (s .pairs .pair) i blankPair in
     rootNumbers (s .roots) ++ (number (s .pairs .len) ∷ at 0 .centre ∷ at 0 .half ∷ at 1 .centre ∷ at 1 .half ∷ [])
 
--- ---- the bytes of an answer: nothing where there is no polynomial, or where c lacks what is asked for
+-- ---- the numbers of an answer: none where there is no polynomial, or where c lacks what is asked for
 -- fewer bytes than its size, more than four candidates, or more than two pairs
 unfoldable pub lacksOf : List ℕ → ℕ → ℕ → ℕ → Bool
 lacksOf c size n m = ltb (length c) size || (ltb 4 n || ltb 2 m)
 
-unfoldable pub polyBytes : (Scaled → List Float) → List ℕ → ℕ → Bool → List ℕ
-polyBytes f a d lacking = polyOr [] (λ p. cond lacking [] (doublesBytes (f p))) a d
-
 -- push_quadratic, on n candidates and m pairs
-abbrev pub quadraticBytes : List ℕ → ℕ → Float → Float → Float → List ℕ → ℕ → ℕ → List ℕ
-quadraticBytes a d al be tol c n m = polyBytes (λ p. foundNumbers (pushQuadraticIn p al be tol (candidatesAt c n) (pairsAt c m))) a d (lacksOf c 68 n m)
+abbrev pub pushedNumbers : List ℕ → ℕ → Float → Float → Float → List ℕ → ℕ → ℕ → List Float
+pushedNumbers a d al be tol c n m =
+    unless [] (lacksFive a d) (unless [] (lacksOf c 68 n m) (foundNumbers (pushQuadraticIn (polyAt a d) al be tol (candidatesAt c n) (pairsAt c m))))
 
 -- finish, of n candidates
-abbrev pub finishBytes : List ℕ → ℕ → List ℕ → ℕ → Float → List ℕ
-finishBytes a d c n tol = polyBytes (λ p. rootNumbers (rootsOf (finishOf p (listOf (candidatesAt c n)) tol))) a d (lacksOf c 36 n 0)
+abbrev pub finishedNumbers : List ℕ → ℕ → List ℕ → ℕ → Float → List Float
+finishedNumbers a d c n tol =
+    unless [] (lacksFive a d) (unless [] (lacksOf c 36 n 0) (rootNumbers (rootsOf (finishOf (polyAt a d) (listOf (candidatesAt c n)) tol))))

@@ -1,20 +1,19 @@
 -- What the export for inquiries stores, and its answer. Definitions only.
-use mathlib.Core.Bool.{Bool, cond, not}
+use mathlib.Core.Bool.{Bool, not}
 use mathlib.Core.List.{List, [], _∷_}
 use Prim.Native.Nat.{ℕ, _/_}
 use lib.Dec.{eqb}
 use lib.ListN.{length}
 use lib.Ieee.{Float}
-use Rattle.float.specs.Literals.{zero64, one64}
 use Rattle.roots.specs.declared.Roots.{Roots}
 use Rattle.inquiry.specs.declared.Inquiry.{Inquiry}
 use Rattle.inquiry.specs.declared.Started.{Started}
 use Rattle.inquiry.specs.declared.Replied.{Replied}
 use Rattle.inquiry.specs.Inquiry.{askedOf, repliedOf}
 use Rattle.inquiry.specs.Start.{startOf}
-use Rattle.lent.specs.Bytes.{f64sAt}
-use Rattle.lent.specs.Numbers.{number}
-use Rattle.exports.specs.Lists.{rootNumbers, bytesOr, saysOr}
+use Rattle.lent.specs.Bytes.{f64sAt, unless}
+use Rattle.lent.specs.Numbers.{number, flagOf}
+use Rattle.exports.specs.Lists.{rootNumbers, notDoubles}
 
 -- a reply's byte: 0 is no, every other one yes
 abbrev pub replyAt : ℕ → Bool
@@ -28,7 +27,7 @@ module _ {A : Type 0} where
 
 -- the last reply's number, 4 from the first refused one on; whether there is a question, its place, and the list
 unfoldable pub shownNumbers : ℕ → Bool → Float → Roots → List Float
-shownNumbers n asks place list = number n ∷ cond asks one64 zero64 ∷ place ∷ rootNumbers list
+shownNumbers n asks place list = number n ∷ flagOf asks ∷ place ∷ rootNumbers list
 
 -- ---- lists
 abbrev pub fresh : Inquiry → Replied
@@ -48,9 +47,9 @@ inquiryNumbers p = let a = askedOf (p .inquiry) in shownNumbers (p .number) (a .
 unfoldable pub startAt : List ℕ → Float → Started
 startAt s tol = startOf (f64sAt (length s / 8) s 0) tol
 
--- what is stored, and what is said where so many bytes are lent
-abbrev pub inquiryBytes : List ℕ → Float → List ℕ → List ℕ
-inquiryBytes s tol rs = let q = startAt s tol in bytesOr s (q .number) (inquiryNumbers (fedAll rs (q .inquiry)))
+-- the refusal of its start, and what it shows then: 0 and nothing where the bytes are no doubles
+abbrev pub inquiryRefusal : List ℕ → Float → ℕ
+inquiryRefusal s tol = unless 0 (notDoubles s) (startAt s tol .number)
 
-abbrev pub inquirySays : List ℕ → Float → List ℕ → ℕ → ℕ
-inquirySays s tol rs lent = let q = startAt s tol in saysOr s (q .number) (inquiryNumbers (fedAll rs (q .inquiry))) lent
+abbrev pub shownAt : List ℕ → Float → List ℕ → List Float
+shownAt s tol rs = unless [] (notDoubles s) (inquiryNumbers (fedAll rs (startAt s tol .inquiry)))

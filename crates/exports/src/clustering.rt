@@ -4,16 +4,14 @@ ghost use mathlib.Core.Path.{_≡_};
 ghost use mathlib.Core.Bool.{false};
 ghost use Prim.Native.Nat.{_^_, _≤_, _<_};
 ghost use lib.ListN.{length};
-ghost use lib.Seq.{sets};
 ghost use lib.Ieee.{nan};
-ghost use Rattle.scaled.specs.Scaled.{scaledOf};
 ghost use Rattle.roots.specs.Roots.{listOf};
 ghost use Rattle.roots.specs.Listed.{multiplicities, Fits, PairsFit};
 ghost use Rattle.band.specs.Band.{noiseOf, bandOf, withinBandOf};
 ghost use Rattle.band.specs.Critical.{criticalPointOf, extremumOf};
 ghost use Rattle.polish.specs.Polish.{polishOf};
-ghost use Rattle.lent.specs.Bytes.{whole, fiveAt};
-ghost use Rattle.exports.specs.Clustering.{polyOr, turningOrNan, candidateAt, lacksOf, candidatesAt, pairsAt, foundNumbers, quadraticBytes, finishBytes};
+ghost use Rattle.lent.specs.Bytes.{lacksFive, unless, Stored};
+ghost use Rattle.exports.specs.Clustering.{polyAt, turningOrNan, candidateAt, lacksOf, candidatesAt, pairsAt, foundNumbers, pushedNumbers, finishedNumbers};
 use crate::lists::root_numbers;
 use lent::five_at;
 use lent::lacks_five;
@@ -21,14 +19,14 @@ use lent::store;
 
 fn poly_at(a: &[u8], d: u64) -> scaled::Scaled
     requires { ⌜ 40 ≤ length (now a) ⌝ ∗ ⌜ d ≤ 4 ⌝ }
-    ensures { λ r. ⌜ (r ≡ scaledOf (fiveAt (now (a .entry))) d) × (r .d ≤ 4) ⌝ }
+    ensures { λ r. ⌜ (r ≡ polyAt (now (a .entry)) d) × (r .d ≤ 4) ⌝ }
 {
     scaled::Scaled::new(five_at(a), d as usize)
 }
 
 #[no_mangle]
 pub extern "C" fn noise(a: &[u8], d: u64, y: f64) -> f64
-    ensures { λ r. ⌜ r ≡ polyOr nan (λ p. noiseOf p y) (now (a .entry)) d ⌝ }
+    ensures { λ r. ⌜ r ≡ unless nan (lacksFive (now (a .entry)) d) (noiseOf (polyAt (now (a .entry)) d) y) ⌝ }
 {
     if lacks_five(a, d) {
         return 0.0 / 0.0;
@@ -38,7 +36,7 @@ pub extern "C" fn noise(a: &[u8], d: u64, y: f64) -> f64
 
 #[no_mangle]
 pub extern "C" fn band(a: &[u8], d: u64, y: f64, tol: f64) -> f64
-    ensures { λ r. ⌜ r ≡ polyOr nan (λ p. bandOf p y tol) (now (a .entry)) d ⌝ }
+    ensures { λ r. ⌜ r ≡ unless nan (lacksFive (now (a .entry)) d) (bandOf (polyAt (now (a .entry)) d) y tol) ⌝ }
 {
     if lacks_five(a, d) {
         return 0.0 / 0.0;
@@ -48,7 +46,7 @@ pub extern "C" fn band(a: &[u8], d: u64, y: f64, tol: f64) -> f64
 
 #[no_mangle]
 pub extern "C" fn within_band(a: &[u8], d: u64, half: f64, y: f64, tol: f64) -> bool
-    ensures { λ r. ⌜ r ≡ polyOr false (λ p. withinBandOf p half y tol) (now (a .entry)) d ⌝ }
+    ensures { λ r. ⌜ r ≡ unless false (lacksFive (now (a .entry)) d) (withinBandOf (polyAt (now (a .entry)) d) half y tol) ⌝ }
 {
     if lacks_five(a, d) {
         return false;
@@ -58,7 +56,7 @@ pub extern "C" fn within_band(a: &[u8], d: u64, half: f64, y: f64, tol: f64) -> 
 
 #[no_mangle]
 pub extern "C" fn critical_point(a: &[u8], d: u64, y: f64, lo: f64, hi: f64) -> f64
-    ensures { λ r. ⌜ r ≡ polyOr nan (λ p. criticalPointOf p y lo hi) (now (a .entry)) d ⌝ }
+    ensures { λ r. ⌜ r ≡ unless nan (lacksFive (now (a .entry)) d) (criticalPointOf (polyAt (now (a .entry)) d) y lo hi) ⌝ }
 {
     if lacks_five(a, d) {
         return 0.0 / 0.0;
@@ -69,7 +67,7 @@ pub extern "C" fn critical_point(a: &[u8], d: u64, y: f64, lo: f64, hi: f64) -> 
 // The place, NaN where there is none.
 #[no_mangle]
 pub extern "C" fn extremum(a: &[u8], d: u64, y: f64, lo: f64, hi: f64, tol: f64) -> f64
-    ensures { λ r. ⌜ r ≡ polyOr nan (λ p. turningOrNan (extremumOf p y lo hi tol)) (now (a .entry)) d ⌝ }
+    ensures { λ r. ⌜ r ≡ unless nan (lacksFive (now (a .entry)) d) (turningOrNan (extremumOf (polyAt (now (a .entry)) d) y lo hi tol)) ⌝ }
 {
     if lacks_five(a, d) {
         return 0.0 / 0.0;
@@ -83,7 +81,7 @@ pub extern "C" fn extremum(a: &[u8], d: u64, y: f64, lo: f64, hi: f64, tol: f64)
 
 #[no_mangle]
 pub extern "C" fn polish(a: &[u8], d: u64, y: f64, gap: f64) -> f64
-    ensures { λ r. ⌜ r ≡ polyOr nan (λ p. polishOf 4 (p .f) (p .d) gap y) (now (a .entry)) d ⌝ }
+    ensures { λ r. ⌜ r ≡ unless nan (lacksFive (now (a .entry)) d) (polishOf 4 (polyAt (now (a .entry)) d .f) (polyAt (now (a .entry)) d .d) gap y) ⌝ }
 {
     if lacks_five(a, d) {
         return 0.0 / 0.0;
@@ -195,8 +193,7 @@ pub extern "C" fn push_quadratic(
     m: u64,
     out: &mut [u8],
 ) -> u64
-    ensures { λ r. ⌜ r ≡ length (whole (quadraticBytes (now (a .entry)) d al be tol (now (c .entry)) n m) (length (now (out .entry)))) ⌝ }
-    ensures { λ _. ⌜ now (out .exit) ≡ sets (now (out .entry)) 0 (whole (quadraticBytes (now (a .entry)) d al be tol (now (c .entry)) n m) (length (now (out .entry)))) ⌝ }
+    ensures { λ r. ⌜ Stored (pushedNumbers (now (a .entry)) d al be tol (now (c .entry)) n m) (now (out .entry)) r (now (out .exit)) ⌝ }
 {
     if lacks_five(a, d) {
         return 0;
@@ -218,8 +215,7 @@ pub extern "C" fn push_quadratic(
 // The finished roots of n candidates. Nothing is stored where c is short or n above 4.
 #[no_mangle]
 pub extern "C" fn finish(a: &[u8], d: u64, c: &[u8], n: u64, tol: f64, out: &mut [u8]) -> u64
-    ensures { λ r. ⌜ r ≡ length (whole (finishBytes (now (a .entry)) d (now (c .entry)) n tol) (length (now (out .entry)))) ⌝ }
-    ensures { λ _. ⌜ now (out .exit) ≡ sets (now (out .entry)) 0 (whole (finishBytes (now (a .entry)) d (now (c .entry)) n tol) (length (now (out .entry)))) ⌝ }
+    ensures { λ r. ⌜ Stored (finishedNumbers (now (a .entry)) d (now (c .entry)) n tol) (now (out .entry)) r (now (out .exit)) ⌝ }
 {
     if lacks_five(a, d) {
         return 0;

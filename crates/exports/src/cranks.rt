@@ -1,10 +1,8 @@
 // Crank equations in lent bytes, from the start: the replies so far in, one byte each, 0 for no; k and then what the inquiry shows out, as for a list, thirteen doubles.
 // The answer is how many bytes are stored, 104, or the number of the refused start, or 0 where those lent are too few: nothing is stored then.
 ghost use mathlib.Core.Path.{_≡_};
-ghost use lib.ListN.{length};
-ghost use lib.Seq.{sets};
 ghost use Rattle.crank.specs.Crank.{crankStartOf};
-ghost use Rattle.lent.specs.Bytes.{whole, unlessRefused, refusalOr};
+ghost use Rattle.lent.specs.Bytes.{Answered};
 ghost use Rattle.exports.specs.Cranks.{crankFedAll, crankNumbers, shownAfter};
 use crate::inquiries::shown_numbers;
 use crank::CrankInquiry;
@@ -59,10 +57,7 @@ pub extern "C" fn crank_inquire(
     replies: &[u8],
     out: &mut [u8],
 ) -> u64
-    ensures { λ r. ⌜ r
-        ≡ refusalOr (crankStartOf confusion a2 b2 c1 d1 e .number) (shownAfter (now (replies .entry)) (crankStartOf confusion a2 b2 c1 d1 e)) (length (now (out .entry))) ⌝ }
-    ensures { λ _. ⌜ now (out .exit)
-        ≡ sets (now (out .entry)) 0 (whole (unlessRefused (crankStartOf confusion a2 b2 c1 d1 e .number) (shownAfter (now (replies .entry)) (crankStartOf confusion a2 b2 c1 d1 e))) (length (now (out .entry)))) ⌝ }
+    ensures { λ r. ⌜ Answered (crankStartOf confusion a2 b2 c1 d1 e .number) (shownAfter (now (replies .entry)) (crankStartOf confusion a2 b2 c1 d1 e)) (now (out .entry)) r (now (out .exit)) ⌝ }
 {
     let s = crank::start(confusion, a2, b2, c1, d1, e);
     let p = crank_fed(s.crank, replies);

@@ -2,19 +2,16 @@
 // 0, or 4 where a reply was refused; 1 and the place where it asks, 0 and 0 where not; and the list as for `real_roots`. The answer is how many bytes are stored, 96,
 // or the number of the refused start, or 0 where the bytes are no doubles, more than 32 of them, or where those lent are too few: nothing is stored then.
 ghost use mathlib.Core.Path.{_≡_};
-ghost use mathlib.Core.Bool.{cond};
-ghost use lib.ListN.{length};
-ghost use lib.Seq.{sets};
-ghost use Rattle.float.specs.Literals.{zero64, one64};
 ghost use Rattle.roots.specs.Listed.{Fits};
-ghost use Rattle.lent.specs.Bytes.{whole};
-ghost use Rattle.exports.specs.Inquiries.{fedAll, shownNumbers, inquiryNumbers, inquiryBytes, inquirySays};
+ghost use Rattle.lent.specs.Bytes.{Answered};
+ghost use Rattle.exports.specs.Inquiries.{fedAll, shownNumbers, inquiryNumbers, inquiryRefusal, shownAt};
 use crate::lists::not_doubles;
 use crate::lists::root_numbers;
 use inquiry::Inquiry;
 use inquiry::Replied;
 use lent::answer;
 use lent::f64s_at;
+use lent::flag;
 use roots::Roots;
 
 // Each reply in turn.
@@ -29,16 +26,6 @@ fn fed(inquiry: Inquiry, replies: &[u8]) -> Replied
         i += 1;
     }
     p
-}
-
-// 1 for yes, 0 for no.
-fn flag(yes: bool) -> f64
-    ensures { λ r. ⌜ r ≡ cond yes one64 zero64 ⌝ }
-{
-    if yes {
-        return 1.0;
-    }
-    0.0
 }
 
 // The last reply's number, whether there is a question, its place, and the list.
@@ -74,9 +61,7 @@ fn inquiry_numbers(p: Replied) -> [f64; 12]
 
 #[no_mangle]
 pub extern "C" fn inquire(coeffs: &[u8], tol: f64, replies: &[u8], out: &mut [u8]) -> u64
-    ensures { λ r. ⌜ r ≡ inquirySays (now (coeffs .entry)) tol (now (replies .entry)) (length (now (out .entry))) ⌝ }
-    ensures { λ _. ⌜ now (out .exit)
-        ≡ sets (now (out .entry)) 0 (whole (inquiryBytes (now (coeffs .entry)) tol (now (replies .entry))) (length (now (out .entry)))) ⌝ }
+    ensures { λ r. ⌜ Answered (inquiryRefusal (now (coeffs .entry)) tol) (shownAt (now (coeffs .entry)) tol (now (replies .entry))) (now (out .entry)) r (now (out .exit)) ⌝ }
 {
     if not_doubles(coeffs) {
         return 0;

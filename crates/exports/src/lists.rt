@@ -5,10 +5,9 @@ ghost use mathlib.Core.Path.{_≡_};
 ghost use mathlib.Core.Bool.{false};
 ghost use Prim.Native.Nat.{_/_, _≤_};
 ghost use lib.ListN.{length};
-ghost use lib.Seq.{sets};
 ghost use Rattle.roots.specs.Listed.{Fits};
-ghost use Rattle.lent.specs.Bytes.{whole};
-ghost use Rattle.exports.specs.Lists.{rootNumbers, notDoubles, listBytes, listSays};
+ghost use Rattle.lent.specs.Bytes.{Answered};
+ghost use Rattle.exports.specs.Lists.{rootNumbers, notDoubles, listRefusal, listNumbers};
 use lent::answer;
 use lent::f64s_at;
 use roots::Roots;
@@ -48,8 +47,7 @@ pub fn not_doubles(s: &[u8]) -> bool
 
 #[no_mangle]
 pub extern "C" fn real_roots(coeffs: &[u8], tol: f64, out: &mut [u8]) -> u64
-    ensures { λ r. ⌜ r ≡ listSays (now (coeffs .entry)) tol (length (now (out .entry))) ⌝ }
-    ensures { λ _. ⌜ now (out .exit) ≡ sets (now (out .entry)) 0 (whole (listBytes (now (coeffs .entry)) tol) (length (now (out .entry)))) ⌝ }
+    ensures { λ r. ⌜ Answered (listRefusal (now (coeffs .entry)) tol) (listNumbers (now (coeffs .entry)) tol) (now (out .entry)) r (now (out .exit)) ⌝ }
 {
     if not_doubles(coeffs) {
         return 0;

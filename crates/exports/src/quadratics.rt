@@ -1,83 +1,50 @@
-// Quadratics and the crank's quartic: one number of an answer for each function. Of a quadratic's answer: its number, 0 to 4 for two, one, linear, degenerate and
-// empty, and its first and second place, NaN where there is none.
+// Quadratics and the crank's quartic in lent bytes. A quadratic's answer is three doubles: its number, 0 to 4 for two, one, linear, degenerate and empty, and its first
+// and second place, NaN where there is none. What is said is how many bytes are stored, or the number of the refusal, or 0 where the bytes lent are too few: nothing is
+// stored then.
 ghost use mathlib.Core.Path.{_≡_};
-ghost use lib.ListN.{getD};
-ghost use lib.Ieee.{nan};
-ghost use Rattle.equation.specs.Quadratic.{numberOf, valuesOf, shiftedOf, touchingAtOf, quadraticCentreOf, solveQuadraticOf, quadraticOf};
+ghost use Rattle.equation.specs.Quadratic.{shiftedOf, touchingAtOf, quadraticCentreOf, solveQuadraticOf, quadraticOf};
 ghost use Rattle.equation.specs.Crank.{crankFrontOf};
-ghost use Rattle.exports.specs.Quadratics.{solutionOf};
-ghost use Rattle.lent.specs.Numbers.{upTo};
+ghost use Rattle.lent.specs.Bytes.{Answered, Stored};
+ghost use Rattle.exports.specs.Quadratics.{solutionOf, solutionNumbers, frontNumbers};
+use equation::QuadraticSolution;
+use lent::answer;
+use lent::store;
 
-// The refusal's number, 0 where it is answered.
-#[no_mangle]
-pub extern "C" fn quadratic_refusal(a: f64, b: f64, c: f64, confusion: f64, angular: f64) -> u32
-    ensures { λ r. ⌜ r ≡ quadraticOf a b c confusion angular .number ⌝ }
+fn solution_numbers(s: QuadraticSolution) -> [f64; 3]
+    ensures { λ r. ⌜ r ≡ solutionNumbers s ⌝ }
 {
-    let x = equation::quadratic(a, b, c, confusion, angular);
-    x.number
+    [s.number() as f64, s.first(), s.second()]
 }
 
 #[no_mangle]
-pub extern "C" fn quadratic_number(a: f64, b: f64, c: f64, confusion: f64, angular: f64) -> u32
-    ensures { λ r. ⌜ r ≡ numberOf (quadraticOf a b c confusion angular .solution) ⌝ }
-{
-    let x = equation::quadratic(a, b, c, confusion, angular);
-    let s = x.solution;
-    s.number()
-}
-
-#[no_mangle]
-pub extern "C" fn quadratic_first(a: f64, b: f64, c: f64, confusion: f64, angular: f64) -> f64
-    ensures { λ r. ⌜ r ≡ getD (valuesOf (quadraticOf a b c confusion angular .solution)) 0 nan ⌝ }
-{
-    let x = equation::quadratic(a, b, c, confusion, angular);
-    let s = x.solution;
-    s.first()
-}
-
-#[no_mangle]
-pub extern "C" fn quadratic_second(a: f64, b: f64, c: f64, confusion: f64, angular: f64) -> f64
-    ensures { λ r. ⌜ r ≡ getD (valuesOf (quadraticOf a b c confusion angular .solution)) 1 nan ⌝ }
-{
-    let x = equation::quadratic(a, b, c, confusion, angular);
-    let s = x.solution;
-    s.second()
-}
-
-#[no_mangle]
-pub extern "C" fn solve_quadratic_number(
+pub extern "C" fn quadratic(
     a: f64,
     b: f64,
     c: f64,
     confusion: f64,
     angular: f64,
-) -> u32
-    ensures { λ r. ⌜ r ≡ numberOf (solveQuadraticOf a b c confusion angular) ⌝ }
+    out: &mut [u8],
+) -> u64
+    ensures { λ r. ⌜ Answered (quadraticOf a b c confusion angular .number) (solutionNumbers (quadraticOf a b c confusion angular .solution)) (now (out .entry)) r (now (out .exit)) ⌝ }
 {
-    let s = equation::solve_quadratic(a, b, c, confusion, angular);
-    s.number()
+    let x = equation::quadratic(a, b, c, confusion, angular);
+    let s = x.solution;
+    answer(out, x.number, &solution_numbers(s))
 }
 
 #[no_mangle]
-pub extern "C" fn solve_quadratic_first(a: f64, b: f64, c: f64, confusion: f64, angular: f64) -> f64
-    ensures { λ r. ⌜ r ≡ getD (valuesOf (solveQuadraticOf a b c confusion angular)) 0 nan ⌝ }
-{
-    let s = equation::solve_quadratic(a, b, c, confusion, angular);
-    s.first()
-}
-
-#[no_mangle]
-pub extern "C" fn solve_quadratic_second(
+pub extern "C" fn solve_quadratic(
     a: f64,
     b: f64,
     c: f64,
     confusion: f64,
     angular: f64,
-) -> f64
-    ensures { λ r. ⌜ r ≡ getD (valuesOf (solveQuadraticOf a b c confusion angular)) 1 nan ⌝ }
+    out: &mut [u8],
+) -> u64
+    ensures { λ r. ⌜ Stored (solutionNumbers (solveQuadraticOf a b c confusion angular)) (now (out .entry)) r (now (out .exit)) ⌝ }
 {
     let s = equation::solve_quadratic(a, b, c, confusion, angular);
-    s.second()
+    store(out, &solution_numbers(s))
 }
 
 #[no_mangle]
@@ -88,98 +55,47 @@ pub extern "C" fn quadratic_centre(a: f64, b: f64, angular: f64) -> f64
 }
 
 // The answer whose number is n.
-fn solution(n: u32, x: f64, y: f64) -> equation::QuadraticSolution
+fn solution(n: u32, x: f64, y: f64) -> QuadraticSolution
     ensures { λ r. ⌜ r ≡ solutionOf n x y ⌝ }
 {
     match n {
-        0 => equation::QuadraticSolution::Two(x, y),
-        1 => equation::QuadraticSolution::One(x),
-        2 => equation::QuadraticSolution::Linear(x),
-        3 => equation::QuadraticSolution::Degenerate,
-        _ => equation::QuadraticSolution::Empty,
+        0 => QuadraticSolution::Two(x, y),
+        1 => QuadraticSolution::One(x),
+        2 => QuadraticSolution::Linear(x),
+        3 => QuadraticSolution::Degenerate,
+        _ => QuadraticSolution::Empty,
     }
 }
 
 #[no_mangle]
-pub extern "C" fn shifted_number(n: u32, x: f64, y: f64, t0: f64) -> u32
-    ensures { λ r. ⌜ r ≡ numberOf (shiftedOf (solutionOf n x y) t0) ⌝ }
+pub extern "C" fn shifted(n: u32, x: f64, y: f64, t0: f64, out: &mut [u8]) -> u64
+    ensures { λ r. ⌜ Stored (solutionNumbers (shiftedOf (solutionOf n x y) t0)) (now (out .entry)) r (now (out .exit)) ⌝ }
 {
     let s = solution(n, x, y);
-    let t = s.shifted(t0);
-    t.number()
+    store(out, &solution_numbers(s.shifted(t0)))
 }
 
 #[no_mangle]
-pub extern "C" fn shifted_first(n: u32, x: f64, y: f64, t0: f64) -> f64
-    ensures { λ r. ⌜ r ≡ getD (valuesOf (shiftedOf (solutionOf n x y) t0)) 0 nan ⌝ }
+pub extern "C" fn touching_at(
+    n: u32,
+    x: f64,
+    y: f64,
+    vertex: f64,
+    touches: bool,
+    out: &mut [u8],
+) -> u64
+    ensures { λ r. ⌜ Stored (solutionNumbers (touchingAtOf (solutionOf n x y) vertex touches)) (now (out .entry)) r (now (out .exit)) ⌝ }
 {
     let s = solution(n, x, y);
-    let t = s.shifted(t0);
-    t.first()
+    store(out, &solution_numbers(s.touching_at(vertex, touches)))
 }
 
+// k, and the quartic's coefficients, ascending.
 #[no_mangle]
-pub extern "C" fn shifted_second(n: u32, x: f64, y: f64, t0: f64) -> f64
-    ensures { λ r. ⌜ r ≡ getD (valuesOf (shiftedOf (solutionOf n x y) t0)) 1 nan ⌝ }
+pub extern "C" fn crank_front(a2: f64, b2: f64, c1: f64, d1: f64, e: f64, out: &mut [u8]) -> u64
+    ensures { λ r. ⌜ Answered (crankFrontOf a2 b2 c1 d1 e .number) (frontNumbers (crankFrontOf a2 b2 c1 d1 e)) (now (out .entry)) r (now (out .exit)) ⌝ }
 {
-    let s = solution(n, x, y);
-    let t = s.shifted(t0);
-    t.second()
-}
-
-#[no_mangle]
-pub extern "C" fn touching_at_number(n: u32, x: f64, y: f64, vertex: f64, touches: bool) -> u32
-    ensures { λ r. ⌜ r ≡ numberOf (touchingAtOf (solutionOf n x y) vertex touches) ⌝ }
-{
-    let s = solution(n, x, y);
-    let t = s.touching_at(vertex, touches);
-    t.number()
-}
-
-#[no_mangle]
-pub extern "C" fn touching_at_first(n: u32, x: f64, y: f64, vertex: f64, touches: bool) -> f64
-    ensures { λ r. ⌜ r ≡ getD (valuesOf (touchingAtOf (solutionOf n x y) vertex touches)) 0 nan ⌝ }
-{
-    let s = solution(n, x, y);
-    let t = s.touching_at(vertex, touches);
-    t.first()
-}
-
-#[no_mangle]
-pub extern "C" fn touching_at_second(n: u32, x: f64, y: f64, vertex: f64, touches: bool) -> f64
-    ensures { λ r. ⌜ r ≡ getD (valuesOf (touchingAtOf (solutionOf n x y) vertex touches)) 1 nan ⌝ }
-{
-    let s = solution(n, x, y);
-    let t = s.touching_at(vertex, touches);
-    t.second()
-}
-
-// The refusal's number, 0 where there is a quartic.
-#[no_mangle]
-pub extern "C" fn crank_front_refusal(a2: f64, b2: f64, c1: f64, d1: f64, e: f64) -> u32
-    ensures { λ r. ⌜ r ≡ crankFrontOf a2 b2 c1 d1 e .number ⌝ }
-{
-    let x = equation::crank_front(a2, b2, c1, d1, e);
-    x.number
-}
-
-#[no_mangle]
-pub extern "C" fn crank_front_k(a2: f64, b2: f64, c1: f64, d1: f64, e: f64) -> u64
-    ensures { λ r. ⌜ r ≡ crankFrontOf a2 b2 c1 d1 e .k ⌝ }
-{
-    let x = equation::crank_front(a2, b2, c1, d1, e);
-    x.k as u64
-}
-
-// The quartic's coefficient at u^i, NaN where there is none.
-#[no_mangle]
-pub extern "C" fn crank_front_at(a2: f64, b2: f64, c1: f64, d1: f64, e: f64, i: u64) -> f64
-    ensures { λ r. ⌜ r ≡ upTo 4 i (getD (crankFrontOf a2 b2 c1 d1 e .q) i nan) ⌝ }
-{
-    if 4 < i {
-        return 0.0 / 0.0;
-    }
     let x = equation::crank_front(a2, b2, c1, d1, e);
     let q = x.q;
-    q[i as usize]
+    answer(out, x.number, &[x.k as f64, q[0], q[1], q[2], q[3], q[4]])
 }

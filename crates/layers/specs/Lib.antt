@@ -1,3 +1,2 @@
-pub mod Leaves
-pub mod Scaling
+pub mod Numbers
 pub mod Total

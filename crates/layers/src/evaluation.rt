@@ -1,27 +1,22 @@
-// Evaluation: one number of an answer for each function. NaN where the degree or a place is above 4.
+// Evaluation: all numbers of an answer as doubles, one after another, in lent bytes; how many bytes are stored. Nothing is stored where the five doubles of p have fewer
+// than 40 bytes, where the degree is above 4, or where the bytes lent are too few.
 ghost use mathlib.Core.Path.{_≡_};
-ghost use mathlib.Core.List.{[], _∷_};
-ghost use lib.ListN.{getD};
-ghost use lib.Ieee.{nan};
+ghost use mathlib.Core.List.{[]};
 ghost use Rattle.horner.specs.Product.{twoProdOf, discriminantOf};
 ghost use Rattle.horner.specs.Horner.{valueSlopeOf, valueSlopeCompensatedOf};
 ghost use Rattle.horner.specs.Taylor.{derivs12Of, taylorOf};
-ghost use Rattle.lent.specs.Numbers.{upTo};
+ghost use Rattle.lent.specs.Bytes.{fiveAt, lacksFive, unless, Stored};
+ghost use Rattle.layers.specs.Numbers.{productNumbers, slopeNumbers, derivsNumbers};
+use lent::five_at;
+use lent::lacks_five;
+use lent::store;
 
 #[no_mangle]
-pub extern "C" fn two_prod_prod(a: f64, b: f64) -> f64
-    ensures { λ r. ⌜ r ≡ twoProdOf a b .prod ⌝ }
+pub extern "C" fn two_prod(a: f64, b: f64, out: &mut [u8]) -> u64
+    ensures { λ r. ⌜ Stored (productNumbers (twoProdOf a b)) (now (out .entry)) r (now (out .exit)) ⌝ }
 {
     let t = horner::two_prod(a, b);
-    t.prod
-}
-
-#[no_mangle]
-pub extern "C" fn two_prod_err(a: f64, b: f64) -> f64
-    ensures { λ r. ⌜ r ≡ twoProdOf a b .err ⌝ }
-{
-    let t = horner::two_prod(a, b);
-    t.err
+    store(out, &[t.prod, t.err])
 }
 
 #[no_mangle]
@@ -32,123 +27,44 @@ pub extern "C" fn discriminant(al: f64, be: f64) -> f64
 }
 
 #[no_mangle]
-pub extern "C" fn value_slope_value(
-    p0: f64,
-    p1: f64,
-    p2: f64,
-    p3: f64,
-    p4: f64,
-    d: u64,
-    y: f64,
-) -> f64
-    ensures { λ r. ⌜ r ≡ upTo 4 d (valueSlopeOf (p0 ∷ p1 ∷ p2 ∷ p3 ∷ p4 ∷ []) d y .value) ⌝ }
+pub extern "C" fn value_slope(p: &[u8], d: u64, y: f64, out: &mut [u8]) -> u64
+    ensures { λ r. ⌜ Stored (unless [] (lacksFive (now (p .entry)) d) (slopeNumbers (valueSlopeOf (fiveAt (now (p .entry))) d y))) (now (out .entry)) r (now (out .exit)) ⌝ }
 {
-    if 4 < d {
-        return 0.0 / 0.0;
+    if lacks_five(p, d) {
+        return 0;
     }
-    let t = horner::value_slope([p0, p1, p2, p3, p4], d as usize, y);
-    t.value
+    let t = horner::value_slope(five_at(p), d as usize, y);
+    store(out, &[t.value, t.slope])
 }
 
 #[no_mangle]
-pub extern "C" fn value_slope_slope(
-    p0: f64,
-    p1: f64,
-    p2: f64,
-    p3: f64,
-    p4: f64,
-    d: u64,
-    y: f64,
-) -> f64
-    ensures { λ r. ⌜ r ≡ upTo 4 d (valueSlopeOf (p0 ∷ p1 ∷ p2 ∷ p3 ∷ p4 ∷ []) d y .slope) ⌝ }
+pub extern "C" fn value_slope_compensated(p: &[u8], d: u64, y: f64, out: &mut [u8]) -> u64
+    ensures { λ r. ⌜ Stored (unless [] (lacksFive (now (p .entry)) d) (slopeNumbers (valueSlopeCompensatedOf (fiveAt (now (p .entry))) d y))) (now (out .entry)) r (now (out .exit)) ⌝ }
 {
-    if 4 < d {
-        return 0.0 / 0.0;
+    if lacks_five(p, d) {
+        return 0;
     }
-    let t = horner::value_slope([p0, p1, p2, p3, p4], d as usize, y);
-    t.slope
+    let t = horner::value_slope_compensated(five_at(p), d as usize, y);
+    store(out, &[t.value, t.slope])
 }
 
 #[no_mangle]
-pub extern "C" fn compensated_value(
-    p0: f64,
-    p1: f64,
-    p2: f64,
-    p3: f64,
-    p4: f64,
-    d: u64,
-    y: f64,
-) -> f64
-    ensures { λ r. ⌜ r ≡ upTo 4 d (valueSlopeCompensatedOf (p0 ∷ p1 ∷ p2 ∷ p3 ∷ p4 ∷ []) d y .value) ⌝ }
+pub extern "C" fn derivs12(p: &[u8], d: u64, y: f64, out: &mut [u8]) -> u64
+    ensures { λ r. ⌜ Stored (unless [] (lacksFive (now (p .entry)) d) (derivsNumbers (derivs12Of (fiveAt (now (p .entry))) d y))) (now (out .entry)) r (now (out .exit)) ⌝ }
 {
-    if 4 < d {
-        return 0.0 / 0.0;
+    if lacks_five(p, d) {
+        return 0;
     }
-    let t = horner::value_slope_compensated([p0, p1, p2, p3, p4], d as usize, y);
-    t.value
+    let t = horner::derivs12(five_at(p), d as usize, y);
+    store(out, &[t.d1, t.d2])
 }
 
 #[no_mangle]
-pub extern "C" fn compensated_slope(
-    p0: f64,
-    p1: f64,
-    p2: f64,
-    p3: f64,
-    p4: f64,
-    d: u64,
-    y: f64,
-) -> f64
-    ensures { λ r. ⌜ r ≡ upTo 4 d (valueSlopeCompensatedOf (p0 ∷ p1 ∷ p2 ∷ p3 ∷ p4 ∷ []) d y .slope) ⌝ }
+pub extern "C" fn taylor(p: &[u8], d: u64, y: f64, out: &mut [u8]) -> u64
+    ensures { λ r. ⌜ Stored (unless [] (lacksFive (now (p .entry)) d) (taylorOf (fiveAt (now (p .entry))) d y)) (now (out .entry)) r (now (out .exit)) ⌝ }
 {
-    if 4 < d {
-        return 0.0 / 0.0;
+    if lacks_five(p, d) {
+        return 0;
     }
-    let t = horner::value_slope_compensated([p0, p1, p2, p3, p4], d as usize, y);
-    t.slope
-}
-
-#[no_mangle]
-pub extern "C" fn derivs12_d1(p0: f64, p1: f64, p2: f64, p3: f64, p4: f64, d: u64, y: f64) -> f64
-    ensures { λ r. ⌜ r ≡ upTo 4 d (derivs12Of (p0 ∷ p1 ∷ p2 ∷ p3 ∷ p4 ∷ []) d y .d1) ⌝ }
-{
-    if 4 < d {
-        return 0.0 / 0.0;
-    }
-    let t = horner::derivs12([p0, p1, p2, p3, p4], d as usize, y);
-    t.d1
-}
-
-#[no_mangle]
-pub extern "C" fn derivs12_d2(p0: f64, p1: f64, p2: f64, p3: f64, p4: f64, d: u64, y: f64) -> f64
-    ensures { λ r. ⌜ r ≡ upTo 4 d (derivs12Of (p0 ∷ p1 ∷ p2 ∷ p3 ∷ p4 ∷ []) d y .d2) ⌝ }
-{
-    if 4 < d {
-        return 0.0 / 0.0;
-    }
-    let t = horner::derivs12([p0, p1, p2, p3, p4], d as usize, y);
-    t.d2
-}
-
-// The coefficient at place k.
-#[no_mangle]
-pub extern "C" fn taylor_at(
-    p0: f64,
-    p1: f64,
-    p2: f64,
-    p3: f64,
-    p4: f64,
-    d: u64,
-    y: f64,
-    k: u64,
-) -> f64
-    ensures { λ r. ⌜ r ≡ upTo 4 d (upTo 4 k (getD (taylorOf (p0 ∷ p1 ∷ p2 ∷ p3 ∷ p4 ∷ []) d y) k nan)) ⌝ }
-{
-    if 4 < d {
-        return 0.0 / 0.0;
-    }
-    if 4 < k {
-        return 0.0 / 0.0;
-    }
-    let t = horner::taylor([p0, p1, p2, p3, p4], d as usize, y);
-    t[k as usize]
+    store(out, &horner::taylor(five_at(p), d as usize, y))
 }

@@ -1,15 +1,16 @@
 // The leaves: scaling, exponent, roots, logarithm, third angle.
 ghost use mathlib.Core.Path.{_≡_};
+ghost use mathlib.Core.List.{[]};
+ghost use lib.Dec.{ltb};
 ghost use lib.ListN.{length};
-ghost use lib.Seq.{sets};
 ghost use Rattle.scale.specs.Scale.{ldexpOf};
 ghost use Rattle.decode.specs.Exponent.{exponentOf};
-ghost use Rattle.log2.specs.Log.{log2GridOf};
+ghost use Rattle.log2.specs.Log.{log2GridOf, log2FiveOf};
 ghost use Rattle.sqrt.specs.Root.{sqrtOf};
 ghost use Rattle.cbrt.specs.Root.{cbrtOf};
 ghost use Rattle.angle.specs.Third.{thirdAngleOf};
-ghost use Rattle.lent.specs.Bytes.{whole};
-ghost use Rattle.layers.specs.Leaves.{thirdAngleBytes, log2FiveBytes};
+ghost use Rattle.lent.specs.Bytes.{fiveAt, unless, Stored};
+ghost use Rattle.layers.specs.Numbers.{angleNumbers};
 ghost use Rattle.layers.specs.Total.{pow2OrNan};
 use lent::five_at;
 use lent::store;
@@ -62,27 +63,10 @@ pub extern "C" fn leaf_log2(x: f64) -> f64
     log2::log2_grid(x)
 }
 
-#[no_mangle]
-pub extern "C" fn leaf_third_cos(v: f64) -> f64
-    ensures { λ r. ⌜ r ≡ thirdAngleOf v .cos ⌝ }
-{
-    let t = angle::third_angle(v);
-    t.cos
-}
-
-#[no_mangle]
-pub extern "C" fn leaf_third_sin(v: f64) -> f64
-    ensures { λ r. ⌜ r ≡ thirdAngleOf v .sin ⌝ }
-{
-    let t = angle::third_angle(v);
-    t.sin
-}
-
 // c and s into 16 bytes; how many bytes are stored.
 #[no_mangle]
 pub extern "C" fn leaf_third_angle(v: f64, out: &mut [u8]) -> u64
-    ensures { λ r. ⌜ r ≡ length (whole (thirdAngleBytes v) (length (now (out .entry)))) ⌝ }
-    ensures { λ _. ⌜ now (out .exit) ≡ sets (now (out .entry)) 0 (whole (thirdAngleBytes v) (length (now (out .entry)))) ⌝ }
+    ensures { λ r. ⌜ Stored (angleNumbers (thirdAngleOf v)) (now (out .entry)) r (now (out .exit)) ⌝ }
 {
     let t = angle::third_angle(v);
     store(out, &[t.cos, t.sin])
@@ -91,8 +75,7 @@ pub extern "C" fn leaf_third_angle(v: f64, out: &mut [u8]) -> u64
 // L of five doubles in 40 bytes, into 40 bytes; how many bytes are stored.
 #[no_mangle]
 pub extern "C" fn leaf_log2_five(a: &[u8], out: &mut [u8]) -> u64
-    ensures { λ r. ⌜ r ≡ length (whole (log2FiveBytes (now (a .entry))) (length (now (out .entry)))) ⌝ }
-    ensures { λ _. ⌜ now (out .exit) ≡ sets (now (out .entry)) 0 (whole (log2FiveBytes (now (a .entry))) (length (now (out .entry)))) ⌝ }
+    ensures { λ r. ⌜ Stored (unless [] (ltb (length (now (a .entry))) 40) (log2FiveOf (fiveAt (now (a .entry))))) (now (out .entry)) r (now (out .exit)) ⌝ }
 {
     if a.len() < 40 {
         return 0;

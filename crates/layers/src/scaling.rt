@@ -1,13 +1,16 @@
 // Scaling, gaps and factors: all numbers of an answer as doubles, one after another, in lent bytes; how many bytes are stored. Nothing is stored where the
 // five doubles have fewer than 40 bytes, where the degree is above 4, or where the bytes lent are too few.
 ghost use mathlib.Core.Path.{_≡_};
+ghost use mathlib.Core.List.{[]};
 ghost use Prim.Native.Nat.{_≤_};
-ghost use lib.ListN.{length};
-ghost use lib.Seq.{sets};
-ghost use Rattle.lent.specs.Bytes.{whole};
+ghost use Rattle.scaled.specs.Scaled.{scaledOf};
+ghost use Rattle.split.specs.Gap.{magnitudeSplitOf};
 ghost use Rattle.factors.specs.Factors.{Sized};
-ghost use Rattle.layers.specs.Scaling.{scaledNumbers, splitNumbers, factorNumbers, scaledBytes, splitBytes, factorBytes};
+ghost use Rattle.factorize.specs.Factorize.{factorizeOf};
+ghost use Rattle.lent.specs.Bytes.{fiveAt, lacksFive, unless, Stored};
+ghost use Rattle.layers.specs.Numbers.{scaledNumbers, splitNumbers, factorNumbers};
 use lent::five_at;
+use lent::flag;
 use lent::lacks_five;
 use lent::store;
 
@@ -43,8 +46,7 @@ fn scaled_numbers(s: scaled::Scaled) -> [f64; 18]
 // f, g, lg, d, e and unit of the polynomial with the coefficients a, ascending, and the degree d.
 #[no_mangle]
 pub extern "C" fn scaled_new(a: &[u8], d: u64, out: &mut [u8]) -> u64
-    ensures { λ r. ⌜ r ≡ length (whole (scaledBytes (now (a .entry)) d) (length (now (out .entry)))) ⌝ }
-    ensures { λ _. ⌜ now (out .exit) ≡ sets (now (out .entry)) 0 (whole (scaledBytes (now (a .entry)) d) (length (now (out .entry)))) ⌝ }
+    ensures { λ r. ⌜ Stored (unless [] (lacksFive (now (a .entry)) d) (scaledNumbers (scaledOf (fiveAt (now (a .entry))) d))) (now (out .entry)) r (now (out .exit)) ⌝ }
 {
     if lacks_five(a, d) {
         return 0;
@@ -57,17 +59,14 @@ fn split_numbers(s: split::Split) -> [f64; 3]
     requires { ⌜ s .small ≤ 4 ⌝ }
     ensures { λ r. ⌜ r ≡ splitNumbers s ⌝ }
 {
-    if s.found {
-        return [1.0, s.small as f64, s.threshold];
-    }
-    [0.0, s.small as f64, s.threshold]
+    let found = flag(s.found);
+    [found, s.small as f64, s.threshold]
 }
 
 // found, small and threshold for the logarithms lg and the degree d.
 #[no_mangle]
 pub extern "C" fn magnitude_split(lg: &[u8], d: u64, out: &mut [u8]) -> u64
-    ensures { λ r. ⌜ r ≡ length (whole (splitBytes (now (lg .entry)) d) (length (now (out .entry)))) ⌝ }
-    ensures { λ _. ⌜ now (out .exit) ≡ sets (now (out .entry)) 0 (whole (splitBytes (now (lg .entry)) d) (length (now (out .entry)))) ⌝ }
+    ensures { λ r. ⌜ Stored (unless [] (lacksFive (now (lg .entry)) d) (splitNumbers (magnitudeSplitOf (fiveAt (now (lg .entry))) d))) (now (out .entry)) r (now (out .exit)) ⌝ }
 {
     if lacks_five(lg, d) {
         return 0;
@@ -101,8 +100,7 @@ fn factor_numbers(f: factors::Factors) -> [f64; 10]
 // nlin, lin, nquad and the al and be of quad for that polynomial, from this depth on.
 #[no_mangle]
 pub extern "C" fn factorize(a: &[u8], d: u64, depth: u32, out: &mut [u8]) -> u64
-    ensures { λ r. ⌜ r ≡ length (whole (factorBytes depth (now (a .entry)) d) (length (now (out .entry)))) ⌝ }
-    ensures { λ _. ⌜ now (out .exit) ≡ sets (now (out .entry)) 0 (whole (factorBytes depth (now (a .entry)) d) (length (now (out .entry)))) ⌝ }
+    ensures { λ r. ⌜ Stored (unless [] (lacksFive (now (a .entry)) d) (factorNumbers (factorizeOf (scaledOf (fiveAt (now (a .entry))) d) depth))) (now (out .entry)) r (now (out .exit)) ⌝ }
 {
     if lacks_five(a, d) {
         return 0;

@@ -1,206 +1,83 @@
-// Square systems: whether there is an answer, and the unknown at place k of it, 0 where there is no answer and NaN where there is no such place.
+// Square systems: all numbers of an answer as doubles, one after another, in lent bytes; how many bytes are stored. Nothing is stored where the bytes handed in are short,
+// or where those lent are too few.
 ghost use mathlib.Core.Path.{_≡_};
 ghost use mathlib.Core.List.{[], _∷_};
-ghost use lib.ListN.{getD};
-ghost use lib.Ieee.{nan};
+ghost use lib.Dec.{ltb};
+ghost use lib.ListN.{length};
 ghost use Rattle.square.specs.Square.{solveSquareOf};
 ghost use Rattle.square.specs.Step.{step3, step4};
 ghost use Rattle.refine.specs.Refine.{refineOf};
 ghost use Rattle.refine.specs.Systems.{cubicSystem, quarticSystem, peelSystem};
 ghost use Rattle.refine.specs.Newton.{newtonCubicOf};
-ghost use Rattle.lent.specs.Numbers.{upTo};
+ghost use Rattle.lent.specs.Bytes.{f64sAt, unless, Stored};
+ghost use Rattle.layers.specs.Numbers.{threeRows, fourRows, step3Numbers, step4Numbers};
+use lent::flag;
+use lent::four_at;
+use lent::store;
+use lent::three_at;
 
+// Of a system row by row, and its right-hand side: 1 and the unknowns, or zeros where there is no answer.
 #[no_mangle]
-pub extern "C" fn solve_square3_ok(
-    m00: f64,
-    m01: f64,
-    m02: f64,
-    m10: f64,
-    m11: f64,
-    m12: f64,
-    m20: f64,
-    m21: f64,
-    m22: f64,
-    b0: f64,
-    b1: f64,
-    b2: f64,
-    tol: f64,
-) -> bool
-    ensures { λ r. ⌜ r ≡ step3 (solveSquareOf 3 ((m00 ∷ m01 ∷ m02 ∷ []) ∷ (m10 ∷ m11 ∷ m12 ∷ []) ∷ (m20 ∷ m21 ∷ m22 ∷ []) ∷ []) (b0 ∷ b1 ∷ b2 ∷ []) tol) .ok ⌝ }
+pub extern "C" fn solve_square3(s: &[u8], tol: f64, out: &mut [u8]) -> u64
+    ensures { λ r. ⌜ Stored (unless [] (ltb (length (now (s .entry))) 96) (step3Numbers (step3 (solveSquareOf 3 (threeRows (now (s .entry))) (f64sAt 3 (now (s .entry)) 72) tol)))) (now (out .entry)) r (now (out .exit)) ⌝ }
 {
-    let s = square::solve_square3(
-        [[m00, m01, m02], [m10, m11, m12], [m20, m21, m22]],
-        [b0, b1, b2],
-        tol,
-    );
-    s.ok
-}
-
-#[no_mangle]
-pub extern "C" fn solve_square3_at(
-    m00: f64,
-    m01: f64,
-    m02: f64,
-    m10: f64,
-    m11: f64,
-    m12: f64,
-    m20: f64,
-    m21: f64,
-    m22: f64,
-    b0: f64,
-    b1: f64,
-    b2: f64,
-    tol: f64,
-    k: u64,
-) -> f64
-    ensures { λ r. ⌜ r ≡ upTo 2 k (getD (step3 (solveSquareOf 3 ((m00 ∷ m01 ∷ m02 ∷ []) ∷ (m10 ∷ m11 ∷ m12 ∷ []) ∷ (m20 ∷ m21 ∷ m22 ∷ []) ∷ []) (b0 ∷ b1 ∷ b2 ∷ []) tol) .x) k nan) ⌝ }
-{
-    if 2 < k {
-        return 0.0 / 0.0;
+    if s.len() < 96 {
+        return 0;
     }
-    let s = square::solve_square3(
-        [[m00, m01, m02], [m10, m11, m12], [m20, m21, m22]],
-        [b0, b1, b2],
-        tol,
-    );
-    let x = s.x;
-    x[k as usize]
+    let m = [three_at(s, 0), three_at(s, 24), three_at(s, 48)];
+    let t = square::solve_square3(m, three_at(s, 72), tol);
+    let ok = flag(t.ok);
+    let x = t.x;
+    store(out, &[ok, x[0], x[1], x[2]])
 }
 
 #[no_mangle]
-pub extern "C" fn solve_square4_ok(
-    m00: f64,
-    m01: f64,
-    m02: f64,
-    m03: f64,
-    m10: f64,
-    m11: f64,
-    m12: f64,
-    m13: f64,
-    m20: f64,
-    m21: f64,
-    m22: f64,
-    m23: f64,
-    m30: f64,
-    m31: f64,
-    m32: f64,
-    m33: f64,
-    b0: f64,
-    b1: f64,
-    b2: f64,
-    b3: f64,
-    tol: f64,
-) -> bool
-    ensures { λ r. ⌜ r ≡ step4 (solveSquareOf 4 ((m00 ∷ m01 ∷ m02 ∷ m03 ∷ []) ∷ (m10 ∷ m11 ∷ m12 ∷ m13 ∷ []) ∷ (m20 ∷ m21 ∷ m22 ∷ m23 ∷ []) ∷ (m30 ∷ m31 ∷ m32 ∷ m33 ∷ []) ∷ []) (b0 ∷ b1 ∷ b2 ∷ b3 ∷ []) tol) .ok ⌝ }
+pub extern "C" fn solve_square4(s: &[u8], tol: f64, out: &mut [u8]) -> u64
+    ensures { λ r. ⌜ Stored (unless [] (ltb (length (now (s .entry))) 160) (step4Numbers (step4 (solveSquareOf 4 (fourRows (now (s .entry))) (f64sAt 4 (now (s .entry)) 128) tol)))) (now (out .entry)) r (now (out .exit)) ⌝ }
 {
-    let s = square::solve_square4(
-        [
-            [m00, m01, m02, m03],
-            [m10, m11, m12, m13],
-            [m20, m21, m22, m23],
-            [m30, m31, m32, m33],
-        ],
-        [b0, b1, b2, b3],
-        tol,
-    );
-    s.ok
-}
-
-#[no_mangle]
-pub extern "C" fn solve_square4_at(
-    m00: f64,
-    m01: f64,
-    m02: f64,
-    m03: f64,
-    m10: f64,
-    m11: f64,
-    m12: f64,
-    m13: f64,
-    m20: f64,
-    m21: f64,
-    m22: f64,
-    m23: f64,
-    m30: f64,
-    m31: f64,
-    m32: f64,
-    m33: f64,
-    b0: f64,
-    b1: f64,
-    b2: f64,
-    b3: f64,
-    tol: f64,
-    k: u64,
-) -> f64
-    ensures { λ r. ⌜ r ≡ upTo 3 k (getD (step4 (solveSquareOf 4 ((m00 ∷ m01 ∷ m02 ∷ m03 ∷ []) ∷ (m10 ∷ m11 ∷ m12 ∷ m13 ∷ []) ∷ (m20 ∷ m21 ∷ m22 ∷ m23 ∷ []) ∷ (m30 ∷ m31 ∷ m32 ∷ m33 ∷ []) ∷ []) (b0 ∷ b1 ∷ b2 ∷ b3 ∷ []) tol) .x) k nan) ⌝ }
-{
-    if 3 < k {
-        return 0.0 / 0.0;
+    if s.len() < 160 {
+        return 0;
     }
-    let s = square::solve_square4(
-        [
-            [m00, m01, m02, m03],
-            [m10, m11, m12, m13],
-            [m20, m21, m22, m23],
-            [m30, m31, m32, m33],
-        ],
-        [b0, b1, b2, b3],
-        tol,
-    );
-    let x = s.x;
-    x[k as usize]
+    let m = [
+        four_at(s, 0),
+        four_at(s, 32),
+        four_at(s, 64),
+        four_at(s, 96),
+    ];
+    let t = square::solve_square4(m, four_at(s, 128), tol);
+    let ok = flag(t.ok);
+    let x = t.x;
+    store(out, &[ok, x[0], x[1], x[2], x[3]])
 }
 
 #[no_mangle]
-pub extern "C" fn refine_cubic_at(b: f64, c: f64, d: f64, x0: f64, x1: f64, x2: f64, k: u64) -> f64
-    ensures { λ r. ⌜ r ≡ upTo 2 k (getD (refineOf 3 (cubicSystem b c d) (x0 ∷ x1 ∷ x2 ∷ [])) k nan) ⌝ }
+pub extern "C" fn refine_cubic(b: f64, c: f64, d: f64, x: &[u8], out: &mut [u8]) -> u64
+    ensures { λ r. ⌜ Stored (unless [] (ltb (length (now (x .entry))) 24) (refineOf 3 (cubicSystem b c d) (f64sAt 3 (now (x .entry)) 0))) (now (out .entry)) r (now (out .exit)) ⌝ }
 {
-    if 2 < k {
-        return 0.0 / 0.0;
+    if x.len() < 24 {
+        return 0;
     }
-    let x = refine::refine_cubic(b, c, d, [x0, x1, x2]);
-    x[k as usize]
+    store(out, &refine::refine_cubic(b, c, d, three_at(x, 0)))
 }
 
 #[no_mangle]
-pub extern "C" fn refine_quartic_at(
-    b: f64,
-    c: f64,
-    d: f64,
-    e: f64,
-    x0: f64,
-    x1: f64,
-    x2: f64,
-    x3: f64,
-    k: u64,
-) -> f64
-    ensures { λ r. ⌜ r ≡ upTo 3 k (getD (refineOf 4 (quarticSystem b c d e) (x0 ∷ x1 ∷ x2 ∷ x3 ∷ [])) k nan) ⌝ }
+pub extern "C" fn refine_quartic(b: f64, c: f64, d: f64, e: f64, x: &[u8], out: &mut [u8]) -> u64
+    ensures { λ r. ⌜ Stored (unless [] (ltb (length (now (x .entry))) 32) (refineOf 4 (quarticSystem b c d e) (f64sAt 4 (now (x .entry)) 0))) (now (out .entry)) r (now (out .exit)) ⌝ }
 {
-    if 3 < k {
-        return 0.0 / 0.0;
+    if x.len() < 32 {
+        return 0;
     }
-    let x = refine::refine_quartic(b, c, d, e, [x0, x1, x2, x3]);
-    x[k as usize]
+    store(out, &refine::refine_quartic(b, c, d, e, four_at(x, 0)))
 }
 
 #[no_mangle]
-pub extern "C" fn refine_peel_at(
-    b: f64,
-    c: f64,
-    d: f64,
-    e: f64,
-    x0: f64,
-    x1: f64,
-    x2: f64,
-    x3: f64,
-    k: u64,
-) -> f64
-    ensures { λ r. ⌜ r ≡ upTo 3 k (getD (refineOf 4 (peelSystem b c d e) (x0 ∷ x1 ∷ x2 ∷ x3 ∷ [])) k nan) ⌝ }
+pub extern "C" fn refine_peel(b: f64, c: f64, d: f64, e: f64, x: &[u8], out: &mut [u8]) -> u64
+    ensures { λ r. ⌜ Stored (unless [] (ltb (length (now (x .entry))) 32) (refineOf 4 (peelSystem b c d e) (f64sAt 4 (now (x .entry)) 0))) (now (out .entry)) r (now (out .exit)) ⌝ }
 {
-    if 3 < k {
-        return 0.0 / 0.0;
+    if x.len() < 32 {
+        return 0;
     }
-    let x = refine::refine_peel(b, c, d, e, [x0, x1, x2, x3]);
-    x[k as usize]
+    store(out, &refine::refine_peel(b, c, d, e, four_at(x, 0)))
 }
 
 #[no_mangle]

@@ -1,34 +1,17 @@
--- Bytes that are stored whole, or not at all.
+-- Answers that are stored whole, or not at all.
 -- Assumes nothing.
-use mathlib.Core.Path.{_≡_, refl, subst}
+use mathlib.Core.Path.{_≡_, refl, sym, subst, _∙_}
+use mathlib.Core.Bool.{Bool, true, false}
 use mathlib.Core.List.{List, [], _∷_, flatMap}
 use Prim.Native.Nat.{ℕ, _*_, _<_, _≤_}
 use native.Mathlib.Omega.{arith}
 use lib.ListN.{length, length-append}
 use lib.Seq.{sets}
 use lib.Ieee.{Float, binary64, toBits}
-use borrow.Author.Tests.{lt-ltb, le-ltb, eq-eqb, ne-eqb}
+use borrow.Author.Tests.{lt-ltb, le-ltb, ne-eqb}
+use Rattle.facts.specs.Cond.{if-taken, if-left}
 use Rattle.float.proofs.Bytes.{length-bytes}
-use Rattle.lent.specs.Bytes.{doubleBytes, doublesBytes, whole, unlessRefused, refusalOr}
-
--- what a function that stores t whole says of its answer n and of the bytes m that it leaves where l were
-abbrev pub Stored : List ℕ → List ℕ → ℕ → List ℕ → Type 0
-Stored t l n m = (n ≡ length (whole t (length l))) × (m ≡ sets l 0 (whole t (length l)))
-
-pub refused : (t l : List ℕ) → length l < length t → Stored t l 0 l
-unfolding whole
-refused t l h = simp (lt-ltb _ _ h) (refl, refl)
-
-pub nothing : (t l : List ℕ) → t ≡ [] → Stored t l 0 l
-unfolding whole
-nothing t l e = rw e (simp (le-ltb (length l) 0 (omega arith)) (refl, refl))
-
-pub stored : (t l m : List ℕ) (n : ℕ) → length t ≤ length l → n ≡ length t → m ≡ sets l 0 t → Stored t l n m
-unfolding whole
-stored t l m n h e p = simp (le-ltb _ _ h) (e, p)
-
-pub stored-as : {s t : List ℕ} (l m : List ℕ) (n : ℕ) → s ≡ t → Stored s l n m → Stored t l n m
-stored-as l m n e h = subst (λ (t : List ℕ). Stored t l n m) e h
+use Rattle.lent.specs.Bytes.{doubleBytes, doublesBytes, whole, unless, Answered, Stored}
 
 -- eight bytes for each double
 pub length-doubles : (xs : List Float) → length (doublesBytes xs) ≡ 8 * length xs
@@ -36,18 +19,47 @@ unfolding flatMap
 length-doubles [] = refl
 length-doubles (x ∷ xs) = omega (arith, length-append (doubleBytes x) (doublesBytes xs), length-bytes (toBits binary64 x), length-doubles xs)
 
--- the same of an answer xs, refused under n where n is not 0
-abbrev pub Answered : ℕ → List Float → List ℕ → ℕ → List ℕ → Type 0
-Answered n xs l r m = (r ≡ refusalOr n xs (length l)) × (m ≡ sets l 0 (whole (unlessRefused n xs) (length l)))
+-- ---- stored, or not
+module _ (xs : List Float) (l : List ℕ) where
+  pub too-few : length l < 8 * length xs → Stored xs l 0 l
+  unfolding whole
+  too-few h =
+      let e = lt-ltb (length l) (length (doublesBytes xs)) (omega (arith, length-doubles xs)) in
+      record { said = simp e; bytes = simp e }
 
-module _ (n : ℕ) (xs : List Float) (l : List ℕ) where
-  pub answer-stored : (r : ℕ) (m : List ℕ) → n ≡ 0 → Stored (doublesBytes xs) l r m → Answered n xs l r m
-  unfolding unlessRefused refusalOr
-  answer-stored r m h w = simp (eq-eqb _ _ h) w
+  pub all-stored : (m : List ℕ) (r : ℕ) → 8 * length xs ≤ length l → r ≡ 8 * length xs → m ≡ sets l 0 (doublesBytes xs) → Stored xs l r m
+  unfolding whole
+  all-stored m r h e p =
+      let k = le-ltb (length l) (length (doublesBytes xs)) (omega (arith, length-doubles xs)) in
+      record { said = simp k (e ∙ sym (length-doubles xs)); bytes = simp k p }
 
-  pub answer-refused : (n ≡ 0 → ⊥) → Answered n xs l n l
-  unfolding unlessRefused refusalOr
-  answer-refused h = (simp (ne-eqb _ _ h), nothing (unlessRefused n xs) l (simp (ne-eqb _ _ h)) .1)
+  pub refused : (n : ℕ) → (n ≡ 0 → ⊥) → Answered n xs l n l
+  refused n h = record { said = simp (ne-eqb _ _ h); bytes = simp (ne-eqb _ _ h) }
 
-pub answered-as : {n k : ℕ} {xs ys : List Float} (l : List ℕ) (r : ℕ) (m : List ℕ) → n ≡ k → xs ≡ ys → Answered n xs l r m → Answered k ys l r m
-answered-as {n} {k} {xs} l r m e p h = subst (λ (t : List Float). Answered k t l r m) p (subst (λ (i : ℕ). Answered i xs l r m) e h)
+pub nothing : (l : List ℕ) → Stored [] l 0 l
+unfolding flatMap
+nothing l = all-stored [] l l 0 (omega arith) refl refl
+
+-- ---- under another name
+pub answered-as : {n k : ℕ} {xs ys : List Float} {l : List ℕ} {r : ℕ} {m : List ℕ} → n ≡ k → xs ≡ ys → Answered n xs l r m → Answered k ys l r m
+answered-as {n} {k} {xs} {l = l} {r = r} {m = m} e p h = subst (λ (t : List Float). Answered k t l r m) p (subst (λ (i : ℕ). Answered i xs l r m) e h)
+
+pub stored-as : {xs ys : List Float} {l : List ℕ} {r : ℕ} {m : List ℕ} → xs ≡ ys → Stored xs l r m → Stored ys l r m
+stored-as e h = answered-as refl e h
+
+-- ---- by what a test of the input found
+module _ {A : Type 0} (other x : A) {p b : Bool} (e : b ≡ p) where
+  pub is-other : b ≡ true → other ≡ unless other p x
+  unfolding unless
+  is-other t = if-taken other x (sym e ∙ t) refl
+
+  pub is-given : {r : A} → b ≡ false → r ≡ x → r ≡ unless other p x
+  unfolding unless
+  is-given t h = if-left other x (sym e ∙ t) h
+
+module _ (ys : List Float) (l : List ℕ) {p b : Bool} (e : b ≡ p) where
+  pub lacking : b ≡ true → Stored (unless [] p ys) l 0 l
+  lacking t = stored-as (is-other [] ys e t) (nothing l)
+
+  pub held : {xs : List Float} {r : ℕ} {m : List ℕ} → b ≡ false → xs ≡ ys → Stored xs l r m → Stored (unless [] p ys) l r m
+  held t h w = stored-as (is-given [] ys e t h) w

@@ -1,9 +1,11 @@
 -- Doubles in lent bytes. Definitions only.
+use mathlib.Core.Path.{_≡_}
 use mathlib.Core.Bool.{Bool, cond, _||_}
 use mathlib.Core.List.{List, [], _∷_, flatMap}
 use Prim.Native.Nat.{ℕ, zero, suc, _+_}
 use lib.Dec.{ltb, eqb}
 use lib.ListN.{length}
+use lib.Seq.{sets}
 use lib.Ieee.{Float, binary64, toBits}
 use Rattle.float.specs.Bytes.{f64At, bytesOf}
 
@@ -20,9 +22,9 @@ fiveAt a = f64sAt 5 a 0
 unfoldable pub lacksFive : List ℕ → ℕ → Bool
 lacksFive a d = ltb (length a) 40 || ltb 4 d
 
--- f of the five doubles and the degree; `other` where they are lacking
-unfoldable pub fiveOr : {A : Type 0} → A → (List Float → ℕ → A) → List ℕ → ℕ → A
-fiveOr other f a d = cond (lacksFive a d) other (f (fiveAt a) d)
+-- x, and `other` where it lacks what it is made of
+unfoldable pub unless : {A : Type 0} → A → Bool → A → A
+unless other lacking x = cond lacking other x
 
 -- the bits of a double in eight bytes, lowest first
 abbrev pub doubleBytes : Float → List ℕ
@@ -36,10 +38,12 @@ doublesBytes xs = flatMap doubleBytes xs
 unfoldable pub whole : List ℕ → ℕ → List ℕ
 whole t n = cond (ltb n (length t)) [] t
 
--- the bytes of an answer that is refused under n where n is not 0: nothing on a refusal
-unfoldable pub unlessRefused : ℕ → List Float → List ℕ
-unlessRefused n xs = cond (eqb n 0) (doublesBytes xs) []
+-- Of an answer xs, refused under n where n is not 0: what is said, r, and what stands, m, where the bytes l were lent. All of xs is stored and r is how many bytes that
+-- are, or nothing is and r is 0 where l has no room for all; on a refusal nothing is stored, and r is n.
+pub record Answered (n : ℕ) (xs : List Float) (l : List ℕ) (r : ℕ) (m : List ℕ) : Type 0 where
+  pub said : r ≡ cond (eqb n 0) (length (whole (doublesBytes xs) (length l))) n
+  pub bytes : m ≡ sets l 0 (cond (eqb n 0) (whole (doublesBytes xs) (length l)) [])
 
--- what is said of it where so many bytes are lent: how many of them are stored, or the number of the refusal
-unfoldable pub refusalOr : ℕ → List Float → ℕ → ℕ
-refusalOr n xs lent = cond (eqb n 0) (length (whole (doublesBytes xs) lent)) n
+-- the same of an answer that is never refused
+abbrev pub Stored : List Float → List ℕ → ℕ → List ℕ → Type 0
+Stored xs l r m = Answered 0 xs l r m

@@ -4,7 +4,8 @@ ghost use mathlib.Core.Path.{_≡_};
 ghost use Prim.Native.Nat.{_+_, _*_, _≤_};
 ghost use lib.ListN.{length, take};
 ghost use lib.Seq.{sets};
-ghost use Rattle.lent.specs.Bytes.{doublesBytes, f64sAt, fiveAt, lacksFive, whole, unlessRefused, refusalOr};
+ghost use Rattle.lent.specs.Bytes.{doublesBytes, f64sAt, fiveAt, lacksFive, Answered, Stored};
+ghost use Rattle.lent.specs.Numbers.{flagOf};
 use float::f64_at;
 
 // The k doubles from at on, at the start of an array of 32.
@@ -19,6 +20,27 @@ pub fn f64s_at(s: &[u8], at: usize, k: usize) -> [f64; 32]
         i += 1;
     }
     out
+}
+
+// Three doubles from at on.
+pub fn three_at(s: &[u8], at: usize) -> [f64; 3]
+    requires { ⌜ at + 24 ≤ length (now s) ⌝ }
+    ensures { λ r. ⌜ r ≡ f64sAt 3 (now (s .entry)) at ⌝ }
+{
+    [f64_at(s, at), f64_at(s, at + 8), f64_at(s, at + 8 + 8)]
+}
+
+// Four doubles from at on.
+pub fn four_at(s: &[u8], at: usize) -> [f64; 4]
+    requires { ⌜ at + 32 ≤ length (now s) ⌝ }
+    ensures { λ r. ⌜ r ≡ f64sAt 4 (now (s .entry)) at ⌝ }
+{
+    [
+        f64_at(s, at),
+        f64_at(s, at + 8),
+        f64_at(s, at + 8 + 8),
+        f64_at(s, at + 8 + 8 + 8),
+    ]
 }
 
 // The five doubles in the first 40 bytes.
@@ -45,6 +67,16 @@ pub fn lacks_five(a: &[u8], d: u64) -> bool
     4 < d
 }
 
+// 1 for yes, 0 for no.
+pub fn flag(yes: bool) -> f64
+    ensures { λ r. ⌜ r ≡ flagOf yes ⌝ }
+{
+    if yes {
+        return 1.0;
+    }
+    0.0
+}
+
 // All of xs from the start of out on.
 pub fn put_all(out: &mut [u8], xs: &[f64])
     requires { ⌜ 8 * length (now xs) ≤ length (now out) ⌝ }
@@ -59,8 +91,7 @@ pub fn put_all(out: &mut [u8], xs: &[f64])
 
 // The same where there is room for all of them, and nothing where not; how many bytes are stored.
 pub fn store(out: &mut [u8], xs: &[f64]) -> u64
-    ensures { λ r. ⌜ r ≡ length (whole (doublesBytes (now (xs .entry))) (length (now (out .entry)))) ⌝ }
-    ensures { λ _. ⌜ now (out .exit) ≡ sets (now (out .entry)) 0 (whole (doublesBytes (now (xs .entry))) (length (now (out .entry)))) ⌝ }
+    ensures { λ r. ⌜ Stored (now (xs .entry)) (now (out .entry)) r (now (out .exit)) ⌝ }
 {
     if out.len() / 8 < xs.len() {
         return 0;
@@ -71,8 +102,7 @@ pub fn store(out: &mut [u8], xs: &[f64]) -> u64
 
 // The same for an answer that is refused where number is not 0: nothing is stored then, and the number is said.
 pub fn answer(out: &mut [u8], number: u32, xs: &[f64]) -> u64
-    ensures { λ r. ⌜ r ≡ refusalOr number (now (xs .entry)) (length (now (out .entry))) ⌝ }
-    ensures { λ _. ⌜ now (out .exit) ≡ sets (now (out .entry)) 0 (whole (unlessRefused number (now (xs .entry))) (length (now (out .entry)))) ⌝ }
+    ensures { λ r. ⌜ Answered number (now (xs .entry)) (now (out .entry)) r (now (out .exit)) ⌝ }
 {
     if number == 0 {
         return store(out, xs);

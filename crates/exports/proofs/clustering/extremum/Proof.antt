@@ -1,17 +1,16 @@
 -- `exports::clustering::extremum` meets its contract: it is of the polynomial, where there is one, and NaN where there is no turning point.
 -- Assumes nothing.
-use mathlib.Core.Path.{sym, ap, _∙_}
 use lib.Ieee.{ofBits, div}
 use Rattle.lent.proofs.Five.{accepted}
+use Rattle.lent.proofs.Whole.{is-other, is-given}
 use Rattle.exports.specs.Clustering.{turningOrNan}
-use Rattle.exports.proofs.Polynomials.{is-other, is-of}
 use borrow.Author.Needs.{needs}
 use Rattle.exports.proofs.clustering.extremum.Statement.{statement}
 use Rattle.exports.proofs.clustering.extremum.Tie as tie
 
 returns : tie.Need-returns
 unfolding ofBits div
-returns c = is-other _ _ _ _ (c .before .lacks-five .ensures) (c .if1 .taken)
+returns c = is-other _ _ (c .before .lacks-five .ensures) (c .if1 .taken)
 
 poly-at-requires : tie.Need-poly-at-requires
 poly-at-requires c κs = accepted _ _ (c .before .lacks-five .ensures) (c .if1 .left)
@@ -19,14 +18,14 @@ poly-at-requires c κs = accepted _ _ (c .before .lacks-five .ensures) (c .if1 .
 returns-2 : tie.Need-returns-2
 unfolding turningOrNan
 returns-2 c =
-    let at = c .before .before .before in
-    is-of _ _ _ _ (at .before .before .before .lacks-five .ensures) (at .before .before .if1 .left) (at .before .poly-at .ensures .0) (ap turningOrNan (sym (c .before .found .given .1) ∙ at .extremum .ensures))
+    let tested = c .before .before .before .before .before in
+    is-given _ _ (tested .before .lacks-five .ensures) (tested .if1 .left) (cc)
 
 returns-3 : tie.Need-returns-3
 unfolding turningOrNan ofBits div
 returns-3 c =
-    let at = c .before .before in
-    is-of _ _ _ _ (at .before .before .before .lacks-five .ensures) (at .before .before .if1 .left) (at .before .poly-at .ensures .0) (ap turningOrNan (sym (c .enum-told .given .1) ∙ at .extremum .ensures))
+    let tested = c .before .before .before .before in
+    is-given _ _ (tested .before .lacks-five .ensures) (tested .if1 .left) (cc)
 
 pub extremum-spec : {M : Type 1} → statement M
 extremum-spec = tie.close (tie.spec (λ c κs. search needs) returns poly-at-requires (λ c κs. search needs) (λ c. search needs) (λ c. search needs) returns-2 returns-3)

@@ -1,24 +1,21 @@
 -- `exports::clustering::finish` meets its contract: all the numbers of the answer, or none.
 -- Assumes nothing.
-use mathlib.Core.Path.{ap, subst⁻¹, _∙_}
+use mathlib.Core.Path.{refl, subst⁻¹}
 use Prim.Native.Nat.{_≤_}
 use Rattle.roots.specs.declared.Roots.{Roots}
-use Rattle.roots.specs.Roots.{listOf, rootsOf}
-use Rattle.finish.specs.Finish.{finishOf}
 use Rattle.lent.proofs.Five.{accepted}
-use Rattle.exports.specs.Lists.{rootNumbers}
+use Rattle.lent.proofs.Whole.{lacking, held}
 use Rattle.exports.specs.Clustering.{candidatesAt}
-use Rattle.lent.proofs.Whole.{nothing, stored-as}
-use Rattle.exports.proofs.Polynomials.{holding, refused-bytes, lacking-bytes, held-bytes, finish-fits}
+use Rattle.exports.proofs.Polynomials.{holding, finish-fits}
 use borrow.Author.Needs.{needs}
 use Rattle.exports.proofs.clustering.finish.Statement.{statement}
 use Rattle.exports.proofs.clustering.finish.Tie as tie
 
 returns : tie.Need-returns
-returns c = nothing _ _ (refused-bytes _ _ _ _ (c .before .lacks-five .ensures) (c .if1 .taken))
+returns c = lacking _ _ (c .before .lacks-five .ensures) (c .if1 .taken)
 
 returns-2 : tie.Need-returns-2
-returns-2 c = nothing _ _ (lacking-bytes _ _ _ _ (c .before .before .before .lacks-five .ensures) (c .before .before .if1 .left) (c .before .lacks .ensures) (c .if2 .taken))
+returns-2 c = held _ _ (c .before .before .before .lacks-five .ensures) (c .before .before .if1 .left) refl (lacking _ _ (c .before .lacks .ensures) (c .if2 .taken))
 
 poly-at-requires : tie.Need-poly-at-requires
 poly-at-requires c κs = accepted _ _ (c .before .before .before .lacks-five .ensures) (c .before .before .if1 .left)
@@ -36,15 +33,9 @@ root-numbers-requires c κs = finish-fits _ _ _ (c .before .finish .ensures)
 
 returns-3 : tie.Need-returns-3
 returns-3 c =
-    let numbers = c .before .before .before .before in
-    let done = numbers .before .before in
-    let handed = done .before in
-    let poly = handed .before in
-    let tested = poly .before in
-    let a = tested .before .before .before .before .before .before .before .args in
-    let s = poly .poly-at .result in
-    let all = numbers .root-numbers .ensures ∙ ap rootNumbers (done .finish .ensures ∙ ap (λ (r : Roots). rootsOf (finishOf s (listOf r) (a .tol))) (handed .candidates-at .ensures .0)) in
-    stored-as (a .out .now) _ _ (held-bytes _ _ _ _ (tested .before .before .before .lacks-five .ensures) (tested .before .before .if1 .left) (tested .before .lacks .ensures) (tested .if2 .left) (poly .poly-at .ensures .0) all) (c .before .before .store .ensures)
+    let tested = c .before .before .before .before .before .before .before .before .before in
+    held _ _ (tested .before .before .before .lacks-five .ensures) (tested .before .before .if1 .left) refl
+    (held _ _ (tested .before .lacks .ensures) (tested .if2 .left) (cc) (c .before .before .store .ensures))
 
 pub finish-spec : {M : Type 1} → statement M
 finish-spec = tie.close (tie.spec (λ c κs. search needs) returns (λ c κs. search needs) returns-2 poly-at-requires candidates-at-requires finish-requires root-numbers-requires (λ c. search needs) (λ c κs. search needs) (λ c. search needs) returns-3)

@@ -1,20 +1,18 @@
 -- `exports::clustering::push_quadratic` meets its contract: all the numbers of the answer, or none.
 -- Assumes nothing.
-use mathlib.Core.Path.{_≡_, ap, _∙_}
-use Rattle.band.specs.Quadratic.{pushQuadraticIn}
+use mathlib.Core.Path.{refl}
 use Rattle.lent.proofs.Five.{accepted}
-use Rattle.exports.specs.Clustering.{candidatesAt, pairsAt, foundNumbers}
-use Rattle.lent.proofs.Whole.{nothing, stored-as}
-use Rattle.exports.proofs.Polynomials.{holding, refused-bytes, lacking-bytes, held-bytes, quadratic-fits}
+use Rattle.lent.proofs.Whole.{lacking, held}
+use Rattle.exports.proofs.Polynomials.{holding, quadratic-fits}
 use borrow.Author.Needs.{needs}
 use Rattle.exports.proofs.clustering.push_quadratic.Statement.{statement}
 use Rattle.exports.proofs.clustering.push_quadratic.Tie as tie
 
 returns : tie.Need-returns
-returns c = nothing _ _ (refused-bytes _ _ _ _ (c .before .lacks-five .ensures) (c .if1 .taken))
+returns c = lacking _ _ (c .before .lacks-five .ensures) (c .if1 .taken)
 
 returns-2 : tie.Need-returns-2
-returns-2 c = nothing _ _ (lacking-bytes _ _ _ _ (c .before .before .before .lacks-five .ensures) (c .before .before .if1 .left) (c .before .lacks .ensures) (c .if2 .taken))
+returns-2 c = held _ _ (c .before .before .before .lacks-five .ensures) (c .before .before .if1 .left) refl (lacking _ _ (c .before .lacks .ensures) (c .if2 .taken))
 
 poly-at-requires : tie.Need-poly-at-requires
 poly-at-requires c κs = accepted _ _ (c .before .before .before .lacks-five .ensures) (c .before .before .if1 .left)
@@ -35,17 +33,9 @@ found-numbers-requires c κs =
 
 returns-3 : tie.Need-returns-3
 returns-3 c =
-    let numbers = c .before .before .before .before in
-    let pushed = numbers .before .before in
-    let pairs = pushed .before in
-    let handed = pairs .before in
-    let poly = handed .before in
-    let tested = poly .before in
-    let a = tested .before .before .before .before .before .before .before .args in
-    let s = poly .poly-at .result in
-    let same : pushQuadraticIn s (a .al) (a .be) (a .tol) (handed .candidates-at .result) (pairs .pairs-at .result) ≡ pushQuadraticIn s (a .al) (a .be) (a .tol) (candidatesAt (a .c .now) (a .n)) (pairsAt (a .c .now) (a .m)) = λ i. pushQuadraticIn s (a .al) (a .be) (a .tol) (handed .candidates-at .ensures .0 i) (pairs .pairs-at .ensures i) in
-    let all = numbers .found-numbers .ensures ∙ ap foundNumbers (pushed .push-quadratic .ensures ∙ same) in
-    stored-as (a .out .now) _ _ (held-bytes _ _ _ _ (tested .before .before .before .lacks-five .ensures) (tested .before .before .if1 .left) (tested .before .lacks .ensures) (tested .if2 .left) (poly .poly-at .ensures .0) all) (c .before .before .store .ensures)
+    let tested = c .before .before .before .before .before .before .before .before .before .before in
+    held _ _ (tested .before .before .before .lacks-five .ensures) (tested .before .before .if1 .left) refl
+    (held _ _ (tested .before .lacks .ensures) (tested .if2 .left) (cc) (c .before .before .store .ensures))
 
 pub push-quadratic-spec : {M : Type 1} → statement M
 push-quadratic-spec = tie.close (tie.spec (λ c κs. search needs) returns (λ c κs. search needs) returns-2 poly-at-requires candidates-at-requires pairs-at-requires (λ c κs. search needs) found-numbers-requires (λ c. search needs) (λ c κs. search needs) (λ c. search needs) returns-3)

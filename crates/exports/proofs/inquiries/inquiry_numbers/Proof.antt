@@ -9,9 +9,6 @@ use Rattle.exports.specs.Inquiries.{shownNumbers, inquiryNumbers}
 use Rattle.exports.proofs.inquiries.inquiry_numbers.Statement.{statement}
 use Rattle.exports.proofs.inquiries.inquiry_numbers.Tie as tie
 
-ask-requires : tie.Need-ask-requires
-ask-requires c κs = search needs
-
 shown-numbers-requires : tie.Need-shown-numbers-requires
 shown-numbers-requires c κs = subst⁻¹ (λ (a : Asked). Fits (a .list)) (c .ask .ensures) (shown-fits _)
 
@@ -22,4 +19,4 @@ returns c =
     c .shown-numbers .ensures ∙ ap (λ (a : Asked). shownNumbers (p .number) (a .asking) (a .place) (a .list)) (c .before .ask .ensures)
 
 pub inquiry-numbers-spec : {M : Type 1} → statement M
-inquiry-numbers-spec = tie.close (tie.spec ask-requires shown-numbers-requires returns)
+inquiry-numbers-spec = tie.close (tie.spec (λ c κs. search needs) shown-numbers-requires returns)

@@ -8,9 +8,6 @@ use Rattle.exports.proofs.Listing.{cut-doubles, whole-doubles}
 use Rattle.exports.proofs.lists.not_doubles.Statement.{statement}
 use Rattle.exports.proofs.lists.not_doubles.Tie as tie
 
-mul-if1 : tie.Need-mul-if1
-mul-if1 c = search needs
-
 returns : tie.Need-returns
 returns c = (cut-doubles (c .before .args .s .now) (c .if1 .taken), λ e. absurd (false≢true (sym e)))
 
@@ -18,4 +15,4 @@ returns-2 : tie.Need-returns-2
 returns-2 c = (whole-doubles (c .before .args .s .now) (c .if1 .left), λ e. ltb-false _ _ e)
 
 pub not-doubles-spec : {M : Type 1} → statement M
-not-doubles-spec = tie.close (tie.spec mul-if1 returns returns-2)
+not-doubles-spec = tie.close (tie.spec (λ c. search needs) returns returns-2)

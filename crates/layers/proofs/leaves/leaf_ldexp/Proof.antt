@@ -8,11 +8,8 @@ use Rattle.scale.specs.Scale.{ldexpOf}
 use Rattle.layers.proofs.leaves.leaf_ldexp.Statement.{statement}
 use Rattle.layers.proofs.leaves.leaf_ldexp.Tie as tie
 
-ldexp-requires : tie.Need-ldexp-requires
-ldexp-requires c κs = search needs
-
 returns : tie.Need-returns
 returns c = c .ldexp .ensures ∙ ap (λ (k : ℤ). ldexpOf (c .before .args .x) k) (toZ-ofZ (c .before .fits .k))
 
 pub leaf-ldexp-spec : {M : Type 1} → statement M
-leaf-ldexp-spec = tie.close (tie.spec ldexp-requires returns)
+leaf-ldexp-spec = tie.close (tie.spec (λ c κs. search needs) returns)

@@ -1,7 +1,7 @@
 -- `layers::scaling::factorize` meets its contract: all the numbers of the answer, or none.
 -- Assumes nothing.
 use borrow.Author.Needs.{needs}
-use mathlib.Core.Path.{_≡_, ap, subst⁻¹, _∙_}
+use mathlib.Core.Path.{_≡_, subst⁻¹}
 use mathlib.Core.List.{List}
 use Prim.Native.Nat.{ℕ, _-_, _≤_}
 use native.Mathlib.Omega.{arith}
@@ -12,9 +12,7 @@ use Rattle.factors.specs.Factors.{Sized}
 use Rattle.factorize.specs.Factorize.{factorizeOf}
 use Rattle.factorize.proofs.Degree.{degrees-add}
 use Rattle.lent.proofs.Five.{accepted}
-use Rattle.lent.proofs.Whole.{nothing, stored-as}
-use Rattle.layers.specs.Scaling.{factorNumbers}
-use Rattle.layers.proofs.Answers.{refused, answered}
+use Rattle.lent.proofs.Whole.{lacking, held}
 use Rattle.layers.proofs.scaling.factorize.Statement.{statement}
 use Rattle.layers.proofs.scaling.factorize.Tie as tie
 
@@ -26,7 +24,7 @@ few : (a : List Float) (d : ℕ) (s : Scaled) → s ≡ scaledOf a d → d ≤ 4
 few a d s e h = subst⁻¹ (λ (s : Scaled). s .d ≤ 4) e (unfold scaledOf in h)
 
 returns : tie.Need-returns
-returns c = nothing _ _ (refused _ _ _ (c .before .lacks-five .ensures) (c .if1 .taken))
+returns c = lacking _ _ (c .before .lacks-five .ensures) (c .if1 .taken)
 
 five-at-requires : tie.Need-five-at-requires
 five-at-requires c κs = accepted _ _ (c .before .lacks-five .ensures) (c .if1 .left) .0
@@ -47,14 +45,8 @@ factor-numbers-requires c κs =
 
 returns-2 : tie.Need-returns-2
 returns-2 c =
-    let numbers = c .before .before .before .before in
-    let factored = numbers .before .before in
-    let new = factored .before in
-    let five = new .before in
-    let tested = five .before in
-    let a = tested .before .before .before .before .args in
-    let is = factored .factorize .ensures ∙ ap (λ (s : Scaled). factorizeOf s (a .depth)) (new .new .ensures) in
-    stored-as (a .out .now) _ _ (answered _ _ _ (tested .before .lacks-five .ensures) (tested .if1 .left) (five .five-at .ensures) (numbers .factor-numbers .ensures ∙ ap factorNumbers is)) (c .before .before .store .ensures)
+    let tested = c .before .before .before .before .before .before .before .before .before in
+    held _ _ (tested .before .lacks-five .ensures) (tested .if1 .left) (cc) (c .before .before .store .ensures)
 
 pub factorize-spec : {M : Type 1} → statement M
 factorize-spec = tie.close (tie.spec (λ c κs. search needs) returns five-at-requires new-requires factorize-requires factor-numbers-requires (λ c. search needs) (λ c κs. search needs) (λ c. search needs) returns-2)

@@ -1,20 +1,18 @@
 -- `layers::scaling::magnitude_split` meets its contract: all the numbers of the answer, or none.
 -- Assumes nothing.
-use mathlib.Core.Path.{ap, subst⁻¹, _∙_}
+use mathlib.Core.Path.{subst⁻¹}
 use Prim.Native.Nat.{_≤_}
 use native.Mathlib.Nat.{le-trans}
 use Rattle.split.specs.declared.Split.{Split}
 use Rattle.split.proofs.Gaps.{split-inside}
 use Rattle.lent.proofs.Five.{accepted}
-use Rattle.lent.proofs.Whole.{nothing, stored-as}
-use Rattle.layers.specs.Scaling.{splitNumbers}
-use Rattle.layers.proofs.Answers.{refused, answered}
+use Rattle.lent.proofs.Whole.{lacking, held}
 use borrow.Author.Needs.{needs}
 use Rattle.layers.proofs.scaling.magnitude_split.Statement.{statement}
 use Rattle.layers.proofs.scaling.magnitude_split.Tie as tie
 
 returns : tie.Need-returns
-returns c = nothing _ _ (refused _ _ _ (c .before .lacks-five .ensures) (c .if1 .taken))
+returns c = lacking _ _ (c .before .lacks-five .ensures) (c .if1 .taken)
 
 five-at-requires : tie.Need-five-at-requires
 five-at-requires c κs = accepted _ _ (c .before .lacks-five .ensures) (c .if1 .left) .0
@@ -30,12 +28,8 @@ split-numbers-requires c κs =
 
 returns-2 : tie.Need-returns-2
 returns-2 c =
-    let numbers = c .before .before .before .before in
-    let gap = numbers .before .before in
-    let five = gap .before in
-    let tested = five .before in
-    let a = tested .before .before .before .before .args in
-    stored-as (a .out .now) _ _ (answered _ _ _ (tested .before .lacks-five .ensures) (tested .if1 .left) (five .five-at .ensures) (numbers .split-numbers .ensures ∙ ap splitNumbers (gap .magnitude-split .ensures))) (c .before .before .store .ensures)
+    let tested = c .before .before .before .before .before .before .before .before in
+    held _ _ (tested .before .lacks-five .ensures) (tested .if1 .left) (cc) (c .before .before .store .ensures)
 
 pub magnitude-split-spec : {M : Type 1} → statement M
 magnitude-split-spec = tie.close (tie.spec (λ c κs. search needs) returns five-at-requires magnitude-split-requires split-numbers-requires (λ c. search needs) (λ c κs. search needs) (λ c. search needs) returns-2)

@@ -1,19 +1,17 @@
 -- `layers::scaling::scaled_new` meets its contract: all the numbers of the answer, or none.
 -- Assumes nothing.
-use mathlib.Core.Path.{ap, subst⁻¹, _∙_}
+use mathlib.Core.Path.{subst⁻¹}
 use Prim.Native.Nat.{_≤_}
 use Rattle.scaled.specs.declared.Scaled.{Scaled}
 use Rattle.scaled.specs.Scaled.{scaledOf}
 use Rattle.lent.proofs.Five.{accepted}
-use Rattle.lent.proofs.Whole.{nothing, stored-as}
-use Rattle.layers.specs.Scaling.{scaledNumbers}
-use Rattle.layers.proofs.Answers.{refused, answered}
+use Rattle.lent.proofs.Whole.{lacking, held}
 use borrow.Author.Needs.{needs}
 use Rattle.layers.proofs.scaling.scaled_new.Statement.{statement}
 use Rattle.layers.proofs.scaling.scaled_new.Tie as tie
 
 returns : tie.Need-returns
-returns c = nothing _ _ (refused _ _ _ (c .before .lacks-five .ensures) (c .if1 .taken))
+returns c = lacking _ _ (c .before .lacks-five .ensures) (c .if1 .taken)
 
 five-at-requires : tie.Need-five-at-requires
 five-at-requires c κs = accepted _ _ (c .before .lacks-five .ensures) (c .if1 .left) .0
@@ -28,12 +26,8 @@ scaled-numbers-requires c κs =
 
 returns-2 : tie.Need-returns-2
 returns-2 c =
-    let numbers = c .before .before .before .before in
-    let new = numbers .before .before in
-    let five = new .before in
-    let tested = five .before in
-    let a = tested .before .before .before .before .args in
-    stored-as (a .out .now) _ _ (answered _ _ _ (tested .before .lacks-five .ensures) (tested .if1 .left) (five .five-at .ensures) (numbers .scaled-numbers .ensures ∙ ap scaledNumbers (new .new .ensures))) (c .before .before .store .ensures)
+    let tested = c .before .before .before .before .before .before .before .before in
+    held _ _ (tested .before .lacks-five .ensures) (tested .if1 .left) (cc) (c .before .before .store .ensures)
 
 pub scaled-new-spec : {M : Type 1} → statement M
 scaled-new-spec = tie.close (tie.spec (λ c κs. search needs) returns five-at-requires new-requires scaled-numbers-requires (λ c. search needs) (λ c κs. search needs) (λ c. search needs) returns-2)

@@ -1,0 +1,23 @@
+-- `exports::quadratics::crank_front` meets its contract: all the numbers of the answer, or the refusal.
+-- Assumes nothing.
+use native.Mathlib.Omega.{arith}
+use mathlib.Core.Path.{subst⁻¹}
+use Prim.Native.Nat.{_<_}
+use Rattle.equation.specs.declared.Crank.{Crank}
+use Rattle.float.proofs.Whole.{whole-exact}
+use Rattle.crank.proofs.Front.{front-below}
+use Rattle.lent.proofs.Whole.{answered-as}
+use borrow.Author.Needs.{needs}
+use Rattle.exports.proofs.quadratics.crank_front.Statement.{statement}
+use Rattle.exports.proofs.quadratics.crank_front.Tie as tie
+
+k-exact : tie.Need-int-to-float-t12
+k-exact c =
+    let below : c .before .before .before .crank-front .result .k < 8 = subst⁻¹ (λ (f : Crank). f .k < 8) (c .before .before .before .crank-front .ensures) (front-below _ _ _ _ _) in
+    whole-exact _ (omega arith)
+
+returns : tie.Need-returns
+returns c = answered-as (cc) (cc) (c .before .before .answer .ensures)
+
+pub crank-front-spec : {M : Type 1} → statement M
+crank-front-spec = tie.close (tie.spec (λ c κs. search needs) k-exact (λ c. search needs) (λ c. search needs) (λ c. search needs) (λ c. search needs) (λ c. search needs) (λ c. search needs) (λ c κs. search needs) (λ c. search needs) returns)
