@@ -1,5 +1,6 @@
 -- `exports::clustering::extremum` meets its contract: it is of the polynomial, where there is one, and NaN where there is no turning point.
 -- Assumes nothing.
+use mathlib.Core.Path.{sym, ap, _∙_}
 use lib.Ieee.{ofBits, div}
 use Rattle.lent.proofs.Five.{accepted}
 use Rattle.lent.proofs.Whole.{is-other, is-given}
@@ -18,14 +19,16 @@ poly-at-requires c κs = accepted _ _ (c .before .lacks-five .ensures) (c .if1 .
 returns-2 : tie.Need-returns-2
 unfolding turningOrNan
 returns-2 c =
-    let tested = c .before .before .before .before .before in
-    is-given _ _ (tested .before .lacks-five .ensures) (tested .if1 .left) (cc)
+    let poly = c .before .before .before .before in
+    let is = rw (poly .poly-at .ensures .0) at (ap turningOrNan (sym (c .before .found .given .1) ∙ c .before .before .before .extremum .ensures)) in
+    is-given _ _ (poly .before .before .lacks-five .ensures) (poly .before .if1 .left) is
 
 returns-3 : tie.Need-returns-3
 unfolding turningOrNan ofBits div
 returns-3 c =
-    let tested = c .before .before .before .before in
-    is-given _ _ (tested .before .lacks-five .ensures) (tested .if1 .left) (cc)
+    let poly = c .before .before .before in
+    let is = rw (poly .poly-at .ensures .0) at (ap turningOrNan (sym (c .enum-told .given .1) ∙ c .before .before .extremum .ensures)) in
+    is-given _ _ (poly .before .before .lacks-five .ensures) (poly .before .if1 .left) is
 
 pub extremum-spec : {M : Type 1} → statement M
 extremum-spec = tie.close (tie.spec (λ c κs. search needs) returns poly-at-requires (λ c κs. search needs) (λ c. search needs) (λ c. search needs) returns-2 returns-3)

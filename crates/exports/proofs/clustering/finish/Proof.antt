@@ -1,6 +1,7 @@
 -- `exports::clustering::finish` meets its contract: all the numbers of the answer, or none.
 -- Assumes nothing.
-use mathlib.Core.Path.{refl, subst⁻¹}
+use Rattle.exports.specs.Lists.{rootNumbers}
+use mathlib.Core.Path.{refl, subst⁻¹, ap, _∙_}
 use Prim.Native.Nat.{_≤_}
 use Rattle.roots.specs.declared.Roots.{Roots}
 use Rattle.lent.proofs.Five.{accepted}
@@ -33,9 +34,11 @@ root-numbers-requires c κs = finish-fits _ _ _ (c .before .finish .ensures)
 
 returns-3 : tie.Need-returns-3
 returns-3 c =
-    let tested = c .before .before .before .before .before .before .before .before .before in
+    let poly = c .before .before .before .before .before .before .before .before in
+    let tested = poly .before in
+    let is = rw (c .before .before .before .before .before .before .before .candidates-at .ensures .0, poly .poly-at .ensures .0) at (c .before .before .before .before .root-numbers .ensures ∙ ap rootNumbers (c .before .before .before .before .before .before .finish .ensures)) in
     held _ _ (tested .before .before .before .lacks-five .ensures) (tested .before .before .if1 .left) refl
-    (held _ _ (tested .before .lacks .ensures) (tested .if2 .left) (cc) (c .before .before .store .ensures))
+    (held _ _ (tested .before .lacks .ensures) (tested .if2 .left) is (c .before .before .store .ensures))
 
 pub finish-spec : {M : Type 1} → statement M
 finish-spec = tie.close (tie.spec (λ c κs. search needs) returns (λ c κs. search needs) returns-2 poly-at-requires candidates-at-requires finish-requires root-numbers-requires (λ c. search needs) (λ c κs. search needs) (λ c. search needs) returns-3)

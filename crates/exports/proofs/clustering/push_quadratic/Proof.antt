@@ -1,6 +1,7 @@
 -- `exports::clustering::push_quadratic` meets its contract: all the numbers of the answer, or none.
 -- Assumes nothing.
-use mathlib.Core.Path.{refl}
+use Rattle.exports.specs.Clustering.{foundNumbers}
+use mathlib.Core.Path.{refl, ap, _∙_}
 use Rattle.lent.proofs.Five.{accepted}
 use Rattle.lent.proofs.Whole.{lacking, held}
 use Rattle.exports.proofs.Polynomials.{holding, quadratic-fits}
@@ -33,9 +34,11 @@ found-numbers-requires c κs =
 
 returns-3 : tie.Need-returns-3
 returns-3 c =
-    let tested = c .before .before .before .before .before .before .before .before .before .before in
+    let poly = c .before .before .before .before .before .before .before .before .before in
+    let tested = poly .before in
+    let is = rw (c .before .before .before .before .before .before .before .pairs-at .ensures, c .before .before .before .before .before .before .before .before .candidates-at .ensures .0, poly .poly-at .ensures .0) at (c .before .before .before .before .found-numbers .ensures ∙ ap foundNumbers (c .before .before .before .before .before .before .push-quadratic .ensures)) in
     held _ _ (tested .before .before .before .lacks-five .ensures) (tested .before .before .if1 .left) refl
-    (held _ _ (tested .before .lacks .ensures) (tested .if2 .left) (cc) (c .before .before .store .ensures))
+    (held _ _ (tested .before .lacks .ensures) (tested .if2 .left) is (c .before .before .store .ensures))
 
 pub push-quadratic-spec : {M : Type 1} → statement M
 push-quadratic-spec = tie.close (tie.spec (λ c κs. search needs) returns (λ c κs. search needs) returns-2 poly-at-requires candidates-at-requires pairs-at-requires (λ c κs. search needs) found-numbers-requires (λ c. search needs) (λ c κs. search needs) (λ c. search needs) returns-3)

@@ -2,14 +2,14 @@
 -- Assumes nothing.
 use borrow.Author.Needs.{needs}
 use native.Mathlib.Omega.{arith}
-use mathlib.Core.Path.{sym, subst⁻¹}
+use mathlib.Core.Path.{sym, subst⁻¹, ap, _∙_}
 use Prim.Native.Nat.{_/_, _≤_}
 use lib.ListN.{length}
 use lib.Seq.{length-take-le}
 use Rattle.roots.specs.Listed.{Fits}
 use Rattle.poly.specs.declared.Answer.{Answer}
 use Rattle.poly.proofs.Sums.{answer-fits}
-use Rattle.exports.specs.Lists.{answerAt}
+use Rattle.exports.specs.Lists.{answerAt, rootNumbers}
 use Rattle.exports.proofs.Listing.{no-doubles, of-doubles}
 use Rattle.exports.proofs.lists.real_roots.Statement.{statement}
 use Rattle.exports.proofs.lists.real_roots.Tie as tie
@@ -39,7 +39,9 @@ returns-2 : tie.Need-returns-2
 unfolding answerAt
 returns-2 c =
     let read = c .before .before .before .before .before .before .before .before in
-    of-doubles _ _ _ (read .before .before .not-doubles .ensures .0) (read .before .if1 .left) (cc) (cc) (c .before .before .answer .ensures)
+    let is = rw (read .f64s-at .ensures) at (c .before .before .before .before .before .before .real-roots .ensures) in
+    of-doubles _ _ _ (read .before .before .not-doubles .ensures .0) (read .before .if1 .left)
+    (ap (λ (a : Answer). a .number) is) (c .before .before .before .before .root-numbers .ensures ∙ ap (λ (a : Answer). rootNumbers (a .roots)) is) (c .before .before .answer .ensures)
 
 pub real-roots-spec : {M : Type 1} → statement M
 real-roots-spec = tie.close (tie.spec (λ c κs. search needs) returns f64s-at-requires array-share-prefix-list slice-aggregate-real-roots (λ c κs. search needs) root-numbers-requires (λ c. search needs) (λ c κs. search needs) (λ c. search needs) returns-2)

@@ -1,7 +1,8 @@
 -- `exports::quadratics::crank_front` meets its contract: all the numbers of the answer, or the refusal.
 -- Assumes nothing.
+use Rattle.exports.specs.Quadratics.{frontNumbers}
 use native.Mathlib.Omega.{arith}
-use mathlib.Core.Path.{subst⁻¹}
+use mathlib.Core.Path.{subst⁻¹, ap}
 use Prim.Native.Nat.{_<_}
 use Rattle.equation.specs.declared.Crank.{Crank}
 use Rattle.float.proofs.Whole.{whole-exact}
@@ -17,7 +18,9 @@ k-exact c =
     whole-exact _ (omega arith)
 
 returns : tie.Need-returns
-returns c = answered-as (cc) (cc) (c .before .before .answer .ensures)
+returns c =
+    let is = c .before .before .before .before .before .before .before .crank-front .ensures in
+    answered-as (ap (λ (f : Crank). f .number) is) (ap frontNumbers is) (c .before .before .answer .ensures)
 
 pub crank-front-spec : {M : Type 1} → statement M
 crank-front-spec = tie.close (tie.spec (λ c κs. search needs) k-exact (λ c. search needs) (λ c. search needs) (λ c. search needs) (λ c. search needs) (λ c. search needs) (λ c. search needs) (λ c κs. search needs) (λ c. search needs) returns)

@@ -17,8 +17,8 @@ taylor-requires c κs = accepted _ _ (c .before .before .before .lacks-five .ens
 
 returns-2 : tie.Need-returns-2
 returns-2 c =
-    let tested = c .before .before .before .before .before .before .before in
-    held _ _ (tested .before .lacks-five .ensures) (tested .if1 .left) (cc) (c .before .before .store .ensures)
+    let is = rw (c .before .before .before .before .before .five-at .ensures) at (c .before .before .before .before .taylor .ensures) in
+    held _ _ (c .before .before .before .before .before .before .before .before .lacks-five .ensures) (c .before .before .before .before .before .before .before .if1 .left) is (c .before .before .store .ensures)
 
 pub taylor-spec : {M : Type 1} → statement M
 taylor-spec = tie.close (tie.spec (λ c κs. search needs) returns five-at-requires taylor-requires (λ c. search needs) (λ c κs. search needs) (λ c. search needs) returns-2)

@@ -1,7 +1,8 @@
 -- `layers::factoring::cubic_closed_form` meets its contract: all the numbers of the answer, or none.
 -- Assumes nothing.
+use Rattle.layers.specs.Numbers.{rootsNumbers}
 use native.Mathlib.Omega.{arith}
-use mathlib.Core.Path.{subst⁻¹}
+use mathlib.Core.Path.{subst⁻¹, ap}
 use mathlib.Core.Bool.{_||_}
 use Prim.Native.Nat.{_≤_}
 use lib.Ieee.{Float, lt, le}
@@ -30,7 +31,7 @@ n-exact c =
     whole-exact _ (omega arith)
 
 returns : tie.Need-returns
-returns c = stored-as (cc) (c .before .before .store .ensures)
+returns c = stored-as (ap rootsNumbers (c .before .before .before .before .before .before .before .cubic-closed-form .ensures)) (c .before .before .store .ensures)
 
 pub cubic-closed-form-spec : {M : Type 1} → statement M
 cubic-closed-form-spec = tie.close (tie.spec (λ c κs. search needs) n-exact (λ c. search needs) (λ c. search needs) (λ c. search needs) (λ c. search needs) (λ c κs. search needs) (λ c. search needs) returns)

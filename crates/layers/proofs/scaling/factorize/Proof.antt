@@ -1,7 +1,8 @@
 -- `layers::scaling::factorize` meets its contract: all the numbers of the answer, or none.
 -- Assumes nothing.
+use Rattle.layers.specs.Numbers.{factorNumbers}
 use borrow.Author.Needs.{needs}
-use mathlib.Core.Path.{_≡_, subst⁻¹}
+use mathlib.Core.Path.{_≡_, subst⁻¹, ap, _∙_}
 use mathlib.Core.List.{List}
 use Prim.Native.Nat.{ℕ, _-_, _≤_}
 use native.Mathlib.Omega.{arith}
@@ -45,8 +46,9 @@ factor-numbers-requires c κs =
 
 returns-2 : tie.Need-returns-2
 returns-2 c =
-    let tested = c .before .before .before .before .before .before .before .before .before in
-    held _ _ (tested .before .lacks-five .ensures) (tested .if1 .left) (cc) (c .before .before .store .ensures)
+    let five = c .before .before .before .before .before .before .before .before in
+    let is = rw (c .before .before .before .before .before .before .before .new .ensures, five .five-at .ensures) at (c .before .before .before .before .factor-numbers .ensures ∙ ap factorNumbers (c .before .before .before .before .before .before .factorize .ensures)) in
+    held _ _ (five .before .before .lacks-five .ensures) (five .before .if1 .left) is (c .before .before .store .ensures)
 
 pub factorize-spec : {M : Type 1} → statement M
 factorize-spec = tie.close (tie.spec (λ c κs. search needs) returns five-at-requires new-requires factorize-requires factor-numbers-requires (λ c. search needs) (λ c κs. search needs) (λ c. search needs) returns-2)

@@ -1,6 +1,7 @@
 -- `layers::scaling::magnitude_split` meets its contract: all the numbers of the answer, or none.
 -- Assumes nothing.
-use mathlib.Core.Path.{subst⁻¹}
+use Rattle.layers.specs.Numbers.{splitNumbers}
+use mathlib.Core.Path.{subst⁻¹, ap, _∙_}
 use Prim.Native.Nat.{_≤_}
 use native.Mathlib.Nat.{le-trans}
 use Rattle.split.specs.declared.Split.{Split}
@@ -28,8 +29,9 @@ split-numbers-requires c κs =
 
 returns-2 : tie.Need-returns-2
 returns-2 c =
-    let tested = c .before .before .before .before .before .before .before .before in
-    held _ _ (tested .before .lacks-five .ensures) (tested .if1 .left) (cc) (c .before .before .store .ensures)
+    let five = c .before .before .before .before .before .before .before in
+    let is = rw (five .five-at .ensures) at (c .before .before .before .before .split-numbers .ensures ∙ ap splitNumbers (c .before .before .before .before .before .before .magnitude-split .ensures)) in
+    held _ _ (five .before .before .lacks-five .ensures) (five .before .if1 .left) is (c .before .before .store .ensures)
 
 pub magnitude-split-spec : {M : Type 1} → statement M
 magnitude-split-spec = tie.close (tie.spec (λ c κs. search needs) returns five-at-requires magnitude-split-requires split-numbers-requires (λ c. search needs) (λ c κs. search needs) (λ c. search needs) returns-2)

@@ -1,6 +1,7 @@
 -- `layers::scaling::scaled_new` meets its contract: all the numbers of the answer, or none.
 -- Assumes nothing.
-use mathlib.Core.Path.{subst⁻¹}
+use Rattle.layers.specs.Numbers.{scaledNumbers}
+use mathlib.Core.Path.{subst⁻¹, ap, _∙_}
 use Prim.Native.Nat.{_≤_}
 use Rattle.scaled.specs.declared.Scaled.{Scaled}
 use Rattle.scaled.specs.Scaled.{scaledOf}
@@ -26,8 +27,9 @@ scaled-numbers-requires c κs =
 
 returns-2 : tie.Need-returns-2
 returns-2 c =
-    let tested = c .before .before .before .before .before .before .before .before in
-    held _ _ (tested .before .lacks-five .ensures) (tested .if1 .left) (cc) (c .before .before .store .ensures)
+    let five = c .before .before .before .before .before .before .before in
+    let is = rw (five .five-at .ensures) at (c .before .before .before .before .scaled-numbers .ensures ∙ ap scaledNumbers (c .before .before .before .before .before .before .new .ensures)) in
+    held _ _ (five .before .before .lacks-five .ensures) (five .before .if1 .left) is (c .before .before .store .ensures)
 
 pub scaled-new-spec : {M : Type 1} → statement M
 scaled-new-spec = tie.close (tie.spec (λ c κs. search needs) returns five-at-requires new-requires scaled-numbers-requires (λ c. search needs) (λ c κs. search needs) (λ c. search needs) returns-2)
