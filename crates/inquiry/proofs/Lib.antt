@@ -6,3 +6,4 @@ pub mod Shown
 pub mod Questions
 pub mod Fresh
 pub mod Theorem
+pub mod Short

@@ -5,3 +5,4 @@ pub mod Sums
 pub mod Steps
 pub mod Refusals
 pub mod Small
+pub mod Short

@@ -3,3 +3,4 @@ pub mod Solve
 pub mod Found
 pub mod RealRoots
 pub mod Conditions
+pub mod Short
