@@ -3,3 +3,4 @@ pub mod Listing
 pub mod Polynomials
 pub mod Feeding
 pub mod Crank
+pub mod Reading

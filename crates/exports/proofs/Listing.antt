@@ -3,24 +3,10 @@
 use mathlib.Core.Path.{_≡_}
 use mathlib.Core.Bool.{Bool, true, false}
 use mathlib.Core.List.{List, []}
-use Prim.Native.Nat.{ℕ, _*_, _/_, _<_, _≤_}
-use lib.Dec.{ltb}
-use lib.ListN.{length}
+use Prim.Native.Nat.{ℕ}
 use lib.Ieee.{Float}
-use borrow.Author.Tests.{lt-ltb, le-ltb}
 use Rattle.lent.specs.Bytes.{unless, Answered}
-use Rattle.exports.specs.Lists.{notDoubles}
 use Rattle.lent.proofs.Whole.{nothing, answered-as, is-other, is-given}
-
--- ---- whether the bytes are doubles
-module _ (s : List ℕ) where
-  pub cut-doubles : 8 * (length s / 8) < length s → true ≡ notDoubles s
-  unfolding notDoubles
-  cut-doubles h = simp (lt-ltb _ _ h)
-
-  pub whole-doubles : length s ≤ 8 * (length s / 8) → ltb 32 (length s / 8) ≡ notDoubles s
-  unfolding notDoubles
-  whole-doubles h = simp (le-ltb _ _ h)
 
 -- ---- what is said of an answer ys that is refused under k, and stored: by whether they are
 module _ (k : ℕ) (ys : List Float) (l : List ℕ) {p b : Bool} (e : b ≡ p) where

@@ -1,9 +1,8 @@
 -- What the export for inquiries stores, and its answer. Definitions only.
 use mathlib.Core.Bool.{Bool, not}
 use mathlib.Core.List.{List, [], _∷_}
-use Prim.Native.Nat.{ℕ, _/_}
+use Prim.Native.Nat.{ℕ}
 use lib.Dec.{eqb}
-use lib.ListN.{length}
 use lib.Ieee.{Float}
 use Rattle.roots.specs.declared.Roots.{Roots}
 use Rattle.inquiry.specs.declared.Inquiry.{Inquiry}
@@ -11,8 +10,9 @@ use Rattle.inquiry.specs.declared.Started.{Started}
 use Rattle.inquiry.specs.declared.Replied.{Replied}
 use Rattle.inquiry.specs.Inquiry.{askedOf, repliedOf}
 use Rattle.inquiry.specs.Start.{startOf}
-use Rattle.lent.specs.Bytes.{f64sAt, unless}
+use Rattle.lent.specs.Bytes.{unless}
 use Rattle.lent.specs.Numbers.{number, flagOf}
+use Rattle.exports.specs.Coefficients.{coefficientsAt}
 use Rattle.exports.specs.Lists.{rootNumbers, notDoubles}
 
 -- a reply's byte: 0 is no, every other one yes
@@ -45,7 +45,7 @@ inquiryNumbers p = let a = askedOf (p .inquiry) in shownNumbers (p .number) (a .
 
 -- the inquiry about the doubles in the bytes
 unfoldable pub startAt : List ℕ → Float → Started
-startAt s tol = startOf (f64sAt (length s / 8) s 0) tol
+startAt s tol = startOf (coefficientsAt s) tol
 
 -- the refusal of its start, and what it shows then: 0 and nothing where the bytes are no doubles
 abbrev pub inquiryRefusal : List ℕ → Float → ℕ

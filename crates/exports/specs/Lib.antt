@@ -1,4 +1,5 @@
 pub mod Lists
+pub mod Coefficients
 pub mod Clustering
 pub mod Inquiries
 pub mod Cranks

@@ -1,5 +1,5 @@
 -- What the export for lists stores, and its refusal. Definitions only.
-use mathlib.Core.Bool.{Bool, _||_}
+use mathlib.Core.Bool.{Bool}
 use mathlib.Core.List.{List, [], _∷_, _++_}
 use Prim.Native.Nat.{ℕ, _*_, _/_}
 use lib.Dec.{ltb}
@@ -9,8 +9,9 @@ use Rattle.roots.specs.declared.Roots.{Roots}
 use Rattle.roots.specs.Listed.{blank}
 use Rattle.poly.specs.declared.Answer.{Answer}
 use Rattle.poly.specs.RealRoots.{realRootsOf}
-use Rattle.lent.specs.Bytes.{f64sAt, unless}
+use Rattle.lent.specs.Bytes.{unless}
 use Rattle.lent.specs.Numbers.{number}
+use Rattle.exports.specs.Coefficients.{coefficientsAt}
 
 -- place and multiplicity of the root i
 abbrev pub rootAt : Roots → ℕ → List Float
@@ -20,13 +21,13 @@ rootAt s i = let r = getD (s .root) i blank in r .value ∷ number (r .multiplic
 unfoldable pub rootNumbers : Roots → List Float
 rootNumbers s = number (s .len) ∷ (rootAt s 0 ++ (rootAt s 1 ++ (rootAt s 2 ++ rootAt s 3)))
 
--- the bytes are no doubles, or more than 32 of them
-unfoldable pub notDoubles : List ℕ → Bool
-notDoubles s = let n = length s / 8 in ltb (8 * n) (length s) || ltb 32 n
+-- the bytes are no whole doubles
+abbrev pub notDoubles : List ℕ → Bool
+notDoubles s = ltb (8 * (length s / 8)) (length s)
 
 -- the answer to the doubles in the bytes
 unfoldable pub answerAt : List ℕ → Float → Answer
-answerAt s tol = realRootsOf (f64sAt (length s / 8) s 0) tol
+answerAt s tol = realRootsOf (coefficientsAt s) tol
 
 -- its refusal and its numbers: 0 and none where the bytes are no doubles
 abbrev pub listRefusal : List ℕ → Float → ℕ

@@ -1,16 +1,16 @@
 // Inquiries in lent bytes, from the start: coefficients as for a list and the replies so far in, one byte each, 0 for no; what the inquiry shows then out, as doubles:
 // 0, or 4 where a reply was refused; 1 and the place where it asks, 0 and 0 where not; and the list as for `real_roots`. The answer is how many bytes are stored, 96,
-// or the number of the refused start, or 0 where the bytes are no doubles, more than 32 of them, or where those lent are too few: nothing is stored then.
+// or the number of the refused start, or 0 where the bytes are no whole doubles or where those lent are too few: nothing is stored then.
 ghost use mathlib.Core.Path.{_≡_};
 ghost use Rattle.roots.specs.Listed.{Fits};
 ghost use Rattle.lent.specs.Bytes.{Answered};
 ghost use Rattle.exports.specs.Inquiries.{fedAll, shownNumbers, inquiryNumbers, inquiryRefusal, shownAt};
+use crate::coefficients::short_at;
 use crate::lists::not_doubles;
 use crate::lists::root_numbers;
 use inquiry::Inquiry;
 use inquiry::Replied;
 use lent::answer;
-use lent::f64s_at;
 use lent::flag;
 use roots::Roots;
 
@@ -66,9 +66,7 @@ pub extern "C" fn inquire(coeffs: &[u8], tol: f64, replies: &[u8], out: &mut [u8
     if not_doubles(coeffs) {
         return 0;
     }
-    let n = coeffs.len() / 8;
-    let list = f64s_at(coeffs, 0, n);
-    let s = inquiry::start(&list[..n], tol);
+    let s = inquiry::start(&short_at(coeffs), tol);
     let p = fed(s.inquiry, replies);
     answer(out, s.number, &inquiry_numbers(p))
 }

@@ -2,6 +2,7 @@
 // exports` makes of them one of the two archives that the test host links. No function here requires anything.
 // It rests on the crates whose functions it hands out, and on `lent`; nothing rests on it.
 pub mod clustering;
+pub mod coefficients;
 pub mod cranks;
 pub mod halls;
 pub mod inquiries;

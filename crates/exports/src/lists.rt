@@ -1,15 +1,12 @@
-// Lists of roots in lent bytes: coefficients in, at most 32; the number of roots and four places with their multiplicities out, as doubles, zeros after
-// the last root. The answer is how many bytes are stored, 72, or the number of the refusal, or 0 where the bytes are no doubles, more than 32 of them, or
-// where those lent are too few: nothing is stored then.
+// Lists of roots in lent bytes: any number of coefficients in; the number of roots and four places with their multiplicities out, as doubles, zeros after
+// the last root. The answer is how many bytes are stored, 72, or the number of the refusal, or 0 where the bytes are no whole doubles or where those lent
+// are too few: nothing is stored then.
 ghost use mathlib.Core.Path.{_≡_};
-ghost use mathlib.Core.Bool.{false};
-ghost use Prim.Native.Nat.{_/_, _≤_};
-ghost use lib.ListN.{length};
 ghost use Rattle.roots.specs.Listed.{Fits};
 ghost use Rattle.lent.specs.Bytes.{Answered};
 ghost use Rattle.exports.specs.Lists.{rootNumbers, notDoubles, listRefusal, listNumbers};
+use crate::coefficients::short_at;
 use lent::answer;
-use lent::f64s_at;
 use roots::Roots;
 
 pub fn root_numbers(s: Roots) -> [f64; 9]
@@ -34,15 +31,11 @@ pub fn root_numbers(s: Roots) -> [f64; 9]
     ]
 }
 
-// The bytes are no doubles, or more than 32 of them.
+// The bytes are no whole doubles.
 pub fn not_doubles(s: &[u8]) -> bool
-    ensures { λ r. ⌜ (r ≡ notDoubles (now (s .entry))) × (r ≡ false → length (now (s .entry)) / 8 ≤ 32) ⌝ }
+    ensures { λ r. ⌜ r ≡ notDoubles (now (s .entry)) ⌝ }
 {
-    let n = s.len() / 8;
-    if 8 * n < s.len() {
-        return true;
-    }
-    32 < n
+    8 * (s.len() / 8) < s.len()
 }
 
 #[no_mangle]
@@ -52,8 +45,6 @@ pub extern "C" fn real_roots(coeffs: &[u8], tol: f64, out: &mut [u8]) -> u64
     if not_doubles(coeffs) {
         return 0;
     }
-    let n = coeffs.len() / 8;
-    let list = f64s_at(coeffs, 0, n);
-    let a = poly::real_roots(&list[..n], tol);
+    let a = poly::real_roots(&short_at(coeffs), tol);
     answer(out, a.number, &root_numbers(a.roots))
 }
