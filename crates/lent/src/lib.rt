@@ -1,17 +1,19 @@
 // Doubles in lent bytes, lowest byte first: read from them, and stored in them, all of an answer or none of it.
 // It rests on `float` and `text`; the hall file and the C functions rest on it.
 ghost use mathlib.Core.Path.{_≡_};
-ghost use Prim.Native.Nat.{_+_, _*_, _≤_};
-ghost use lib.ListN.{length, take};
+ghost use mathlib.Core.List.{_++_};
+ghost use Prim.Native.Nat.{_+_, _-_, _*_, _≤_};
+ghost use lib.ListN.{length, replicate};
 ghost use lib.Seq.{sets};
+ghost use Rattle.float.specs.Literals.{zero64};
 ghost use Rattle.lent.specs.Bytes.{doublesBytes, f64sAt, fiveAt, lacksFive, Answered, Stored};
 ghost use Rattle.lent.specs.Numbers.{flagOf};
 use float::f64_at;
 
-// The k doubles from at on, at the start of an array of 32.
+// The k doubles from at on, at the start of an array of 32, zeros behind them.
 pub fn f64s_at(s: &[u8], at: usize, k: usize) -> [f64; 32]
     requires { ⌜ (k ≤ 32) × (at + 8 * k ≤ length (now s)) ⌝ }
-    ensures { λ r. ⌜ take k r ≡ f64sAt k (now (s .entry)) at ⌝ }
+    ensures { λ r. ⌜ r ≡ f64sAt k (now (s .entry)) at ++ replicate (32 - k) zero64 ⌝ }
 {
     let mut out = [0.0; 32];
     let mut i = 0;

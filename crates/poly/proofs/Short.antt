@@ -22,7 +22,7 @@ use Rattle.poly.specs.Short.{restWith, restOf, shortFrom, shortOf}
 use Rattle.poly.proofs.Coefficients.{trimmed-most, room}
 
 -- ---- the trimmed length, from the front
--- of a number, a zero or not, before t that are left
+-- how many are left of a number and of those behind it: z where the number is a zero, and t are left of the others
 abbrev before : Bool → ℕ → ℕ
 before z zero = cond z 0 1
 before z (suc t) = suc (suc t)
@@ -117,7 +117,7 @@ short-trimmed (suc k) (x ∷ l) =
     ∙ before-min (eq x zero64) (trimmedOf l) k
     ∙ ap (λ (t : ℕ). min t (suc (suc k))) (sym (trim-cons x l))
 
--- more than six are refused as six are
+-- six or more are refused alike
 up-to-six : (finite : Bool) (t : ℕ) → refusalBy finite (min t 6) ≡ refusalBy finite t
 unfolding refusalBy
 up-to-six finite t = go (leb t 5) refl

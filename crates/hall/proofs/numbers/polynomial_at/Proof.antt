@@ -8,6 +8,7 @@ use lib.Seq.{length-take-le}
 use lib.Ieee.{Float}
 use Rattle.poly.specs.RealRoots.{realRootsOf}
 use Rattle.lent.specs.Bytes.{f64sAt}
+use Rattle.lent.proofs.Doubles.{f64s-taken}
 use Rattle.hall.specs.Records.{countAt}
 use Rattle.hall.specs.Answers.{polynomialAt}
 use borrow.Author.Needs.{needs}
@@ -58,7 +59,7 @@ returns c =
     let s = start .args .s .now in
     let at = start .args .at in
     c .real-roots .ensures
-    ∙ ap (λ (cs : List Float). realRootsOf cs (after-f64-at .f64-at .result)) (after-f64s-at .f64s-at .ensures)
+    ∙ ap (λ (cs : List Float). realRootsOf cs (after-f64-at .f64-at .result)) (f64s-taken (countAt s at) s (at + 11) _ _ (after-f64s-at .f64s-at .ensures))
     ∙ ap (realRootsOf (f64sAt (countAt s at) s (at + 11))) (after-f64-at .f64-at .ensures)
 
 pub polynomial-at-spec : {M : Type 1} → statement M
