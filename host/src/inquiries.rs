@@ -3,7 +3,7 @@
 use crate::answer::{Answer, Root};
 use crate::compare::bits;
 use crate::lister::refusal;
-use crate::lists::{KINDS, handed_in, tolerance};
+use crate::lists::{KINDS, Maker, handed_in, long, tolerance};
 use crate::met;
 use crate::outcome::Outcome;
 use crate::parts;
@@ -231,11 +231,31 @@ const CASES: [&str; 11] = cases("refused 3");
 
 /// `count` made lists, the kinds in turn.
 pub fn made(seed: u64, count: u64) -> Outcome {
+    made_by(handed_in, seed, count)
+}
+
+/// The same of long ones.
+pub fn made_long(seed: u64, count: u64) -> Outcome {
+    made_by(long, seed, count)
+}
+
+/// These lists at a tolerance.
+pub fn each(lists: &[Vec<f64>], tol: f64) -> Outcome {
+    let before = met::counts();
+    let mut outcome = Outcome::new("inquiries", &CASES);
+    for list in lists {
+        add(&mut outcome, &List(list, tol), true);
+    }
+    outcome.ways = met::since(&before);
+    outcome
+}
+
+fn made_by(make: Maker, seed: u64, count: u64) -> Outcome {
     let (mut r, mut list) = (Random::new(seed), Vec::new());
     let before = met::counts();
     let mut outcome = Outcome::new("inquiries", &CASES);
     for n in 0..count {
-        handed_in(&mut r, (n % KINDS.len() as u64) as usize, n, &mut list);
+        make(&mut r, (n % KINDS.len() as u64) as usize, n, &mut list);
         let tol = tolerance_for(&mut r, &list);
         add(&mut outcome, &List(&list, tol), n % MORE == 0);
     }

@@ -219,6 +219,9 @@ fn zero(r: &mut Random) -> f64 {
     if r.below(2) == 0 { 0.0 } else { -0.0 }
 }
 
+/// What makes a list of the kind with this number; `n` tells those of one kind apart.
+pub type Maker = fn(&mut Random, usize, u64, &mut Vec<f64>);
+
 /// A list of the kind with this number as a hall hands it in: some begin with zeros, some end with
 /// zeros, a few are too long or not finite. At most 32, as the hall file has it.
 pub fn handed_in(r: &mut Random, which: usize, n: u64, all: &mut Vec<f64>) {
@@ -250,6 +253,52 @@ pub fn handed_in(r: &mut Random, which: usize, n: u64, all: &mut Vec<f64>) {
         _ => (),
     }
     all.truncate(32);
+}
+
+/// The same with up to 100 zeros behind it, now and then thousands; among all of them, or at the very
+/// end, now and then any number or one that is not finite.
+pub fn long(r: &mut Random, which: usize, n: u64, all: &mut Vec<f64>) {
+    handed_in(r, which, n, all);
+    let most = if r.below(16) == 0 { 4_000 } else { 100 };
+    all.extend((0..=r.below(most)).map(|_| zero(r)));
+    let last = all.len() - 1;
+    let at = [last, r.below(all.len() as u64) as usize][r.below(2) as usize];
+    match r.below(8) {
+        0 => all[at] = r.any(),
+        1 => all[at] = [f64::INFINITY, f64::NEG_INFINITY, f64::NAN][r.below(3) as usize],
+        _ => (),
+    }
+}
+
+/// Lists of 33 to some thousand: a few coefficients and zeros behind them, and then each of these
+/// with one other number at places up to the sixth and the 33rd, and at the end.
+pub fn long_lists() -> Vec<Vec<f64>> {
+    let fronts: [&[f64]; 7] = [
+        &[],
+        &[7.0],
+        &[-0.0, -0.0, 3.0],
+        &[2.0, -3.0, 1.0],
+        &[1.0, 0.0, 1.0],
+        &[0.0, 1.0, 1.5, 1.0],
+        &[2.0, 0.0, 0.0, 0.0, -2.0],
+    ];
+    let others = [1.0, f64::from_bits(1), f64::INFINITY, f64::NEG_INFINITY, f64::NAN];
+    let mut all = Vec::new();
+    for len in [33, 34, 64, 65, 100, 1_000, 4_097] {
+        for (front, zero) in fronts.iter().flat_map(|front| [(front, 0.0), (front, -0.0)]) {
+            let mut list = front.to_vec();
+            list.resize(len, zero);
+            for at in [3, 4, 5, 6, 31, 32, len - 2, len - 1] {
+                all.extend(others.map(|x| {
+                    let mut list = list.clone();
+                    list[at] = x;
+                    list
+                }));
+            }
+            all.push(list);
+        }
+    }
+    all
 }
 
 /// Tolerances at which something changes.

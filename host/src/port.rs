@@ -28,6 +28,14 @@ pub fn packed<const N: usize>(a: &[f64]) -> [u8; N] {
     out
 }
 
+/// Calls with the bytes of a list; up to 32 doubles have them on the stack.
+fn of_bytes<R>(a: &[f64], call: impl FnOnce(&[u8]) -> R) -> R {
+    match a.len() {
+        0..=32 => call(&packed::<256>(a)[..8 * a.len()]),
+        _ => call(&bytes(a)),
+    }
+}
+
 /// Five doubles as bytes, lowest first.
 pub fn forty(a: [f64; 5]) -> [u8; 40] {
     packed(&a)
@@ -166,10 +174,9 @@ pub fn factorize(a: [f64; 5], d: u64, depth: u32) -> [f64; 10] {
     numbers(|out| exported::factorize(&forty(a), d, depth, out))
 }
 
-/// `real_roots`'s answer for at most 32 coefficients.
+/// `real_roots`'s answer.
 pub fn real_roots(coeffs: &[f64], tol: f64) -> Answer {
-    let from: [u8; 256] = packed(coeffs);
-    match answered::<9>(|out| exported::real_roots(&from[..8 * coeffs.len()], tol, out)) {
+    match answered::<9>(|out| of_bytes(coeffs, |from| exported::real_roots(from, tol, out))) {
         Ok(list) => Answer::read(&list),
         Err(refusal) => Answer::new(refusal, &[]),
     }

@@ -2,7 +2,7 @@
 //! over made lists.
 use crate::answer::{Answer, Root};
 use crate::lister::refusal;
-use crate::lists::{KINDS, handed_in, tolerance};
+use crate::lists::{KINDS, Maker, handed_in, long, tolerance};
 use crate::met;
 use crate::outcome::Outcome;
 use crate::parts;
@@ -132,13 +132,33 @@ pub fn tolerance_for(r: &mut Random, coeffs: &[f64]) -> f64 {
 
 /// `count` made lists, the kinds in turn.
 pub fn made(seed: u64, count: u64) -> Outcome {
+    made_by(handed_in, seed, count)
+}
+
+/// The same of long ones.
+pub fn made_long(seed: u64, count: u64) -> Outcome {
+    made_by(long, seed, count)
+}
+
+fn made_by(make: Maker, seed: u64, count: u64) -> Outcome {
     let (mut r, mut list) = (Random::new(seed), Vec::new());
     let before = met::counts();
     let mut outcome = Outcome::new("lists", &CASES);
     for n in 0..count {
-        handed_in(&mut r, (n % KINDS.len() as u64) as usize, n, &mut list);
+        make(&mut r, (n % KINDS.len() as u64) as usize, n, &mut list);
         let tol = tolerance_for(&mut r, &list);
         add(&mut outcome, &list, tol);
+    }
+    outcome.ways = met::since(&before);
+    outcome
+}
+
+/// These lists at a tolerance.
+pub fn each(lists: &[Vec<f64>], tol: f64) -> Outcome {
+    let before = met::counts();
+    let mut outcome = Outcome::new("lists", &CASES);
+    for list in lists {
+        add(&mut outcome, list, tol);
     }
     outcome.ways = met::since(&before);
     outcome

@@ -3,7 +3,8 @@
 #![cfg(geomcore)]
 use host::answer::{Answer, Root};
 use host::compare::say;
-use host::inquiries::{every_reply, made};
+use host::inquiries::{each, every_reply, made, made_long};
+use host::lists::long_lists;
 use host::met::named;
 use host::port;
 use host::port::inquiries::{inquire, inquire_bytes};
@@ -80,6 +81,14 @@ fn made_lists_second() {
 }
 
 #[test]
+fn long() {
+    for outcome in [each(&long_lists(), TOL), made_long(714, 200_000)] {
+        say(&format!("long lists: {}", outcome.text()));
+        assert!(outcome.wrong == 0, "{}", outcome.shown.join("\n"));
+    }
+}
+
+#[test]
 fn every_sequence_of_replies() {
     let (made, ends) = every_reply(713, 100_000);
     let counts = ends.iter().zip(2..).map(|(n, ends)| format!("{n} with {ends}"));
@@ -107,8 +116,7 @@ fn buffers() {
             check(&circle, replies, room, whole);
             check(&port::bytes(&[1.0, f64::NAN]), replies, room, 1);
             check(&[], replies, room, 2);
-            check(&port::bytes(&[1.0; 32]), replies, room, 3);
-            check(&port::bytes(&[1.0; 33]), replies, room, 0);
+            check(&port::bytes(&[1.0; 33]), replies, room, 3);
             check(&circle[..23], replies, room, 0);
         }
     }

@@ -3,11 +3,11 @@
 use host::answer::{Answer, Root};
 use host::compare::say;
 use host::exact::ldexp;
-use host::lists::TOLERANCES;
+use host::lists::{TOLERANCES, long_lists};
 use host::met::{OF_LISTS, WAYS};
 use host::outcome::Outcome;
 use host::port;
-use host::roots::{every_short_list, made, reference};
+use host::roots::{each, every_short_list, made, made_long, reference};
 
 const TOL: f64 = 1.0 / (1u64 << 30) as f64;
 const INFINITE: f64 = f64::INFINITY;
@@ -151,6 +151,35 @@ fn made_lists_second() {
     made_lists(702);
 }
 
+/// Any number of coefficients: what stands far behind counts too.
+#[test]
+fn far_behind() {
+    let mut list = vec![0.0; 5_000];
+    list[..3].copy_from_slice(&[2.0, -3.0, 1.0]);
+    roots(&list, TOL, &[(1.0, 1), (2.0, 1)]);
+    list[4_999] = -0.0;
+    roots(&list, TOL, &[(1.0, 1), (2.0, 1)]);
+    list[4_999] = double(1);
+    refused(&list, TOL, 3);
+    for x in [INFINITE, -INFINITE, f64::NAN] {
+        list[4_998] = x;
+        refused(&list, TOL, 1);
+    }
+    refused(&vec![-0.0; 5_000], TOL, 2);
+}
+
+#[test]
+fn long() {
+    for tol in [TOL, f64::NAN] {
+        let outcome = each(&long_lists(), tol);
+        assert_eq!(outcome.inputs, 7 * 14 * 41);
+        all_equal("long lists", &outcome);
+    }
+    let outcome = made_long(703, 300_000);
+    all_equal("made long lists, seed 703", &outcome);
+    outcome.met.ask("made long lists");
+}
+
 /// On a refusal every byte of the lent buffer is as it was; on an answer every byte behind it.
 #[test]
 fn buffers() {
@@ -169,10 +198,14 @@ fn buffers() {
         check(&port::bytes(&[1.0, INFINITE]), TOL, room, 1);
         check(&[], TOL, room, 2);
         check(&port::bytes(&[1.0; 6]), TOL, room, 3);
-        check(&port::bytes(&[1.0; 32]), TOL, room, 3);
-        check(&port::bytes(&[1.0; 33]), TOL, room, 0);
+        check(&port::bytes(&[1.0; 33]), TOL, room, 3);
     }
     for cut in (1..24).filter(|n| n % 8 != 0) {
         check(&two[..cut], TOL, 100, 0);
+    }
+    let many = port::bytes(&[0.0; 1_000]);
+    check(&many, TOL, 100, 2);
+    for cut in 1..8 {
+        check(&many[cut..], TOL, 100, 0);
     }
 }

@@ -1,5 +1,5 @@
 //! Inquiries by the port, replayed from the start with the replies so far.
-use super::{answered, exported, packed};
+use super::{answered, exported, of_bytes};
 use crate::answer::Answer;
 
 pub use exported::inquire as inquire_bytes;
@@ -37,11 +37,9 @@ impl Shown {
     }
 }
 
-/// What an inquiry about at most 32 coefficients shows after these replies, or the number of the
-/// refused start.
+/// What an inquiry shows after these replies, or the number of the refused start.
 pub fn inquire(coeffs: &[f64], tol: f64, replies: &[u8]) -> Result<Shown, u64> {
-    let from: [u8; 256] = packed(coeffs);
-    let shown = answered(|out| inquire_bytes(&from[..8 * coeffs.len()], tol, replies, out));
+    let shown = answered(|out| of_bytes(coeffs, |from| inquire_bytes(from, tol, replies, out)));
     shown.map(|out: [f64; 12]| Shown::read(&out, 0))
 }
 
