@@ -4,10 +4,8 @@ ghost use mathlib.Core.Path.{_≡_};
 ghost use mathlib.Core.Bool.{_&&_};
 ghost use mathlib.Core.List.{[], _∷_};
 ghost use Prim.Native.Nat.{_<_};
-ghost use lib.ListN.{getD};
-ghost use lib.Ieee.{nan};
 ghost use Rattle.float.specs.Methods.{isFiniteOf, allFiniteOf};
-ghost use Rattle.equation.specs.Quadratic.{numberOf, valuesOf, shiftedOf, touchingAtOf, quadraticCentreOf, linearOf, isGrazingOf, twoOf, solveQuadraticOf, refusedBy, quadraticOf};
+ghost use Rattle.equation.specs.Quadratic.{valuesOf, shiftedOf, touchingAtOf, quadraticCentreOf, linearOf, isGrazingOf, twoOf, solveQuadraticOf, refusedBy, quadraticOf};
 ghost use Rattle.equation.specs.Crank.{unitOf, fAtOf, sampleOf, quarticOf, noCrank, crankFrontOf};
 
 pub enum QuadraticSolution {
@@ -41,45 +39,6 @@ fn touches_finite(vertex: f64, touches: bool) -> bool
 }
 
 impl QuadraticSolution {
-    // Which word says it.
-    pub fn number(self) -> u32
-        ensures { λ r. ⌜ r ≡ numberOf self ⌝ }
-    {
-        match self {
-            QuadraticSolution::Two(_, _) => 0,
-            QuadraticSolution::One(_) => 1,
-            QuadraticSolution::Linear(_) => 2,
-            QuadraticSolution::Degenerate => 3,
-            QuadraticSolution::Empty => 4,
-        }
-    }
-
-    // The first place, NaN where there is none.
-    pub fn first(self) -> f64
-        ensures { λ r. ⌜ r ≡ getD (valuesOf self) 0 nan ⌝ }
-    {
-        match self {
-            QuadraticSolution::Two(x, _) => x,
-            QuadraticSolution::One(x) => x,
-            QuadraticSolution::Linear(x) => x,
-            QuadraticSolution::Degenerate => 0.0 / 0.0,
-            QuadraticSolution::Empty => 0.0 / 0.0,
-        }
-    }
-
-    // The second place, NaN where there is none.
-    pub fn second(self) -> f64
-        ensures { λ r. ⌜ r ≡ getD (valuesOf self) 1 nan ⌝ }
-    {
-        match self {
-            QuadraticSolution::Two(_, y) => y,
-            QuadraticSolution::One(_) => 0.0 / 0.0,
-            QuadraticSolution::Linear(_) => 0.0 / 0.0,
-            QuadraticSolution::Degenerate => 0.0 / 0.0,
-            QuadraticSolution::Empty => 0.0 / 0.0,
-        }
-    }
-
     // Whether all its places are finite.
     pub fn is_finite(self) -> bool
         ensures { λ r. ⌜ r ≡ allFiniteOf (valuesOf self) ⌝ }

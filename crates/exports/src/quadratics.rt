@@ -13,7 +13,14 @@ use lent::store;
 fn solution_numbers(s: QuadraticSolution) -> [f64; 3]
     ensures { λ r. ⌜ r ≡ solutionNumbers s ⌝ }
 {
-    [s.number() as f64, s.first(), s.second()]
+    let none = 0.0 / 0.0;
+    match s {
+        QuadraticSolution::Two(x, y) => [0.0, x, y],
+        QuadraticSolution::One(x) => [1.0, x, none],
+        QuadraticSolution::Linear(x) => [2.0, x, none],
+        QuadraticSolution::Degenerate => [3.0, none, none],
+        QuadraticSolution::Empty => [4.0, none, none],
+    }
 }
 
 #[no_mangle]

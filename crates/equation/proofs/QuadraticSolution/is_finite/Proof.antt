@@ -5,30 +5,6 @@ use borrow.Author.Needs.{needs}
 use Rattle.equation.proofs.QuadraticSolution.is_finite.Statement.{statement}
 use Rattle.equation.proofs.QuadraticSolution.is_finite.Tie as tie
 
-enum-known-self : tie.Need-enum-known-self
-enum-known-self c = search needs
-
-both-finite-requires : tie.Need-both-finite-requires
-both-finite-requires c κs = search needs
-
-enum-known-self-2 : tie.Need-enum-known-self-2
-enum-known-self-2 c = search needs
-
-is-finite-requires : tie.Need-is-finite-requires
-is-finite-requires c κs = search needs
-
-enum-known-self-3 : tie.Need-enum-known-self-3
-enum-known-self-3 c = search needs
-
-is-finite-requires-2 : tie.Need-is-finite-requires-2
-is-finite-requires-2 c κs = search needs
-
-enum-told : tie.Need-enum-told
-enum-told c = search needs
-
-enum-told-2 : tie.Need-enum-told-2
-enum-told-2 c = search needs
-
 returns : tie.Need-returns
 unfolding valuesOf
 returns c = rw (c .before .before .self .given .1) (c .both-finite .ensures)
@@ -50,19 +26,4 @@ unfolding valuesOf
 returns-5 c = search needs
 
 pub is-finite-spec : {M : Type 1} → statement M
-is-finite-spec =
-    tie.close
-    (tie.spec
-    enum-known-self
-    both-finite-requires
-    enum-known-self-2
-    is-finite-requires
-    enum-known-self-3
-    is-finite-requires-2
-    enum-told
-    enum-told-2
-    returns
-    returns-2
-    returns-3
-    returns-4
-    returns-5)
+is-finite-spec = tie.close (tie.spec (λ c. search needs) (λ c κs. search needs) (λ c. search needs) (λ c κs. search needs) (λ c. search needs) (λ c κs. search needs) (λ c. search needs) (λ c. search needs) returns returns-2 returns-3 returns-4 returns-5)

@@ -4,21 +4,6 @@ use borrow.Author.Needs.{needs}
 use Rattle.equation.proofs.QuadraticSolution.shifted.Statement.{statement}
 use Rattle.equation.proofs.QuadraticSolution.shifted.Tie as tie
 
-enum-known-self : tie.Need-enum-known-self
-enum-known-self c = search needs
-
-enum-known-self-2 : tie.Need-enum-known-self-2
-enum-known-self-2 c = search needs
-
-enum-known-self-3 : tie.Need-enum-known-self-3
-enum-known-self-3 c = search needs
-
-enum-told : tie.Need-enum-told
-enum-told c = search needs
-
-enum-told-2 : tie.Need-enum-told-2
-enum-told-2 c = search needs
-
 returns : tie.Need-returns
 unfolding shiftedOf
 returns c = rw (c .before .self .given .1)
@@ -40,16 +25,4 @@ unfolding shiftedOf
 returns-5 c = search needs
 
 pub shifted-spec : {M : Type 1} → statement M
-shifted-spec =
-    tie.close
-    (tie.spec
-    enum-known-self
-    enum-known-self-2
-    enum-known-self-3
-    enum-told
-    enum-told-2
-    returns
-    returns-2
-    returns-3
-    returns-4
-    returns-5)
+shifted-spec = tie.close (tie.spec (λ c. search needs) (λ c. search needs) (λ c. search needs) (λ c. search needs) (λ c. search needs) returns returns-2 returns-3 returns-4 returns-5)

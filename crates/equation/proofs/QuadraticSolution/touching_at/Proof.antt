@@ -5,29 +5,11 @@ use borrow.Author.Needs.{needs}
 use Rattle.equation.proofs.QuadraticSolution.touching_at.Statement.{statement}
 use Rattle.equation.proofs.QuadraticSolution.touching_at.Tie as tie
 
-touches-finite-requires : tie.Need-touches-finite-requires
-touches-finite-requires c κs = search needs
-
-enum-known-self : tie.Need-enum-known-self
-enum-known-self c = search needs
-
 returns : tie.Need-returns
 unfolding touchingAtOf
 returns c =
     let arm = c .before .before in
     simp (arm .self .given .1, sym (arm .before .before .touches-finite .ensures) ∙ c .if1 .taken)
-
-enum-known-self-2 : tie.Need-enum-known-self-2
-enum-known-self-2 c = search needs
-
-enum-known-self-3 : tie.Need-enum-known-self-3
-enum-known-self-3 c = search needs
-
-enum-told : tie.Need-enum-told
-enum-told c = search needs
-
-enum-told-2 : tie.Need-enum-told-2
-enum-told-2 c = search needs
 
 returns-2 : tie.Need-returns-2
 unfolding touchingAtOf
@@ -60,19 +42,4 @@ returns-7 c =
     simp (arm .enum-told2 .given .1, sym (arm .before .before .touches-finite .ensures) ∙ c .if2 .left)
 
 pub touching-at-spec : {M : Type 1} → statement M
-touching-at-spec =
-    tie.close
-    (tie.spec
-    touches-finite-requires
-    enum-known-self
-    returns
-    enum-known-self-2
-    enum-known-self-3
-    enum-told
-    enum-told-2
-    returns-2
-    returns-3
-    returns-4
-    returns-5
-    returns-6
-    returns-7)
+touching-at-spec = tie.close (tie.spec (λ c κs. search needs) (λ c. search needs) returns (λ c. search needs) (λ c. search needs) (λ c. search needs) (λ c. search needs) returns-2 returns-3 returns-4 returns-5 returns-6 returns-7)
