@@ -5,9 +5,6 @@ use borrow.Author.Needs.{needs}
 use Rattle.angle.proofs.level.Statement.{statement}
 use Rattle.angle.proofs.level.Tie as tie
 
-scaled-requires : tie.Need-scaled-requires
-scaled-requires c κs = search needs
-
 less-requires : tie.Need-less-requires
 less-requires c κs =
     let a = c .before .before .before in
@@ -29,4 +26,4 @@ returns-2 c =
     level-is _ _ (a .pre .1 .0) (a .pre .1 .1) _ _ (c .before .if1 .left) (level-above _ _ (a .pre .1 .0) (a .pre .1 .1) _ _ _ _ (c .before .before .before .scaled .ensures))
 
 pub level-spec : {M : Type 1} → statement M
-level-spec = tie.close (tie.spec scaled-requires less-requires returns add-hi returns-2)
+level-spec = tie.close (tie.spec (λ c κs. search needs) less-requires returns add-hi returns-2)

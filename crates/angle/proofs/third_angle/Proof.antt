@@ -8,12 +8,6 @@ use borrow.Author.Needs.{needs}
 use Rattle.angle.proofs.third_angle.Statement.{statement}
 use Rattle.angle.proofs.third_angle.Tie as tie
 
-rough-cos-requires : tie.Need-rough-cos-requires
-rough-cos-requires c κs = search needs
-
-third-digits-requires : tie.Need-third-digits-requires
-third-digits-requires c κs = search needs
-
 returns : tie.Need-returns
 unfolding ofBits div sinOf
 returns c =
@@ -36,4 +30,4 @@ returns-2 c =
     both _ _ _ (c .before .from-units .ensures ∙ sym (d .2)) (c .sin-of .ensures ∙ sym (ap sinOf (d .2)))
 
 pub third-angle-spec : {M : Type 1} → statement M
-third-angle-spec = tie.close (tie.spec rough-cos-requires third-digits-requires returns from-units-requires sin-of-requires returns-2)
+third-angle-spec = tie.close (tie.spec (λ c κs. search needs) (λ c κs. search needs) returns from-units-requires sin-of-requires returns-2)

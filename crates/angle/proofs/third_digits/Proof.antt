@@ -16,23 +16,14 @@ returns : tie.Need-returns
 unfolding ofBits
 returns c = digits-zero _ (c .if1 .taken)
 
-normal-of-requires : tie.Need-normal-of-requires
-normal-of-requires c κs = search needs
-
 returns-2 : tie.Need-returns-2
 unfolding ofBits
 returns-2 c = digits-none _ _ _ (c .before .before .normal-of .ensures) (c .before .before .before .if1 .left) (c .if2 .taken)
-
-guess-cos-requires : tie.Need-guess-cos-requires
-guess-cos-requires c κs = search needs
 
 level-requires : tie.Need-level-requires
 level-requires c κs =
     let n = decoded-normal _ _ _ (c .before .before .before .before .before .normal-of .ensures) (c .before .before .before .if2 .left) in
     (omega (arith, n .led), (n .short, c .before .if3 .taken))
-
-near-cos-requires : tie.Need-near-cos-requires
-near-cos-requires c κs = search needs
 
 returns-3 : tie.Need-returns-3
 unfolding ofBits
@@ -67,11 +58,11 @@ third-digits-spec =
     tie.close
     (tie.spec
     returns
-    normal-of-requires
+    (λ c κs. search needs)
     returns-2
-    guess-cos-requires
+    (λ c κs. search needs)
     level-requires
-    near-cos-requires
+    (λ c κs. search needs)
     returns-3
     returns-4
     returns-5

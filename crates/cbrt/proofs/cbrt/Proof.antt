@@ -10,9 +10,6 @@ use borrow.Author.Needs.{needs}
 use Rattle.cbrt.proofs.cbrt.Statement.{statement}
 use Rattle.cbrt.proofs.cbrt.Tie as tie
 
-normal-of-requires : tie.Need-normal-of-requires
-normal-of-requires c κs = search needs
-
 returns : tie.Need-returns
 returns c = sym (root-special _ (decoded-irregular _ _ _ (c .before .before .normal-of .ensures) (c .if1 .taken)))
 
@@ -51,4 +48,4 @@ returns-3 c =
 pub cbrt-spec : {M : Type 1} → statement M
 cbrt-spec =
     tie.close
-    (tie.spec normal-of-requires returns nearest-root-requires add-from-units from-units-requires returns-2 returns-3)
+    (tie.spec (λ c κs. search needs) returns nearest-root-requires add-from-units from-units-requires returns-2 returns-3)

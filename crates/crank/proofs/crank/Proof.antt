@@ -4,20 +4,11 @@ use borrow.Author.Needs.{needs}
 use Rattle.crank.proofs.crank.Statement.{statement}
 use Rattle.crank.proofs.crank.Tie as tie
 
-start-requires : tie.Need-start-requires
-start-requires c κs = search needs
-
-ask-requires : tie.Need-ask-requires
-ask-requires c κs = search needs
-
 returns : tie.Need-returns
 returns c =
     let began = c .before .before .before .before in
     let s = began .before .before .start in
     answer-listed _ _ _ _ _ _ (s .result) (s .ensures) _ (began .if1 .taken) (c .before .ask .ensures)
-
-none-requires : tie.Need-none-requires
-none-requires c κs = search needs
 
 returns-2 : tie.Need-returns-2
 returns-2 c =
@@ -25,4 +16,4 @@ returns-2 c =
     answer-refused _ _ _ _ _ _ (s .result) (s .ensures) _ (c .before .if1 .left) (c .none .ensures)
 
 pub crank-spec : {M : Type 1} → statement M
-crank-spec = tie.close (tie.spec start-requires ask-requires returns none-requires returns-2)
+crank-spec = tie.close (tie.spec (λ c κs. search needs) (λ c κs. search needs) returns (λ c κs. search needs) returns-2)

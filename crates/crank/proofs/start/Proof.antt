@@ -9,15 +9,6 @@ use borrow.Author.Needs.{needs}
 use Rattle.crank.proofs.start.Statement.{statement}
 use Rattle.crank.proofs.start.Tie as tie
 
-crank-front-requires : tie.Need-crank-front-requires
-crank-front-requires c κs = search needs
-
-slice-aggregate-start : tie.Need-slice-aggregate-start
-slice-aggregate-start c = search needs
-
-start-requires : tie.Need-start-requires
-start-requires c κs = search needs
-
 cast-k : tie.Need-cast-k
 cast-k c =
     let made = c .before .before .before .before .crank-front in
@@ -39,4 +30,4 @@ returns-2 c =
 pub start-spec : {M : Type 1} → statement M
 start-spec =
     tie.close
-    (tie.spec crank-front-requires slice-aggregate-start start-requires cast-k returns returns-2)
+    (tie.spec (λ c κs. search needs) (λ c. search needs) (λ c κs. search needs) cast-k returns returns-2)

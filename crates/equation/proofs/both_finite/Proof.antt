@@ -6,12 +6,6 @@ use borrow.Author.Needs.{needs}
 use Rattle.equation.proofs.both_finite.Statement.{statement}
 use Rattle.equation.proofs.both_finite.Tie as tie
 
-is-finite-requires : tie.Need-is-finite-requires
-is-finite-requires c κs = search needs
-
-is-finite-requires-2 : tie.Need-is-finite-requires-2
-is-finite-requires-2 c κs = search needs
-
 returns : tie.Need-returns
 returns c =
     let first = c .before .before in
@@ -24,4 +18,4 @@ returns-2 c =
     by-parts (a .x ∷ []) (a .y ∷ []) (one-finite _ (c .before .is-finite .ensures)) (c .if1 .left)
 
 pub both-finite-spec : {M : Type 1} → statement M
-both-finite-spec = tie.close (tie.spec is-finite-requires is-finite-requires-2 returns returns-2)
+both-finite-spec = tie.close (tie.spec (λ c κs. search needs) (λ c κs. search needs) returns returns-2)

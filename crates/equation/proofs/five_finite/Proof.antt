@@ -6,12 +6,6 @@ use borrow.Author.Needs.{needs}
 use Rattle.equation.proofs.five_finite.Statement.{statement}
 use Rattle.equation.proofs.five_finite.Tie as tie
 
-both-finite-requires : tie.Need-both-finite-requires
-both-finite-requires c κs = search needs
-
-three-finite-requires : tie.Need-three-finite-requires
-three-finite-requires c κs = search needs
-
 returns : tie.Need-returns
 returns c =
     let first = c .before .before in
@@ -25,4 +19,4 @@ returns-2 c =
 
 pub five-finite-spec : {M : Type 1} → statement M
 five-finite-spec =
-    tie.close (tie.spec both-finite-requires three-finite-requires returns returns-2)
+    tie.close (tie.spec (λ c κs. search needs) (λ c κs. search needs) returns returns-2)

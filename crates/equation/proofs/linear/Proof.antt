@@ -4,9 +4,6 @@ use borrow.Author.Needs.{needs}
 use Rattle.equation.proofs.linear.Statement.{statement}
 use Rattle.equation.proofs.linear.Tie as tie
 
-abs-requires : tie.Need-abs-requires
-abs-requires c κs = search needs
-
 returns : tie.Need-returns
 unfolding linearOf
 returns c = simp (simp (c .before .abs .ensures) at (c .if1 .taken))
@@ -16,4 +13,4 @@ unfolding linearOf
 returns-2 c = simp (simp (c .before .abs .ensures) at (c .if1 .left))
 
 pub linear-spec : {M : Type 1} → statement M
-linear-spec = tie.close (tie.spec abs-requires returns returns-2)
+linear-spec = tie.close (tie.spec (λ c κs. search needs) returns returns-2)

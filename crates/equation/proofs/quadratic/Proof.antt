@@ -4,23 +4,11 @@ use borrow.Author.Needs.{needs}
 use Rattle.equation.proofs.quadratic.Statement.{statement}
 use Rattle.equation.proofs.quadratic.Tie as tie
 
-three-finite-requires : tie.Need-three-finite-requires
-three-finite-requires c κs = search needs
-
-solve-quadratic-requires : tie.Need-solve-quadratic-requires
-solve-quadratic-requires c κs = search needs
-
-is-finite-requires : tie.Need-is-finite-requires
-is-finite-requires c κs = search needs
-
 returns : tie.Need-returns
 returns c =
     let s = c .before .before in
     let finite = s .before in
     answered _ _ _ _ _ (finite .before .three-finite .ensures) _ (s .solve-quadratic .ensures) (c .before .is-finite .ensures) (finite .if1 .taken) (c .if2 .taken)
-
-refused-requires : tie.Need-refused-requires
-refused-requires c κs = search needs
 
 returns-2 : tie.Need-returns-2
 returns-2 c =
@@ -29,9 +17,6 @@ returns-2 c =
     answer-not-finite _ _ _ _ _ (finite .before .three-finite .ensures) _ (s .solve-quadratic .ensures) (c .before .before .is-finite .ensures) (finite .if1 .taken)
     (c .before .if2 .left) (c .refused .ensures)
 
-refused-requires-2 : tie.Need-refused-requires-2
-refused-requires-2 c κs = search needs
-
 returns-3 : tie.Need-returns-3
 returns-3 c = not-finite _ _ _ _ _ (c .before .before .three-finite .ensures) (c .before .if1 .left) (c .refused2 .ensures)
 
@@ -39,11 +24,11 @@ pub quadratic-spec : {M : Type 1} → statement M
 quadratic-spec =
     tie.close
     (tie.spec
-    three-finite-requires
-    solve-quadratic-requires
-    is-finite-requires
+    (λ c κs. search needs)
+    (λ c κs. search needs)
+    (λ c κs. search needs)
     returns
-    refused-requires
+    (λ c κs. search needs)
     returns-2
-    refused-requires-2
+    (λ c κs. search needs)
     returns-3)

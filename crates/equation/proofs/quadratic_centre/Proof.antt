@@ -5,12 +5,6 @@ use borrow.Author.Needs.{needs}
 use Rattle.equation.proofs.quadratic_centre.Statement.{statement}
 use Rattle.equation.proofs.quadratic_centre.Tie as tie
 
-abs-requires : tie.Need-abs-requires
-abs-requires c κs = search needs
-
-is-finite-requires : tie.Need-is-finite-requires
-is-finite-requires c κs = search needs
-
 returns : tie.Need-returns
 unfolding quadraticCentreOf
 returns c = simp (simp (c .before .before .before .abs .ensures) at (c .before .before .if1 .taken), sym (c .before .is-finite .ensures) ∙ c .if2 .taken)
@@ -25,4 +19,4 @@ returns-3 c = simp (simp (c .before .abs .ensures) at (c .if1 .left))
 
 pub quadratic-centre-spec : {M : Type 1} → statement M
 quadratic-centre-spec =
-    tie.close (tie.spec abs-requires is-finite-requires returns returns-2 returns-3)
+    tie.close (tie.spec (λ c κs. search needs) (λ c κs. search needs) returns returns-2 returns-3)

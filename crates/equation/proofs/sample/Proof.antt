@@ -14,32 +14,8 @@ Inv-loop a2 b2 c1 d1 e k₀ largest₀ j₀ k largest j = (k < 8) × (j ≤ 8) �
 abbrev μ-loop : tie.MeasureT-loop
 μ-loop a2 b2 c1 d1 e k₀ largest₀ j₀ k largest j = 8 - j
 
-f-at-requires : tie.Need-f-at-requires Inv-loop μ-loop
-f-at-requires c κs = search needs
-
-abs-requires : tie.Need-abs-requires Inv-loop μ-loop
-abs-requires c κs = search needs
-
 loop-holds : tie.Need-loop-holds Inv-loop μ-loop
 loop-holds c = (search needs, search needs, first-sample _ _ _ _ _ (c .before .f-at .ensures) (c .abs .ensures))
-
-add-f-at : tie.Need-add-f-at Inv-loop μ-loop
-add-f-at c = search needs
-
-f-at-requires-2 : tie.Need-f-at-requires-2 Inv-loop μ-loop
-f-at-requires-2 c κs = search needs
-
-abs-requires-2 : tie.Need-abs-requires-2 Inv-loop μ-loop
-abs-requires-2 c κs = search needs
-
-total-le-requires : tie.Need-total-le-requires Inv-loop μ-loop
-total-le-requires c κs = search needs
-
-add-j : tie.Need-add-j Inv-loop μ-loop
-add-j c = search needs
-
-loop-less : tie.Need-loop-less Inv-loop μ-loop
-loop-less c = search needs
 
 loop-again : tie.Need-loop-again Inv-loop μ-loop
 loop-again c =
@@ -68,14 +44,14 @@ sample-spec =
     (tie.spec
     Inv-loop
     μ-loop
-    f-at-requires
-    abs-requires
+    (λ c κs. search needs)
+    (λ c κs. search needs)
     loop-holds
-    add-f-at
-    f-at-requires-2
-    abs-requires-2
-    total-le-requires
-    add-j
-    loop-less
+    (λ c. search needs)
+    (λ c κs. search needs)
+    (λ c κs. search needs)
+    (λ c κs. search needs)
+    (λ c. search needs)
+    (λ c. search needs)
     loop-again
     returns)

@@ -5,24 +5,9 @@ use borrow.Author.Needs.{needs}
 use Rattle.equation.proofs.solve_quadratic.Statement.{statement}
 use Rattle.equation.proofs.solve_quadratic.Tie as tie
 
-abs-requires : tie.Need-abs-requires
-abs-requires c κs = search needs
-
-linear-requires : tie.Need-linear-requires
-linear-requires c κs = search needs
-
 returns : tie.Need-returns
 unfolding solveQuadraticOf
 returns c = simp (simp (c .before .before .abs .ensures) at (c .before .if1 .taken), c .linear .ensures)
-
-abs-requires-2 : tie.Need-abs-requires-2
-abs-requires-2 c κs = search needs
-
-sqrt-requires : tie.Need-sqrt-requires
-sqrt-requires c κs = search needs
-
-is-grazing-requires : tie.Need-is-grazing-requires
-is-grazing-requires c κs = search needs
 
 returns-2 : tie.Need-returns-2
 returns-2 c =
@@ -39,9 +24,6 @@ returns-3 c =
     solved-empty _ _ _ _ _ (curved .before .abs .ensures) (curved .if1 .left) (root .before .abs2 .ensures) (root .sqrt .ensures) (grazing .is-grazing .ensures)
     (c .before .if2 .left) (c .if3 .taken)
 
-two-requires : tie.Need-two-requires
-two-requires c κs = search needs
-
 returns-4 : tie.Need-returns-4
 returns-4 c =
     let apart = c .before .before in
@@ -54,13 +36,13 @@ pub solve-quadratic-spec : {M : Type 1} → statement M
 solve-quadratic-spec =
     tie.close
     (tie.spec
-    abs-requires
-    linear-requires
+    (λ c κs. search needs)
+    (λ c κs. search needs)
     returns
-    abs-requires-2
-    sqrt-requires
-    is-grazing-requires
+    (λ c κs. search needs)
+    (λ c κs. search needs)
+    (λ c κs. search needs)
     returns-2
     returns-3
-    two-requires
+    (λ c κs. search needs)
     returns-4)

@@ -6,12 +6,6 @@ use borrow.Author.Needs.{needs}
 use Rattle.equation.proofs.three_finite.Statement.{statement}
 use Rattle.equation.proofs.three_finite.Tie as tie
 
-both-finite-requires : tie.Need-both-finite-requires
-both-finite-requires c κs = search needs
-
-is-finite-requires : tie.Need-is-finite-requires
-is-finite-requires c κs = search needs
-
 returns : tie.Need-returns
 returns c =
     let first = c .before .before in
@@ -24,4 +18,4 @@ returns-2 c =
     by-parts (a .a ∷ a .b ∷ []) (a .c ∷ []) (c .before .both-finite .ensures) (c .if1 .left)
 
 pub three-finite-spec : {M : Type 1} → statement M
-three-finite-spec = tie.close (tie.spec both-finite-requires is-finite-requires returns returns-2)
+three-finite-spec = tie.close (tie.spec (λ c κs. search needs) (λ c κs. search needs) returns returns-2)

@@ -4,9 +4,6 @@ use borrow.Author.Needs.{needs}
 use Rattle.equation.proofs.touches_finite.Statement.{statement}
 use Rattle.equation.proofs.touches_finite.Tie as tie
 
-is-finite-requires : tie.Need-is-finite-requires
-is-finite-requires c κs = search needs
-
 returns : tie.Need-returns
 returns c = simp (sym (c .before .is-finite .ensures) ∙ c .if1 .taken)
 
@@ -14,4 +11,4 @@ returns-2 : tie.Need-returns-2
 returns-2 c = simp (sym (c .before .is-finite .ensures) ∙ c .if1 .left)
 
 pub touches-finite-spec : {M : Type 1} → statement M
-touches-finite-spec = tie.close (tie.spec is-finite-requires returns returns-2)
+touches-finite-spec = tie.close (tie.spec (λ c κs. search needs) returns returns-2)

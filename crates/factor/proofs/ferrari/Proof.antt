@@ -5,27 +5,9 @@ use Rattle.factor.specs.Quartic.{ferrariOf}
 use Rattle.factor.proofs.ferrari.Statement.{statement}
 use Rattle.factor.proofs.ferrari.Tie as tie
 
-is-clear-requires : tie.Need-is-clear-requires
-is-clear-requires c κs = search needs
-
-sqrt-requires : tie.Need-sqrt-requires
-sqrt-requires c κs = search needs
-
 returns : tie.Need-returns
 unfolding ferrariOf
 returns c = simp (c .sqrt .ensures, sym (c .before .before .is-clear .ensures) ∙ c .before .if1 .taken)
-
-max-requires : tie.Need-max-requires
-max-requires c κs = search needs
-
-sqrt-requires-2 : tie.Need-sqrt-requires-2
-sqrt-requires-2 c κs = search needs
-
-copysign-requires : tie.Need-copysign-requires
-copysign-requires c κs = search needs
-
-over-or-requires : tie.Need-over-or-requires
-over-or-requires c κs = search needs
 
 returns-2 : tie.Need-returns-2
 unfolding ferrariOf
@@ -35,11 +17,11 @@ pub ferrari-spec : {M : Type 1} → statement M
 ferrari-spec =
     tie.close
     (tie.spec
-    is-clear-requires
-    sqrt-requires
+    (λ c κs. search needs)
+    (λ c κs. search needs)
     returns
-    max-requires
-    sqrt-requires-2
-    copysign-requires
-    over-or-requires
+    (λ c κs. search needs)
+    (λ c κs. search needs)
+    (λ c κs. search needs)
+    (λ c κs. search needs)
     returns-2)

@@ -4,18 +4,6 @@ use Rattle.factor.specs.Quartic.{isClearOf}
 use Rattle.factor.proofs.is_clear.Statement.{statement}
 use Rattle.factor.proofs.is_clear.Tie as tie
 
-abs-requires : tie.Need-abs-requires
-abs-requires c κs = search needs
-
-abs-requires-2 : tie.Need-abs-requires-2
-abs-requires-2 c κs = search needs
-
-sqrt-requires : tie.Need-sqrt-requires
-sqrt-requires c κs = search needs
-
-is-finite-requires : tie.Need-is-finite-requires
-is-finite-requires c κs = search needs
-
 returns : tie.Need-returns
 unfolding isClearOf
 returns c = simp (c .is-finite .ensures, simp (c .before .before .before .before .abs .ensures, c .before .before .before .abs2 .ensures, c .before .before .sqrt .ensures) at (c .before .if1 .taken))
@@ -27,4 +15,4 @@ returns-2 c = simp (simp (c .before .before .before .abs .ensures, c .before .be
 pub is-clear-spec : {M : Type 1} → statement M
 is-clear-spec =
     tie.close
-    (tie.spec abs-requires abs-requires-2 sqrt-requires is-finite-requires returns returns-2)
+    (tie.spec (λ c κs. search needs) (λ c κs. search needs) (λ c κs. search needs) (λ c κs. search needs) returns returns-2)

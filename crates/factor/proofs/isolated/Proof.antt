@@ -4,12 +4,6 @@ use Rattle.factor.proofs.Laws.{is-lone}
 use Rattle.factor.proofs.isolated.Statement.{statement}
 use Rattle.factor.proofs.isolated.Tie as tie
 
-disc-of-requires : tie.Need-disc-of-requires
-disc-of-requires c κs = search needs
-
-disc-of-requires-2 : tie.Need-disc-of-requires-2
-disc-of-requires-2 c κs = search needs
-
 best-root-requires : tie.Need-best-root-requires
 best-root-requires c κs = (c .before .disc-of .ensures, c .disc-of2 .ensures)
 
@@ -21,4 +15,4 @@ returns-2 c = is-lone _ (c .before .before .before .disc-of .ensures) (c .before
 
 pub isolated-spec : {M : Type 1} → statement M
 isolated-spec =
-    tie.close (tie.spec disc-of-requires disc-of-requires-2 best-root-requires returns returns-2)
+    tie.close (tie.spec (λ c κs. search needs) (λ c κs. search needs) best-root-requires returns returns-2)

@@ -9,15 +9,6 @@ returns : tie.Need-returns
 unfolding judgedOf
 returns c = simp (c .if1 .taken)
 
-least-requires : tie.Need-least-requires
-least-requires c κs = search needs
-
-greatest-requires : tie.Need-greatest-requires
-greatest-requires c κs = search needs
-
-is-better-requires : tie.Need-is-better-requires
-is-better-requires c κs = search needs
-
 returns-2 : tie.Need-returns-2
 unfolding judgedOf
 returns-2 c = simp (c .before .before .before .before .if1 .left, c .before .before .before .least .ensures, simp (c .before .before .before .least .ensures, c .before .before .greatest .ensures) at (sym (c .before .is-better .ensures) ∙ c .if2 .taken))
@@ -29,4 +20,4 @@ returns-3 c = simp (c .before .before .before .before .if1 .left, simp (c .befor
 pub judge-spec : {M : Type 1} → statement M
 judge-spec =
     tie.close
-    (tie.spec returns least-requires greatest-requires is-better-requires returns-2 returns-3)
+    (tie.spec returns (λ c κs. search needs) (λ c κs. search needs) (λ c κs. search needs) returns-2 returns-3)

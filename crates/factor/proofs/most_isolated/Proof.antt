@@ -6,41 +6,14 @@ use Rattle.factor.proofs.Laws.{three, only-root, of-three}
 use Rattle.factor.proofs.most_isolated.Statement.{statement}
 use Rattle.factor.proofs.most_isolated.Tie as tie
 
-array-read-a : tie.Need-array-read-a
-array-read-a c = search needs
-
 returns : tie.Need-returns
 returns c = only-root _ _ (c .if1 .taken)
-
-array-read-b : tie.Need-array-read-b
-array-read-b c = search needs
-
-array-read-c : tie.Need-array-read-c
-array-read-c c = search needs
-
-isolation-requires : tie.Need-isolation-requires
-isolation-requires c κs = search needs
-
-isolation-requires-2 : tie.Need-isolation-requires-2
-isolation-requires-2 c κs = search needs
-
-isolation-requires-3 : tie.Need-isolation-requires-3
-isolation-requires-3 c κs = search needs
-
-total-le-requires : tie.Need-total-le-requires
-total-le-requires c κs = search needs
-
-total-le-requires-2 : tie.Need-total-le-requires-2
-total-le-requires-2 c κs = search needs
 
 returns-2 : tie.Need-returns-2
 returns-2 c = of-three _ _ _ _ _ (three (c .before .before .before .before .before .before .before .before .pre) (c .before .before .before .before .before .before .before .if1 .left)) (c .before .before .before .before .before .before .isolation .ensures) (c .before .before .before .before .before .isolation2 .ensures) (c .before .before .before .before .isolation3 .ensures) true true (sym (c .before .before .before .total-le .ensures) ∙ c .before .before .if2 .taken) (sym (c .before .total-le2 .ensures) ∙ c .if3 .taken)
 
 returns-3 : tie.Need-returns-3
 returns-3 c = of-three _ _ _ _ _ (three (c .before .before .before .before .before .before .before .before .pre) (c .before .before .before .before .before .before .before .if1 .left)) (c .before .before .before .before .before .before .isolation .ensures) (c .before .before .before .before .before .isolation2 .ensures) (c .before .before .before .before .isolation3 .ensures) true false (sym (c .before .before .before .total-le .ensures) ∙ c .before .before .if2 .taken) (sym (c .before .total-le2 .ensures) ∙ c .if3 .left)
-
-total-le-requires-3 : tie.Need-total-le-requires-3
-total-le-requires-3 c κs = search needs
 
 returns-4 : tie.Need-returns-4
 returns-4 c = of-three _ _ _ _ _ (three (c .before .before .before .before .before .before .before .before .pre) (c .before .before .before .before .before .before .before .if1 .left)) (c .before .before .before .before .before .before .isolation .ensures) (c .before .before .before .before .before .isolation2 .ensures) (c .before .before .before .before .isolation3 .ensures) false true (sym (c .before .before .before .total-le .ensures) ∙ c .before .before .if2 .left) (sym (c .before .total-le3 .ensures) ∙ c .if4 .taken)
@@ -52,17 +25,17 @@ pub most-isolated-spec : {M : Type 1} → statement M
 most-isolated-spec =
     tie.close
     (tie.spec
-    array-read-a
+    (λ c. search needs)
     returns
-    array-read-b
-    array-read-c
-    isolation-requires
-    isolation-requires-2
-    isolation-requires-3
-    total-le-requires
-    total-le-requires-2
+    (λ c. search needs)
+    (λ c. search needs)
+    (λ c κs. search needs)
+    (λ c κs. search needs)
+    (λ c κs. search needs)
+    (λ c κs. search needs)
+    (λ c κs. search needs)
     returns-2
     returns-3
-    total-le-requires-3
+    (λ c κs. search needs)
     returns-4
     returns-5)

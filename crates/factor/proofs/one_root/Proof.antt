@@ -4,21 +4,6 @@ use Rattle.factor.specs.Cubic.{oneRootOf}
 use Rattle.factor.proofs.one_root.Statement.{statement}
 use Rattle.factor.proofs.one_root.Tie as tie
 
-max-requires : tie.Need-max-requires
-max-requires c κs = search needs
-
-sqrt-requires : tie.Need-sqrt-requires
-sqrt-requires c κs = search needs
-
-copysign-requires : tie.Need-copysign-requires
-copysign-requires c κs = search needs
-
-cbrt-requires : tie.Need-cbrt-requires
-cbrt-requires c κs = search needs
-
-cardano-requires : tie.Need-cardano-requires
-cardano-requires c κs = search needs
-
 returns : tie.Need-returns
 unfolding oneRootOf
 returns c = rw (c .cardano .ensures, c .before .cbrt .ensures, c .before .before .copysign .ensures, c .before .before .before .sqrt .ensures, c .before .before .before .before .max .ensures)
@@ -26,4 +11,4 @@ returns c = rw (c .cardano .ensures, c .before .cbrt .ensures, c .before .before
 pub one-root-spec : {M : Type 1} → statement M
 one-root-spec =
     tie.close
-    (tie.spec max-requires sqrt-requires copysign-requires cbrt-requires cardano-requires returns)
+    (tie.spec (λ c κs. search needs) (λ c κs. search needs) (λ c κs. search needs) (λ c κs. search needs) (λ c κs. search needs) returns)

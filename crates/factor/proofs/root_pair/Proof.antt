@@ -4,12 +4,6 @@ use Rattle.factor.proofs.Laws.{real-pair, complex-pair}
 use Rattle.factor.proofs.root_pair.Statement.{statement}
 use Rattle.factor.proofs.root_pair.Tie as tie
 
-far-by-requires : tie.Need-far-by-requires
-far-by-requires c κs = search needs
-
-over-or-requires : tie.Need-over-or-requires
-over-or-requires c κs = search needs
-
 returns : tie.Need-returns
 returns c = real-pair _ _ (c .before .before .before .before .pre) (c .before .before .if1 .taken) (c .before .far-by .ensures) (c .over-or .ensures)
 
@@ -17,4 +11,4 @@ returns-2 : tie.Need-returns-2
 returns-2 c = complex-pair _ _ (c .before .before .before .pre) (c .before .if1 .left)
 
 pub root-pair-spec : {M : Type 1} → statement M
-root-pair-spec = tie.close (tie.spec far-by-requires over-or-requires returns returns-2)
+root-pair-spec = tie.close (tie.spec (λ c κs. search needs) (λ c κs. search needs) returns returns-2)

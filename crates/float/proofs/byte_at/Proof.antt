@@ -5,9 +5,6 @@ use mathlib.Core.Path.{refl}
 use Rattle.float.proofs.byte_at.Statement.{statement}
 use Rattle.float.proofs.byte_at.Tie as tie
 
-shared-slice-read-result : tie.Need-shared-slice-read-result
-shared-slice-read-result c = search needs
-
 cast-result : tie.Need-cast-result
 cast-result c = omega (arith, c .shared-slice-known .given (c .before .args .i))
 
@@ -15,4 +12,4 @@ returns : tie.Need-returns
 returns c = (refl, omega (arith, c .shared-slice-known .given (c .before .args .i)))
 
 pub byte-at-spec : {M : Type 1} → statement M
-byte-at-spec = tie.close (tie.spec shared-slice-read-result cast-result returns)
+byte-at-spec = tie.close (tie.spec (λ c. search needs) cast-result returns)

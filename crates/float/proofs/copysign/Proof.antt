@@ -6,12 +6,6 @@ use borrow.Author.Needs.{needs}
 use Rattle.float.proofs.copysign.Statement.{statement}
 use Rattle.float.proofs.copysign.Tie as tie
 
-abs-requires : tie.Need-abs-requires
-abs-requires c κs = search needs
-
-is-sign-negative-requires : tie.Need-is-sign-negative-requires
-is-sign-negative-requires c κs = search needs
-
 returns : tie.Need-returns
 returns c = ap neg (c .before .before .abs .ensures) ∙ sign-on _ _ (sym (c .before .is-sign-negative .ensures) ∙ c .if1 .taken)
 
@@ -19,4 +13,4 @@ returns-2 : tie.Need-returns-2
 returns-2 c = c .before .before .abs .ensures ∙ sign-off _ _ (sym (c .before .is-sign-negative .ensures) ∙ c .if1 .left)
 
 pub copysign-spec : {M : Type 1} → statement M
-copysign-spec = tie.close (tie.spec abs-requires is-sign-negative-requires returns returns-2)
+copysign-spec = tie.close (tie.spec (λ c κs. search needs) (λ c κs. search needs) returns returns-2)

@@ -11,9 +11,6 @@ int-to-float-result c = whole-exact _ (omega (arith, c .before .before .pre))
 returns : tie.Need-returns
 returns c = difference-up _ _ (c .before .if1 .taken)
 
-sub-result : tie.Need-sub-result
-sub-result c = search needs
-
 int-to-float-result-2 : tie.Need-int-to-float-result-2
 int-to-float-result-2 c = whole-exact _ (omega (arith, c .before .before .pre))
 
@@ -22,4 +19,4 @@ returns-2 c = difference-down _ _ (c .before .before .pre .1) (c .before .if1 .l
 
 pub difference-spec : {M : Type 1} → statement M
 difference-spec =
-    tie.close (tie.spec int-to-float-result returns sub-result int-to-float-result-2 returns-2)
+    tie.close (tie.spec int-to-float-result returns (λ c. search needs) int-to-float-result-2 returns-2)

@@ -6,15 +6,9 @@ use Rattle.float.specs.Bytes.{f64At}
 use Rattle.float.proofs.f64_at.Statement.{statement}
 use Rattle.float.proofs.f64_at.Tie as tie
 
-u64-at-requires : tie.Need-u64-at-requires
-u64-at-requires c κs = search needs
-
-from-bits-requires : tie.Need-from-bits-requires
-from-bits-requires c κs = search needs
-
 returns : tie.Need-returns
 unfolding f64At
 returns c = c .from-bits .ensures ∙ ap (ofBits binary64) (c .before .u64-at .ensures)
 
 pub f64-at-spec : {M : Type 1} → statement M
-f64-at-spec = tie.close (tie.spec u64-at-requires from-bits-requires returns)
+f64-at-spec = tie.close (tie.spec (λ c κs. search needs) (λ c κs. search needs) returns)

@@ -16,29 +16,11 @@ abbrev μ-loop : tie.MeasureT-loop
 loop-holds : tie.Need-loop-holds Inv-loop μ-loop
 loop-holds c = (search needs, (floor-below _, search needs))
 
-add-loop : tie.Need-add-loop Inv-loop μ-loop
-add-loop c = search needs
-
-add-middle : tie.Need-add-middle Inv-loop μ-loop
-add-middle c = search needs
-
-difference-requires : tie.Need-difference-requires Inv-loop μ-loop
-difference-requires c κs = search needs
-
-loop-less : tie.Need-loop-less Inv-loop μ-loop
-loop-less c = search needs
-
 loop-again : tie.Need-loop-again Inv-loop μ-loop
 loop-again c = (reached _ _ _ (c .before .difference .ensures) (omega arith) (omega arith) (c .if1 .taken), search needs)
 
-loop-less-2 : tie.Need-loop-less-2 Inv-loop μ-loop
-loop-less-2 c = search needs
-
 loop-again-2 : tie.Need-loop-again-2 Inv-loop μ-loop
 loop-again-2 c = (search needs, (missed _ _ _ (c .before .difference .ensures) (omega arith) (omega arith) (c .if1 .left), search needs))
-
-returns : tie.Need-returns Inv-loop μ-loop
-returns c = search needs
 
 pub floor-spec : {M : Type 1} → statement M
 floor-spec =
@@ -47,11 +29,11 @@ floor-spec =
     Inv-loop
     μ-loop
     loop-holds
-    add-loop
-    add-middle
-    difference-requires
-    loop-less
+    (λ c. search needs)
+    (λ c. search needs)
+    (λ c κs. search needs)
+    (λ c. search needs)
     loop-again
-    loop-less-2
+    (λ c. search needs)
     loop-again-2
-    returns)
+    (λ c. search needs))

@@ -8,8 +8,5 @@ float-from-bits-result : tie.Need-float-from-bits-result
 unfolding nanBits
 float-from-bits-result c = tt
 
-returns : tie.Need-returns
-returns c = search needs
-
 pub infinity-spec : {M : Type 1} → statement M
-infinity-spec = tie.close (tie.spec float-from-bits-result returns)
+infinity-spec = tie.close (tie.spec float-from-bits-result (λ c. search needs))

@@ -4,12 +4,9 @@ use Rattle.float.specs.Methods.{minOf}
 use Rattle.float.proofs.min.Statement.{statement}
 use Rattle.float.proofs.min.Tie as tie
 
-pick-requires : tie.Need-pick-requires
-pick-requires c κs = search needs
-
 returns : tie.Need-returns
 unfolding minOf
 returns c = c .pick .ensures
 
 pub min-spec : {M : Type 1} → statement M
-min-spec = tie.close (tie.spec pick-requires returns)
+min-spec = tie.close (tie.spec (λ c κs. search needs) returns)

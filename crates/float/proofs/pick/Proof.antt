@@ -4,12 +4,6 @@ use borrow.Author.Needs.{needs}
 use Rattle.float.proofs.pick.Statement.{statement}
 use Rattle.float.proofs.pick.Tie as tie
 
-returns : tie.Need-returns
-returns c = search needs
-
-is-nan-requires : tie.Need-is-nan-requires
-is-nan-requires c κs = search needs
-
 returns-2 : tie.Need-returns-2
 returns-2 c = simp (c .before .before .if1 .left, sym (c .before .is-nan .ensures) ∙ c .if2 .taken)
 
@@ -17,4 +11,4 @@ returns-3 : tie.Need-returns-3
 returns-3 c = simp (c .before .before .if1 .left, sym (c .before .is-nan .ensures) ∙ c .if2 .left)
 
 pub pick-spec : {M : Type 1} → statement M
-pick-spec = tie.close (tie.spec returns is-nan-requires returns-2 returns-3)
+pick-spec = tie.close (tie.spec (λ c. search needs) (λ c κs. search needs) returns-2 returns-3)

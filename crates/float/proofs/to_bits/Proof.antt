@@ -7,17 +7,11 @@ use Rattle.float.proofs.Bits.{nan-bits}
 use Rattle.float.proofs.to_bits.Statement.{statement}
 use Rattle.float.proofs.to_bits.Tie as tie
 
-is-nan-requires : tie.Need-is-nan-requires
-is-nan-requires c κs = search needs
-
 returns : tie.Need-returns
 returns c = nan-bits _ (sym (c .before .is-nan .ensures) ∙ c .if1 .taken)
 
 float-to-bits-result : tie.Need-float-to-bits-result
 float-to-bits-result c = subst (λ (b : Bool). T (not b)) (sym (c .if1 .left) ∙ c .before .is-nan .ensures) tt
 
-returns-2 : tie.Need-returns-2
-returns-2 c = search needs
-
 pub to-bits-spec : {M : Type 1} → statement M
-to-bits-spec = tie.close (tie.spec is-nan-requires returns float-to-bits-result returns-2)
+to-bits-spec = tie.close (tie.spec (λ c κs. search needs) returns float-to-bits-result (λ c. search needs))

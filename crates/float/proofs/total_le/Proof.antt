@@ -5,9 +5,6 @@ use borrow.Author.Needs.{needs}
 use Rattle.float.proofs.total_le.Statement.{statement}
 use Rattle.float.proofs.total_le.Tie as tie
 
-is-nan-requires : tie.Need-is-nan-requires
-is-nan-requires c κs = search needs
-
 returns : tie.Need-returns
 unfolding totalLeOf
 returns c = simp (sym (c .before .is-nan .ensures) ∙ c .if1 .taken)
@@ -16,15 +13,9 @@ returns-2 : tie.Need-returns-2
 unfolding totalLeOf
 returns-2 c = simp (sym (c .before .before .is-nan .ensures) ∙ c .before .if1 .left, c .if2 .taken)
 
-is-sign-negative-requires : tie.Need-is-sign-negative-requires
-is-sign-negative-requires c κs = search needs
-
 returns-3 : tie.Need-returns-3
 unfolding totalLeOf
 returns-3 c = simp (sym (c .before .before .before .before .before .is-nan .ensures) ∙ c .before .before .before .before .if1 .left, c .before .before .before .if2 .left, c .before .before .if3 .taken, sym (c .before .is-sign-negative .ensures) ∙ c .if4 .taken)
-
-is-sign-negative-requires-2 : tie.Need-is-sign-negative-requires-2
-is-sign-negative-requires-2 c κs = search needs
 
 returns-4 : tie.Need-returns-4
 unfolding totalLeOf
@@ -35,14 +26,4 @@ unfolding totalLeOf
 returns-5 c = simp (sym (c .before .before .before .is-nan .ensures) ∙ c .before .before .if1 .left, c .before .if2 .left, c .if3 .left)
 
 pub total-le-spec : {M : Type 1} → statement M
-total-le-spec =
-    tie.close
-    (tie.spec
-    is-nan-requires
-    returns
-    returns-2
-    is-sign-negative-requires
-    returns-3
-    is-sign-negative-requires-2
-    returns-4
-    returns-5)
+total-le-spec = tie.close (tie.spec (λ c κs. search needs) returns returns-2 (λ c κs. search needs) returns-3 (λ c κs. search needs) returns-4 returns-5)

@@ -16,22 +16,10 @@ use Rattle.hallio.proofs.list_fd.Tie as tie
 counts : (n : ℕ) (s out : List ℕ) → n ≡ length (listing s) → length out ≡ 163860 → Counts n out
 counts n s out e k = let fits : n ≤ length out = omega (arith, listing-fits s) in (fits, sym (length-take-le n out fits))
 
-read-file-requires : tie.Need-read-file-requires
-read-file-requires c κs = search needs
-
-slice-reshare-prefix-list-file : tie.Need-slice-reshare-prefix-list-file
-slice-reshare-prefix-list-file c = search needs
-
 slice-aggregate-list-file : tie.Need-slice-aggregate-list-file
 slice-aggregate-list-file c =
     let read = c .before .before .before .read-file in
     sym (length-take-le (read .result .len) (read .last .1 .0) (read .ensures))
-
-list-file-requires : tie.Need-list-file-requires
-list-file-requires c κs = search needs
-
-same-length : tie.Need-same-length
-same-length c = search needs
 
 returns : tie.Need-returns
 returns c =
@@ -40,12 +28,4 @@ returns c =
     (c .before .before .before .before .before .read-file .ensures, (listed .ensures .0, (listed .ensures .1, counts (listed .result) _ (listed .last .1 .0) (listed .ensures .0) room)))
 
 pub list-fd-spec : {M : Type 1} → statement M
-list-fd-spec =
-    tie.close
-    (tie.spec
-    read-file-requires
-    slice-reshare-prefix-list-file
-    slice-aggregate-list-file
-    list-file-requires
-    same-length
-    returns)
+list-fd-spec = tie.close (tie.spec (λ c κs. search needs) (λ c. search needs) slice-aggregate-list-file (λ c κs. search needs) (λ c. search needs) returns)

@@ -16,33 +16,12 @@ Inv-loop d y p d1₀ d2₀ i₀ d1 d2 i = (i ≤ 5) × (downTo 1 (derivsStep p y
 abbrev μ-loop : tie.MeasureT-loop
 μ-loop d y p d1₀ d2₀ i₀ d1 d2 i = i
 
-add-i : tie.Need-add-i Inv-loop μ-loop
-add-i c = search needs
-
 loop-holds : tie.Need-loop-holds Inv-loop μ-loop
 unfolding derivs12Of
 loop-holds c = (search needs, refl)
 
-sub-i : tie.Need-sub-i Inv-loop μ-loop
-sub-i c = search needs
-
 int-to-float-k : tie.Need-int-to-float-k Inv-loop μ-loop
 int-to-float-k c = small-exact _ (omega arith)
-
-mul-d1 : tie.Need-mul-d1 Inv-loop μ-loop
-mul-d1 c = search needs
-
-array-read-d1 : tie.Need-array-read-d1 Inv-loop μ-loop
-array-read-d1 c = search needs
-
-mul-d2 : tie.Need-mul-d2 Inv-loop μ-loop
-mul-d2 c = search needs
-
-array-read-d2 : tie.Need-array-read-d2 Inv-loop μ-loop
-array-read-d2 c = search needs
-
-loop-less : tie.Need-loop-less Inv-loop μ-loop
-loop-less c = search needs
 
 loop-again : tie.Need-loop-again Inv-loop μ-loop
 unfolding derivsStep
@@ -50,9 +29,6 @@ loop-again c =
     let l = c .before .before .before .loop in
     let turn = sym (down-to-turn 1 _ (l .i) _ (search needs)) ∙ l .inv .1 in
     (search needs, simp (le-leb 2 (l .i - 1) (search needs)) at turn)
-
-loop-less-2 : tie.Need-loop-less-2 Inv-loop μ-loop
-loop-less-2 c = search needs
 
 loop-again-2 : tie.Need-loop-again-2 Inv-loop μ-loop
 unfolding derivsStep
@@ -70,16 +46,16 @@ derivs12-spec =
     (tie.spec
     Inv-loop
     μ-loop
-    add-i
+    (λ c. search needs)
     loop-holds
-    sub-i
+    (λ c. search needs)
     int-to-float-k
-    mul-d1
-    array-read-d1
-    mul-d2
-    array-read-d2
-    loop-less
+    (λ c. search needs)
+    (λ c. search needs)
+    (λ c. search needs)
+    (λ c. search needs)
+    (λ c. search needs)
     loop-again
-    loop-less-2
+    (λ c. search needs)
     loop-again-2
     returns)

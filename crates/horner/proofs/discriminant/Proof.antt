@@ -4,12 +4,9 @@ use Rattle.horner.specs.Product.{discriminantOf}
 use Rattle.horner.proofs.discriminant.Statement.{statement}
 use Rattle.horner.proofs.discriminant.Tie as tie
 
-two-prod-requires : tie.Need-two-prod-requires
-two-prod-requires c κs = search needs
-
 returns : tie.Need-returns
 unfolding discriminantOf
 returns c = rw (c .before .before .two-prod .ensures)
 
 pub discriminant-spec : {M : Type 1} → statement M
-discriminant-spec = tie.close (tie.spec two-prod-requires returns)
+discriminant-spec = tie.close (tie.spec (λ c κs. search needs) returns)

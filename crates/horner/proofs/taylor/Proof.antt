@@ -30,42 +30,9 @@ loop2-holds : tie.Need-loop2-holds Inv-loop2 μ-loop2 Inv-loop μ-loop
 unfolding sweepOf
 loop2-holds c = (search needs, search needs, refl)
 
-sub-i : tie.Need-sub-i Inv-loop2 μ-loop2 Inv-loop μ-loop
-sub-i c = search needs
-
-mul-t : tie.Need-mul-t Inv-loop2 μ-loop2 Inv-loop μ-loop
-mul-t c = search needs
-
-array-read-t : tie.Need-array-read-t Inv-loop2 μ-loop2 Inv-loop μ-loop
-array-read-t c = search needs
-
-add-t : tie.Need-add-t Inv-loop2 μ-loop2 Inv-loop μ-loop
-add-t c = search needs
-
-mul-t-2 : tie.Need-mul-t-2 Inv-loop2 μ-loop2 Inv-loop μ-loop
-mul-t-2 c = search needs
-
-array-read-t-2 : tie.Need-array-read-t-2 Inv-loop2 μ-loop2 Inv-loop μ-loop
-array-read-t-2 c = search needs
-
-mul-t-3 : tie.Need-mul-t-3 Inv-loop2 μ-loop2 Inv-loop μ-loop
-mul-t-3 c = search needs
-
-array-write-t : tie.Need-array-write-t Inv-loop2 μ-loop2 Inv-loop μ-loop
-array-write-t c = search needs
-
-loop2-less : tie.Need-loop2-less Inv-loop2 μ-loop2 Inv-loop μ-loop
-loop2-less c = search needs
-
 loop2-again : tie.Need-loop2-again Inv-loop2 μ-loop2 Inv-loop μ-loop
 unfolding taylorStep
 loop2-again c = (search needs, search needs, sym (down-to-turn _ _ _ _ (search needs)) ∙ c .before .loop2 .inv .2)
-
-add-k : tie.Need-add-k Inv-loop2 μ-loop2 Inv-loop μ-loop
-add-k c = search needs
-
-loop-less : tie.Need-loop-less Inv-loop2 μ-loop2 Inv-loop μ-loop
-loop-less c = search needs
 
 loop-again : tie.Need-loop-again Inv-loop2 μ-loop2 Inv-loop μ-loop
 loop-again c =
@@ -85,17 +52,17 @@ taylor-spec =
     μ-loop
     loop-holds
     loop2-holds
-    sub-i
-    mul-t
-    array-read-t
-    add-t
-    mul-t-2
-    array-read-t-2
-    mul-t-3
-    array-write-t
-    loop2-less
+    (λ c. search needs)
+    (λ c. search needs)
+    (λ c. search needs)
+    (λ c. search needs)
+    (λ c. search needs)
+    (λ c. search needs)
+    (λ c. search needs)
+    (λ c. search needs)
+    (λ c. search needs)
     loop2-again
-    add-k
-    loop-less
+    (λ c. search needs)
+    (λ c. search needs)
     loop-again
     returns)

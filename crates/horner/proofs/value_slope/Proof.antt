@@ -14,27 +14,9 @@ Inv-loop d y p v₀ s₀ i₀ v s i = (i ≤ 4) × (countDown (atPlace (hornerSt
 abbrev μ-loop : tie.MeasureT-loop
 μ-loop d y p v₀ s₀ i₀ v s i = i
 
-mul-v : tie.Need-mul-v Inv-loop μ-loop
-mul-v c = search needs
-
-array-read-v : tie.Need-array-read-v Inv-loop μ-loop
-array-read-v c = search needs
-
 loop-holds : tie.Need-loop-holds Inv-loop μ-loop
 unfolding valueSlopeOf
 loop-holds c = (search needs, refl)
-
-sub-i : tie.Need-sub-i Inv-loop μ-loop
-sub-i c = search needs
-
-mul-v-2 : tie.Need-mul-v-2 Inv-loop μ-loop
-mul-v-2 c = search needs
-
-array-read-v-2 : tie.Need-array-read-v-2 Inv-loop μ-loop
-array-read-v-2 c = search needs
-
-loop-less : tie.Need-loop-less Inv-loop μ-loop
-loop-less c = search needs
 
 loop-again : tie.Need-loop-again Inv-loop μ-loop
 unfolding hornerStep
@@ -49,12 +31,12 @@ value-slope-spec =
     (tie.spec
     Inv-loop
     μ-loop
-    mul-v
-    array-read-v
+    (λ c. search needs)
+    (λ c. search needs)
     loop-holds
-    sub-i
-    mul-v-2
-    array-read-v-2
-    loop-less
+    (λ c. search needs)
+    (λ c. search needs)
+    (λ c. search needs)
+    (λ c. search needs)
     loop-again
     returns)

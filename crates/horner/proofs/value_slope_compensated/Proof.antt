@@ -15,30 +15,9 @@ Inv-loop d y p v₀ err₀ s₀ i₀ v err s i = (i ≤ 4) × (countDown (atPlac
 abbrev μ-loop : tie.MeasureT-loop
 μ-loop d y p v₀ err₀ s₀ i₀ v err s i = i
 
-mul-v : tie.Need-mul-v Inv-loop μ-loop
-mul-v c = search needs
-
-array-read-v : tie.Need-array-read-v Inv-loop μ-loop
-array-read-v c = search needs
-
 loop-holds : tie.Need-loop-holds Inv-loop μ-loop
 unfolding compensatedOf
 loop-holds c = (search needs, refl)
-
-sub-i : tie.Need-sub-i Inv-loop μ-loop
-sub-i c = search needs
-
-mul-c : tie.Need-mul-c Inv-loop μ-loop
-mul-c c = search needs
-
-array-read-c : tie.Need-array-read-c Inv-loop μ-loop
-array-read-c c = search needs
-
-two-prod-requires : tie.Need-two-prod-requires Inv-loop μ-loop
-two-prod-requires c κs = search needs
-
-loop-less : tie.Need-loop-less Inv-loop μ-loop
-loop-less c = search needs
 
 loop-again : tie.Need-loop-again Inv-loop μ-loop
 unfolding compensatedStep sumError twoProdOf
@@ -54,13 +33,13 @@ value-slope-compensated-spec =
     (tie.spec
     Inv-loop
     μ-loop
-    mul-v
-    array-read-v
+    (λ c. search needs)
+    (λ c. search needs)
     loop-holds
-    sub-i
-    mul-c
-    array-read-c
-    two-prod-requires
-    loop-less
+    (λ c. search needs)
+    (λ c. search needs)
+    (λ c. search needs)
+    (λ c κs. search needs)
+    (λ c. search needs)
     loop-again
     returns)

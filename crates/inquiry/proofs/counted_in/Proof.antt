@@ -19,26 +19,11 @@ abbrev μ-loop : tie.MeasureT-loop
 loop-holds : tie.Need-loop-holds Inv-loop μ-loop
 loop-holds c = (search needs, c .pre, refl)
 
-mul-r : tie.Need-mul-r Inv-loop μ-loop
-mul-r c = search needs
-
-element-copy-out-r : tie.Need-element-copy-out-r Inv-loop μ-loop
-element-copy-out-r c = search needs
-
-cast-m : tie.Need-cast-m Inv-loop μ-loop
-cast-m c = search needs
-
 returns : tie.Need-returns Inv-loop μ-loop
 returns c = let at = c .before .before .before .before in sym (count-none (at .before .args .t2) (at .loop .k) (at .loop .inv .1) (at .loop .left) (search needs) (c .if1 .taken)) ∙ at .loop .inv .2
 
 returns-2 : tie.Need-returns-2 Inv-loop μ-loop
 returns-2 c = let at = c .before .before .before .before .before in sym (count-over (at .before .args .t2) (at .loop .k) (at .loop .inv .1) (at .loop .left) (search needs) (c .if2 .taken)) ∙ at .loop .inv .2
-
-add-k : tie.Need-add-k Inv-loop μ-loop
-add-k c = search needs
-
-loop-less : tie.Need-loop-less Inv-loop μ-loop
-loop-less c = search needs
 
 loop-again : tie.Need-loop-again Inv-loop μ-loop
 loop-again c = let at = c .before .before .before .before .before in (search needs, at .loop .inv .1, sym (count-go (at .before .args .t2) (at .loop .k) (at .loop .inv .1) (at .loop .left) (search needs) (c .before .if1 .left) (c .if2 .left)) ∙ at .loop .inv .2)
@@ -53,12 +38,12 @@ counted-in-spec =
     Inv-loop
     μ-loop
     loop-holds
-    mul-r
-    element-copy-out-r
-    cast-m
+    (λ c. search needs)
+    (λ c. search needs)
+    (λ c. search needs)
     returns
     returns-2
-    add-k
-    loop-less
+    (λ c. search needs)
+    (λ c. search needs)
     loop-again
     returns-3)

@@ -12,9 +12,6 @@ use Rattle.inquiry.proofs.finished.Tie as tie
 chains-requires : tie.Need-chains-requires
 chains-requires c κs = c .pre
 
-question-requires : tie.Need-question-requires
-question-requires c κs = search needs
-
 returns : tie.Need-returns
 returns c = c .question .ensures ∙ finish-asks _ _ _ _ _ _ _ _ (c .before .before .chains .ensures .0) (c .before .if1 .taken)
 
@@ -26,4 +23,4 @@ returns-2 c = let s = c .before .before .before .before .before .before in let f
 
 pub finished-spec : {M : Type 1} → statement M
 finished-spec =
-    tie.close (tie.spec chains-requires question-requires returns emit-requires returns-2)
+    tie.close (tie.spec chains-requires (λ c κs. search needs) returns emit-requires returns-2)

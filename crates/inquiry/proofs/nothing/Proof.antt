@@ -3,11 +3,8 @@ use borrow.Author.Needs.{needs}
 use Rattle.inquiry.proofs.nothing.Statement.{statement}
 use Rattle.inquiry.proofs.nothing.Tie as tie
 
-none-requires : tie.Need-none-requires
-none-requires c κs = search needs
-
 returns : tie.Need-returns
 returns c = rw (c .none .ensures)
 
 pub nothing-spec : {M : Type 1} → statement M
-nothing-spec = tie.close (tie.spec none-requires returns)
+nothing-spec = tie.close (tie.spec (λ c κs. search needs) returns)

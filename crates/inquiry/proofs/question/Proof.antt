@@ -4,12 +4,9 @@ use borrow.Author.Needs.{needs}
 use Rattle.inquiry.proofs.question.Statement.{statement}
 use Rattle.inquiry.proofs.question.Tie as tie
 
-none-requires : tie.Need-none-requires
-none-requires c κs = search needs
-
 returns : tie.Need-returns
 unfolding shown
 returns c = rw (c .none .ensures)
 
 pub question-spec : {M : Type 1} → statement M
-question-spec = tie.close (tie.spec none-requires returns)
+question-spec = tie.close (tie.spec (λ c κs. search needs) returns)

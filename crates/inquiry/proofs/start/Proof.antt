@@ -4,12 +4,9 @@ use borrow.Author.Needs.{needs}
 use Rattle.inquiry.proofs.start.Statement.{statement}
 use Rattle.inquiry.proofs.start.Tie as tie
 
-solve-requires : tie.Need-solve-requires
-solve-requires c κs = search needs
-
 returns : tie.Need-returns
 unfolding startOf
 returns c = rw (c .before .before .before .solve .ensures)
 
 pub start-spec : {M : Type 1} → statement M
-start-spec = tie.close (tie.spec solve-requires returns)
+start-spec = tie.close (tie.spec (λ c κs. search needs) returns)

@@ -13,9 +13,6 @@ use Rattle.inquiry.proofs.walk_all.Tie as tie
 pairs-requires : tie.Need-pairs-requires
 pairs-requires c κs = c .pre
 
-question-requires : tie.Need-question-requires
-question-requires c κs = search needs
-
 returns : tie.Need-returns
 returns c = c .question .ensures ∙ ask-asks _ _ _ _ _ _ _ _ _ (c .before .before .pairs .ensures .0) (c .before .if1 .taken)
 
@@ -53,14 +50,4 @@ returns-3 c =
     (c .before .ordered .ensures .0 ∙ ordered-some (pairListOf ps) _ _ _ (pairs-some ps (s .pre .3) (c .before .before .if2 .left)))
 
 pub walk-all-spec : {M : Type 1} → statement M
-walk-all-spec =
-    tie.close
-    (tie.spec
-    pairs-requires
-    question-requires
-    returns
-    finished-requires
-    returns-2
-    ordered-requires
-    finished-requires-2
-    returns-3)
+walk-all-spec = tie.close (tie.spec pairs-requires (λ c κs. search needs) returns finished-requires returns-2 ordered-requires finished-requires-2 returns-3)

@@ -15,9 +15,6 @@ returns-2 : tie.Need-returns-2
 unfolding ofBits div
 returns-2 c = log-negative (c .before .before .args .x) (c .if2 .taken)
 
-normal-of-requires : tie.Need-normal-of-requires
-normal-of-requires c κs = search needs
-
 returns-3 : tie.Need-returns-3
 unfolding ofBits
 returns-3 c = log-special _ _ _ (c .before .before .normal-of .ensures) (c .before .before .before .before .if1 .left) (c .before .before .before .if2 .left) (c .if3 .taken)
@@ -39,25 +36,9 @@ cast-z c = omega (arith, place _ _ _ (c .before .before .before .before .normal-
 sub-z : tie.Need-sub-z
 sub-z c = place-fits _ _ _ (c .before .before .before .before .normal-of .ensures) _ (c .before .fraction .ensures) (c .before .before .if3 .left)
 
-int-to-float-result : tie.Need-int-to-float-result
-int-to-float-result c = search needs
-
 returns-4 : tie.Need-returns-4
 unfolding ofBits
 returns-4 c = log-positive _ _ _ (c .before .before .before .before .before .normal-of .ensures) _ (c .before .before .fraction .ensures) (c .before .before .before .if3 .left) (c .before .before .before .before .before .before .if2 .left)
 
 pub log2-in-spec : {M : Type 1} → statement M
-log2-in-spec =
-    tie.close
-    (tie.spec
-    returns
-    returns-2
-    normal-of-requires
-    returns-3
-    fraction-requires
-    mul-z
-    add-z
-    cast-z
-    sub-z
-    int-to-float-result
-    returns-4)
+log2-in-spec = tie.close (tie.spec returns returns-2 (λ c κs. search needs) returns-3 fraction-requires mul-z add-z cast-z sub-z (λ c. search needs) returns-4)

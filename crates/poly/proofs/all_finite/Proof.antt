@@ -18,23 +18,8 @@ abbrev μ-loop : tie.MeasureT-loop
 loop-holds : tie.Need-loop-holds Inv-loop μ-loop
 loop-holds c = (search needs, refl)
 
-mul-is-finite : tie.Need-mul-is-finite Inv-loop μ-loop
-mul-is-finite c = search needs
-
-shared-slice-read-is-finite : tie.Need-shared-slice-read-is-finite Inv-loop μ-loop
-shared-slice-read-is-finite c = search needs
-
-is-finite-requires : tie.Need-is-finite-requires Inv-loop μ-loop
-is-finite-requires c κs = search needs
-
 returns : tie.Need-returns Inv-loop μ-loop
 returns c = sym (finite-stop _ _ (c .before .before .before .loop-test .taken) (sym (c .before .is-finite .ensures) ∙ not-true _ (c .if1 .taken))) ∙ c .before .before .before .before .loop .inv .1
-
-add-i : tie.Need-add-i Inv-loop μ-loop
-add-i c = search needs
-
-loop-less : tie.Need-loop-less Inv-loop μ-loop
-loop-less c = search needs
 
 loop-again : tie.Need-loop-again Inv-loop μ-loop
 loop-again c = (search needs, sym (finite-go _ _ (c .before .before .before .loop-test .taken) (sym (c .before .is-finite .ensures) ∙ not-false _ (c .if1 .left))) ∙ c .before .before .before .before .loop .inv .1)
@@ -49,11 +34,11 @@ all-finite-spec =
     Inv-loop
     μ-loop
     loop-holds
-    mul-is-finite
-    shared-slice-read-is-finite
-    is-finite-requires
+    (λ c. search needs)
+    (λ c. search needs)
+    (λ c κs. search needs)
     returns
-    add-i
-    loop-less
+    (λ c. search needs)
+    (λ c. search needs)
     loop-again
     returns-2)

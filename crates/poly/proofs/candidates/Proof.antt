@@ -7,17 +7,8 @@ use borrow.Author.Needs.{needs}
 use Rattle.poly.proofs.candidates.Statement.{statement}
 use Rattle.poly.proofs.candidates.Tie as tie
 
-factorize-rooted-requires : tie.Need-factorize-rooted-requires
-factorize-rooted-requires c κs = search needs
-
-zero-roots-requires : tie.Need-zero-roots-requires
-zero-roots-requires c κs = search needs
-
 with-lins-requires : tie.Need-with-lins-requires
 with-lins-requires c κs = counts-fit (c .before .before .args .poly) _ (the-factors (c .before .factorize-rooted .ensures)) (search needs) .0
-
-none-requires : tie.Need-none-requires
-none-requires c κs = search needs
 
 with-quads-requires : tie.Need-with-quads-requires
 with-quads-requires c κs =
@@ -28,12 +19,4 @@ returns : tie.Need-returns
 returns c = let f = the-factors (c .before .before .before .before .factorize-rooted .ensures) in rw (← f) (candidates-found _ _ _ _ _ _ _ (c .before .before .before .zero-roots .ensures) (c .before .before .with-lins .ensures) (c .with-quads .ensures ∙ rw (c .before .none .ensures)))
 
 pub candidates-spec : {M : Type 1} → statement M
-candidates-spec =
-    tie.close
-    (tie.spec
-    factorize-rooted-requires
-    zero-roots-requires
-    with-lins-requires
-    none-requires
-    with-quads-requires
-    returns)
+candidates-spec = tie.close (tie.spec (λ c κs. search needs) (λ c κs. search needs) with-lins-requires (λ c κs. search needs) with-quads-requires returns)

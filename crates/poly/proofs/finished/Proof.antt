@@ -5,9 +5,6 @@ use borrow.Author.Needs.{needs}
 use Rattle.poly.proofs.finished.Statement.{statement}
 use Rattle.poly.proofs.finished.Tie as tie
 
-candidates-requires : tie.Need-candidates-requires
-candidates-requires c κs = search needs
-
 finish-requires : tie.Need-finish-requires
 finish-requires c κs = (search needs, candidates-fit _ _ _ _ (c .candidates .ensures) (search needs))
 
@@ -15,4 +12,4 @@ returns : tie.Need-returns
 returns c = finished-is _ _ _ _ _ (c .before .before .candidates .ensures) (c .before .finish .ensures)
 
 pub finished-spec : {M : Type 1} → statement M
-finished-spec = tie.close (tie.spec candidates-requires finish-requires returns)
+finished-spec = tie.close (tie.spec (λ c κs. search needs) finish-requires returns)

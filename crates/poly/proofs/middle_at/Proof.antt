@@ -5,18 +5,6 @@ use borrow.Author.Needs.{needs}
 use Rattle.poly.proofs.middle_at.Statement.{statement}
 use Rattle.poly.proofs.middle_at.Tie as tie
 
-sub-if1 : tie.Need-sub-if1
-sub-if1 c = search needs
-
-add-result : tie.Need-add-result
-add-result c = search needs
-
-mul-result : tie.Need-mul-result
-mul-result c = search needs
-
-shared-slice-read-result : tie.Need-shared-slice-read-result
-shared-slice-read-result c = search needs
-
 returns : tie.Need-returns
 unfolding middleAt
 returns c = simp (lt-ltb _ _ (c .before .if1 .taken))
@@ -27,4 +15,4 @@ returns-2 c = simp (le-ltb _ _ (c .if1 .left))
 
 pub middle-at-spec : {M : Type 1} → statement M
 middle-at-spec =
-    tie.close (tie.spec sub-if1 add-result mul-result shared-slice-read-result returns returns-2)
+    tie.close (tie.spec (λ c. search needs) (λ c. search needs) (λ c. search needs) (λ c. search needs) returns returns-2)

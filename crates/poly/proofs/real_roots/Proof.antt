@@ -12,9 +12,6 @@ use borrow.Author.Needs.{needs}
 use Rattle.poly.proofs.real_roots.Statement.{statement}
 use Rattle.poly.proofs.real_roots.Tie as tie
 
-solve-requires : tie.Need-solve-requires
-solve-requires c κs = search needs
-
 unscaled-all-requires : tie.Need-unscaled-all-requires
 unscaled-all-requires c κs = subst (λ (s : Solved). s .roots .len ≤ 4) (sym (c .before .solve .ensures)) (solved-fits _ _ .0 .1)
 
@@ -22,4 +19,4 @@ returns : tie.Need-returns
 returns c = answer-is _ _ _ _ (c .before .before .solve .ensures) (c .unscaled-all .ensures ∙ ap (λ (z : ℤ). rootsOf (unscaledAll z (listOf (c .before .before .solve .result .roots)))) (toZ-ofZ (search needs)))
 
 pub real-roots-spec : {M : Type 1} → statement M
-real-roots-spec = tie.close (tie.spec solve-requires unscaled-all-requires returns)
+real-roots-spec = tie.close (tie.spec (λ c κs. search needs) unscaled-all-requires returns)

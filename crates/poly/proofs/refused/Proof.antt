@@ -3,14 +3,8 @@ use borrow.Author.Needs.{needs}
 use Rattle.poly.proofs.refused.Statement.{statement}
 use Rattle.poly.proofs.refused.Tie as tie
 
-none-requires : tie.Need-none-requires
-none-requires c κs = search needs
-
-none-requires-2 : tie.Need-none-requires-2
-none-requires-2 c κs = search needs
-
 returns : tie.Need-returns
 returns c = rw (c .none2 .ensures, c .before .none .ensures)
 
 pub refused-spec : {M : Type 1} → statement M
-refused-spec = tie.close (tie.spec none-requires none-requires-2 returns)
+refused-spec = tie.close (tie.spec (λ c κs. search needs) (λ c κs. search needs) returns)

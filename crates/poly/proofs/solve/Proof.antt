@@ -5,23 +5,8 @@ use borrow.Author.Needs.{needs}
 use Rattle.poly.proofs.solve.Statement.{statement}
 use Rattle.poly.proofs.solve.Tie as tie
 
-trimmed-requires : tie.Need-trimmed-requires
-trimmed-requires c κs = search needs
-
-all-finite-requires : tie.Need-all-finite-requires
-all-finite-requires c κs = search needs
-
-refusal-requires : tie.Need-refusal-requires
-refusal-requires c κs = search needs
-
-refused-requires : tie.Need-refused-requires
-refused-requires c κs = search needs
-
 returns : tie.Need-returns
 returns c = solve-refused _ _ _ _ _ (c .before .before .before .all-finite .ensures) (c .before .before .before .before .trimmed .ensures .0) (c .before .before .refusal .ensures) _ (c .refused .ensures) (c .before .if1 .taken)
-
-leading-zeros-requires : tie.Need-leading-zeros-requires
-leading-zeros-requires c κs = search needs
 
 middle-requires : tie.Need-middle-requires
 middle-requires c κs = let r = room _ _ _ _ _ (c .before .before .before .before .trimmed .ensures .0) (c .leading-zeros .ensures) (c .before .before .refusal .ensures) (c .before .if1 .left) in search needs
@@ -35,9 +20,6 @@ sub-new-2 c = let r = room _ _ _ _ _ (c .before .before .before .before .before 
 new-requires : tie.Need-new-requires
 new-requires c κs = let r = room _ _ _ _ _ (c .before .before .before .before .before .trimmed .ensures .0) (c .before .leading-zeros .ensures) (c .before .before .before .refusal .ensures) (c .before .before .if1 .left) in search needs
 
-max-requires : tie.Need-max-requires
-max-requires c κs = search needs
-
 finished-requires : tie.Need-finished-requires
 finished-requires c κs = let r = room _ _ _ _ _ (c .before .before .before .before .before .before .before .trimmed .ensures .0) (c .before .before .before .leading-zeros .ensures) (c .before .before .before .before .before .refusal .ensures) (c .before .before .before .before .if1 .left) in let d = new-degree _ _ _ (c .before .new .ensures) in search needs
 
@@ -48,16 +30,16 @@ pub solve-spec : {M : Type 1} → statement M
 solve-spec =
     tie.close
     (tie.spec
-    trimmed-requires
-    all-finite-requires
-    refusal-requires
-    refused-requires
+    (λ c κs. search needs)
+    (λ c κs. search needs)
+    (λ c κs. search needs)
+    (λ c κs. search needs)
     returns
-    leading-zeros-requires
+    (λ c κs. search needs)
     middle-requires
     sub-new
     sub-new-2
     new-requires
-    max-requires
+    (λ c κs. search needs)
     finished-requires
     returns-2)

@@ -21,30 +21,9 @@ Inv-loop e s out₀ i₀ out i = (i ≤ s .len) × Fits s × (out ≡ rootsOf (u
 abbrev μ-loop : tie.MeasureT-loop
 μ-loop e s out₀ i₀ out i = s .len - i
 
-none-requires : tie.Need-none-requires Inv-loop μ-loop
-none-requires c κs = search needs
-
 loop-holds : tie.Need-loop-holds Inv-loop μ-loop
 unfolding unscaledAll
 loop-holds c = (search needs, (search (needs, length-mapped), search needs), c .none .ensures)
-
-mul-r : tie.Need-mul-r Inv-loop μ-loop
-mul-r c = search needs
-
-element-copy-out-r : tie.Need-element-copy-out-r Inv-loop μ-loop
-element-copy-out-r c = search needs
-
-ldexp-requires : tie.Need-ldexp-requires Inv-loop μ-loop
-ldexp-requires c κs = search needs
-
-keep-requires : tie.Need-keep-requires Inv-loop μ-loop
-keep-requires c κs = search needs
-
-add-i : tie.Need-add-i Inv-loop μ-loop
-add-i c = search needs
-
-loop-less : tie.Need-loop-less Inv-loop μ-loop
-loop-less c = search needs
 
 loop-again : tie.Need-loop-again Inv-loop μ-loop
 loop-again c = (search needs, c .before .before .before .before .loop .inv .1, c .keep .ensures ∙ rw (c .before .ldexp .ensures, c .before .before .before .before .loop .inv .2) (unscaled-turn _ (c .before .before .before .before .before .before .args .t1) (c .before .before .before .before .loop .i) (c .before .before .before .before .loop .inv .1) (search needs)))
@@ -58,13 +37,13 @@ unscaled-all-spec =
     (tie.spec
     Inv-loop
     μ-loop
-    none-requires
+    (λ c κs. search needs)
     loop-holds
-    mul-r
-    element-copy-out-r
-    ldexp-requires
-    keep-requires
-    add-i
-    loop-less
+    (λ c. search needs)
+    (λ c. search needs)
+    (λ c κs. search needs)
+    (λ c κs. search needs)
+    (λ c. search needs)
+    (λ c. search needs)
     loop-again
     returns)

@@ -17,21 +17,6 @@ abbrev μ-loop : tie.MeasureT-loop
 loop-holds : tie.Need-loop-holds Inv-loop μ-loop
 loop-holds c = (search needs, simp sub-zero)
 
-mul-keep : tie.Need-mul-keep Inv-loop μ-loop
-mul-keep c = search needs
-
-element-copy-out-keep : tie.Need-element-copy-out-keep Inv-loop μ-loop
-element-copy-out-keep c = search needs
-
-keep-requires : tie.Need-keep-requires Inv-loop μ-loop
-keep-requires c κs = search needs
-
-add-i : tie.Need-add-i Inv-loop μ-loop
-add-i c = search needs
-
-loop-less : tie.Need-loop-less Inv-loop μ-loop
-loop-less c = search needs
-
 loop-again : tie.Need-loop-again Inv-loop μ-loop
 loop-again c = (search needs, rw (c .keep .ensures) (sym (up-turn _ _ _ _ (search needs)) ∙ c .before .before .before .loop .inv .1))
 
@@ -45,10 +30,10 @@ with-lins-spec =
     Inv-loop
     μ-loop
     loop-holds
-    mul-keep
-    element-copy-out-keep
-    keep-requires
-    add-i
-    loop-less
+    (λ c. search needs)
+    (λ c. search needs)
+    (λ c κs. search needs)
+    (λ c. search needs)
+    (λ c. search needs)
     loop-again
     returns)

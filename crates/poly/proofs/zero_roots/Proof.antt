@@ -5,15 +5,6 @@ use borrow.Author.Needs.{needs}
 use Rattle.poly.proofs.zero_roots.Statement.{statement}
 use Rattle.poly.proofs.zero_roots.Tie as tie
 
-none-requires : tie.Need-none-requires
-none-requires c κs = search needs
-
-cast-keep : tie.Need-cast-keep
-cast-keep c = search needs
-
-keep-requires : tie.Need-keep-requires
-keep-requires c κs = search needs
-
 returns : tie.Need-returns
 returns c = c .keep .ensures ∙ rw (c .before .before .none .ensures) (zeros-some _ (c .before .if1 .taken))
 
@@ -21,4 +12,4 @@ returns-2 : tie.Need-returns-2
 returns-2 c = c .before .none .ensures ∙ zeros-none _ (search needs)
 
 pub zero-roots-spec : {M : Type 1} → statement M
-zero-roots-spec = tie.close (tie.spec none-requires cast-keep keep-requires returns returns-2)
+zero-roots-spec = tie.close (tie.spec (λ c κs. search needs) (λ c. search needs) (λ c κs. search needs) returns returns-2)

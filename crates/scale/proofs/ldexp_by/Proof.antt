@@ -7,20 +7,11 @@ use Rattle.scale.proofs.Chain.{minus-up, minus-down}
 use Rattle.scale.proofs.ldexp_by.Statement.{statement}
 use Rattle.scale.proofs.ldexp_by.Tie as tie
 
-scaled-requires : tie.Need-scaled-requires
-scaled-requires c κs = search needs
-
 returns : tie.Need-returns
 returns c = c .scaled .ensures ∙ ap (λ (z : ℤ). ldexpOf (c .before .before .args .x) z) (minus-up _ _ (c .before .if1 .taken))
-
-sub-scaled : tie.Need-sub-scaled
-sub-scaled c = search needs
-
-scaled-requires-2 : tie.Need-scaled-requires-2
-scaled-requires-2 c κs = search needs
 
 returns-2 : tie.Need-returns-2
 returns-2 c = c .scaled2 .ensures ∙ ap (λ (z : ℤ). ldexpOf (c .before .before .args .x) z) (minus-down _ _ (c .before .if1 .left))
 
 pub ldexp-by-spec : {M : Type 1} → statement M
-ldexp-by-spec = tie.close (tie.spec scaled-requires returns sub-scaled scaled-requires-2 returns-2)
+ldexp-by-spec = tie.close (tie.spec (λ c κs. search needs) returns (λ c. search needs) (λ c κs. search needs) returns-2)

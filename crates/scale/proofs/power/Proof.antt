@@ -5,23 +5,11 @@ use borrow.Author.Needs.{needs}
 use Rattle.scale.proofs.power.Statement.{statement}
 use Rattle.scale.proofs.power.Tie as tie
 
-sub-result : tie.Need-sub-result
-sub-result c = search needs
-
-mul-result : tie.Need-mul-result
-mul-result c = search needs
-
 float-from-bits-result : tie.Need-float-from-bits-result
 float-from-bits-result c = pack-not-nan _ (omega arith)
 
 returns : tie.Need-returns
 returns c = rw (c .if1 .taken) (power-down (c .before .args .n) (c .before .pre .1 (c .if1 .taken)))
-
-add-result : tie.Need-add-result
-add-result c = search needs
-
-mul-result-2 : tie.Need-mul-result-2
-mul-result-2 c = search needs
 
 float-from-bits-result-2 : tie.Need-float-from-bits-result-2
 float-from-bits-result-2 c = pack-not-nan _ (omega arith)
@@ -32,4 +20,4 @@ returns-2 c = rw (c .if1 .left) (power-up (c .before .args .n) (c .before .pre .
 pub power-spec : {M : Type 1} → statement M
 power-spec =
     tie.close
-    (tie.spec sub-result mul-result float-from-bits-result returns add-result mul-result-2 float-from-bits-result-2 returns-2)
+    (tie.spec (λ c. search needs) (λ c. search needs) float-from-bits-result returns (λ c. search needs) (λ c. search needs) float-from-bits-result-2 returns-2)

@@ -7,18 +7,6 @@ use borrow.Author.Needs.{needs}
 use Rattle.scaled.proofs.coefficient.Statement.{statement}
 use Rattle.scaled.proofs.coefficient.Tie as tie
 
-mul-ldexp : tie.Need-mul-ldexp
-mul-ldexp c = search needs
-
-array-read-ldexp : tie.Need-array-read-ldexp
-array-read-ldexp c = search needs
-
-shift-requires : tie.Need-shift-requires
-shift-requires c κs = search needs
-
-ldexp-requires : tie.Need-ldexp-requires
-ldexp-requires c κs = search needs
-
 returns : tie.Need-returns
 unfolding coefficientOf
 returns c =
@@ -31,4 +19,4 @@ returns-2 c = rw (lt-leb _ _ (c .if1 .left))
 
 pub coefficient-spec : {M : Type 1} → statement M
 coefficient-spec =
-    tie.close (tie.spec mul-ldexp array-read-ldexp shift-requires ldexp-requires returns returns-2)
+    tie.close (tie.spec (λ c. search needs) (λ c. search needs) (λ c κs. search needs) (λ c κs. search needs) returns returns-2)

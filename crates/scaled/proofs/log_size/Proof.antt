@@ -7,20 +7,11 @@ use borrow.Author.Needs.{needs}
 use Rattle.scaled.proofs.log_size.Statement.{statement}
 use Rattle.scaled.proofs.log_size.Tie as tie
 
-shift-requires : tie.Need-shift-requires
-shift-requires c κs = search needs
-
-int-to-float-result : tie.Need-int-to-float-result
-int-to-float-result c = search needs
-
 returns : tie.Need-returns
 unfolding logSizeOf
 returns c =
     let f = c .before .before .before .fits in
     rw (le-leb _ _ (c .before .before .if1 .taken), read _ (c .before .shift .ok), c .before .shift .ensures, toZ-ofZ (f .e), toZ-ofZ (f .top))
-
-infinity-requires : tie.Need-infinity-requires
-infinity-requires c κs = search needs
 
 returns-2 : tie.Need-returns-2
 unfolding logSizeOf
@@ -28,4 +19,4 @@ returns-2 c = rw (lt-leb _ _ (c .before .if1 .left), c .infinity .ensures)
 
 pub log-size-spec : {M : Type 1} → statement M
 log-size-spec =
-    tie.close (tie.spec shift-requires int-to-float-result returns infinity-requires returns-2)
+    tie.close (tie.spec (λ c κs. search needs) (λ c. search needs) returns (λ c κs. search needs) returns-2)

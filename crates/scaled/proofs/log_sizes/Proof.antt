@@ -5,47 +5,8 @@ use borrow.Author.Needs.{needs}
 use Rattle.scaled.proofs.log_sizes.Statement.{statement}
 use Rattle.scaled.proofs.log_sizes.Tie as tie
 
-infinity-requires : tie.Need-infinity-requires
-infinity-requires c κs = search needs
-
 returns : tie.Need-returns
 returns c = no-logs _ _ _ _ _ (c .before .if1 .taken) (c .infinity .ensures)
-
-sizes-requires : tie.Need-sizes-requires
-sizes-requires c κs = search needs
-
-log2-five-requires : tie.Need-log2-five-requires
-log2-five-requires c κs = search needs
-
-array-read-log-size : tie.Need-array-read-log-size
-array-read-log-size c = search needs
-
-log-size-requires : tie.Need-log-size-requires
-log-size-requires c κs = search needs
-
-array-read-log-size-2 : tie.Need-array-read-log-size-2
-array-read-log-size-2 c = search needs
-
-log-size-requires-2 : tie.Need-log-size-requires-2
-log-size-requires-2 c κs = search needs
-
-array-read-log-size-3 : tie.Need-array-read-log-size-3
-array-read-log-size-3 c = search needs
-
-log-size-requires-3 : tie.Need-log-size-requires-3
-log-size-requires-3 c κs = search needs
-
-array-read-log-size-4 : tie.Need-array-read-log-size-4
-array-read-log-size-4 c = search needs
-
-log-size-requires-4 : tie.Need-log-size-requires-4
-log-size-requires-4 c κs = search needs
-
-array-read-log-size-5 : tie.Need-array-read-log-size-5
-array-read-log-size-5 c = search needs
-
-log-size-requires-5 : tie.Need-log-size-requires-5
-log-size-requires-5 c κs = search needs
 
 returns-2 : tie.Need-returns-2
 returns-2 c =
@@ -63,18 +24,18 @@ pub log-sizes-spec : {M : Type 1} → statement M
 log-sizes-spec =
     tie.close
     (tie.spec
-    infinity-requires
+    (λ c κs. search needs)
     returns
-    sizes-requires
-    log2-five-requires
-    array-read-log-size
-    log-size-requires
-    array-read-log-size-2
-    log-size-requires-2
-    array-read-log-size-3
-    log-size-requires-3
-    array-read-log-size-4
-    log-size-requires-4
-    array-read-log-size-5
-    log-size-requires-5
+    (λ c κs. search needs)
+    (λ c κs. search needs)
+    (λ c. search needs)
+    (λ c κs. search needs)
+    (λ c. search needs)
+    (λ c κs. search needs)
+    (λ c. search needs)
+    (λ c κs. search needs)
+    (λ c. search needs)
+    (λ c κs. search needs)
+    (λ c. search needs)
+    (λ c κs. search needs)
     returns-2)

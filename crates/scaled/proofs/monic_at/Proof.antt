@@ -5,18 +5,6 @@ use borrow.Author.Needs.{needs}
 use Rattle.scaled.proofs.monic_at.Statement.{statement}
 use Rattle.scaled.proofs.monic_at.Tie as tie
 
-mul-result : tie.Need-mul-result
-mul-result c = search needs
-
-array-read-result : tie.Need-array-read-result
-array-read-result c = search needs
-
-mul-result-2 : tie.Need-mul-result-2
-mul-result-2 c = search needs
-
-array-read-result-2 : tie.Need-array-read-result-2
-array-read-result-2 c = search needs
-
 returns : tie.Need-returns
 unfolding monicAt
 returns c = rw (lt-ltb _ _ (c .if1 .taken))
@@ -30,13 +18,4 @@ unfolding monicAt
 returns-3 c = rw (le-ltb _ _ (c .before .if1 .left), ne-eqb _ _ (c .if2 .left))
 
 pub monic-at-spec : {M : Type 1} → statement M
-monic-at-spec =
-    tie.close
-    (tie.spec
-    mul-result
-    array-read-result
-    mul-result-2
-    array-read-result-2
-    returns
-    returns-2
-    returns-3)
+monic-at-spec = tie.close (tie.spec (λ c. search needs) (λ c. search needs) (λ c. search needs) (λ c. search needs) returns returns-2 returns-3)

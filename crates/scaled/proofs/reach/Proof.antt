@@ -6,38 +6,20 @@ use borrow.Author.Needs.{needs}
 use Rattle.scaled.proofs.reach.Statement.{statement}
 use Rattle.scaled.proofs.reach.Tie as tie
 
-normal-of-requires : tie.Need-normal-of-requires
-normal-of-requires c κs = search needs
-
 returns : tie.Need-returns
 returns c = reach-none _ _ _ _ _ (c .before .before .normal-of .ensures) (c .if1 .taken)
-
-mul-t : tie.Need-mul-t
-mul-t c = search needs
 
 add-t : tie.Need-add-t
 add-t c = omega (arith, decoded-normal _ _ _ (c .before .before .before .normal-of .ensures) (c .before .if1 .left) .reach)
 
-sub-t : tie.Need-sub-t
-sub-t c = search needs
-
-sub-result : tie.Need-sub-result
-sub-result c = search needs
-
 add-result : tie.Need-add-result
 add-result c = omega (arith, decoded-normal _ _ _ (c .before .before .before .before .before .normal-of .ensures) (c .before .before .before .if1 .left) .reach)
-
-div-result : tie.Need-div-result
-div-result c = search needs
 
 returns-2 : tie.Need-returns-2
 returns-2 c = let b = c .before .before .before in let p = b .before .before .before .pre in reach-same _ _ _ _ _ _ (b .before .before .normal-of .ensures) (b .if1 .left) (p .0) (p .1 .0) (p .1 .1 .0) (c .if2 .taken)
 
 add-result-2 : tie.Need-add-result-2
 add-result-2 c = omega (arith, decoded-normal _ _ _ (c .before .before .before .before .before .normal-of .ensures) (c .before .before .before .if1 .left) .reach)
-
-div-result-2 : tie.Need-div-result-2
-div-result-2 c = search needs
 
 returns-3 : tie.Need-returns-3
 returns-3 c = let b = c .before .before .before in let p = b .before .before .before .pre in reach-more _ _ _ _ _ _ (b .before .before .normal-of .ensures) (b .if1 .left) (p .0) (p .1 .0) (p .1 .1 .0) (c .if2 .left)
@@ -46,15 +28,15 @@ pub reach-spec : {M : Type 1} → statement M
 reach-spec =
     tie.close
     (tie.spec
-    normal-of-requires
+    (λ c κs. search needs)
     returns
-    mul-t
+    (λ c. search needs)
     add-t
-    sub-t
-    sub-result
+    (λ c. search needs)
+    (λ c. search needs)
     add-result
-    div-result
+    (λ c. search needs)
     returns-2
     add-result-2
-    div-result-2
+    (λ c. search needs)
     returns-3)

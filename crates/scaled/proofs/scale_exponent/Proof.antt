@@ -17,38 +17,14 @@ Inv-loop d a lead k₀ i₀ k i = (i ≤ d) × Best a d i k
 abbrev μ-loop : tie.MeasureT-loop
 μ-loop d a lead k₀ i₀ k i = d - i
 
-mul-normal-of : tie.Need-mul-normal-of Inv-loop μ-loop
-mul-normal-of c = search needs
-
-array-read-normal-of : tie.Need-array-read-normal-of Inv-loop μ-loop
-array-read-normal-of c = search needs
-
-normal-of-requires : tie.Need-normal-of-requires Inv-loop μ-loop
-normal-of-requires c κs = search needs
-
 returns : tie.Need-returns Inv-loop μ-loop
 returns c = exponent-irregular _ _ (decoded-irregular _ _ _ (c .before .before .normal-of .ensures) (c .if1 .taken))
 
 loop-holds : tie.Need-loop-holds Inv-loop μ-loop
 loop-holds c = (search needs, best-none _ _)
 
-mul-reach : tie.Need-mul-reach Inv-loop μ-loop
-mul-reach c = search needs
-
-array-read-reach : tie.Need-array-read-reach Inv-loop μ-loop
-array-read-reach c = search needs
-
-sub-reach : tie.Need-sub-reach Inv-loop μ-loop
-sub-reach c = search needs
-
 reach-requires : tie.Need-reach-requires Inv-loop μ-loop
 reach-requires c κs = let b = c .before .before in let n = decoded-normal _ _ _ (b .before .before .normal-of .ensures) (b .if1 .left) in ((n .led, n .short), (n .reach, (search needs, search needs)))
-
-add-i : tie.Need-add-i Inv-loop μ-loop
-add-i c = search needs
-
-loop-less : tie.Need-loop-less Inv-loop μ-loop
-loop-less c = search needs
 
 loop-again : tie.Need-loop-again Inv-loop μ-loop
 loop-again c =
@@ -81,17 +57,17 @@ scale-exponent-spec =
     (tie.spec
     Inv-loop
     μ-loop
-    mul-normal-of
-    array-read-normal-of
-    normal-of-requires
+    (λ c. search needs)
+    (λ c. search needs)
+    (λ c κs. search needs)
     returns
     loop-holds
-    mul-reach
-    array-read-reach
-    sub-reach
+    (λ c. search needs)
+    (λ c. search needs)
+    (λ c. search needs)
     reach-requires
-    add-i
-    loop-less
+    (λ c. search needs)
+    (λ c. search needs)
     loop-again
     returns-2
     cast-result

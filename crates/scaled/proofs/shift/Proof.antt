@@ -5,9 +5,6 @@ use Rattle.scaled.proofs.Signed.{product, difference}
 use Rattle.scaled.proofs.shift.Statement.{statement}
 use Rattle.scaled.proofs.shift.Tie as tie
 
-cast-result : tie.Need-cast-result
-cast-result c = search needs
-
 mul-result : tie.Need-mul-result
 mul-result c = product (c .args .e) _ (c .pre .0) (c .pre .1 .1) .fits
 
@@ -19,4 +16,4 @@ unfolding shiftOf
 returns c = difference (c .args .e) _ (c .pre .0) (c .pre .1 .1) (c .args .top) (c .pre .1 .0) .is
 
 pub shift-spec : {M : Type 1} → statement M
-shift-spec = tie.close (tie.spec cast-result mul-result sub-result returns)
+shift-spec = tie.close (tie.spec (λ c. search needs) mul-result sub-result returns)

@@ -9,12 +9,6 @@ use Rattle.scaled.proofs.Digits.{exponent-small}
 use Rattle.scaled.proofs.top_of.Statement.{statement}
 use Rattle.scaled.proofs.top_of.Tie as tie
 
-exponent-requires : tie.Need-exponent-requires
-exponent-requires c κs = search needs
-
-cast-result : tie.Need-cast-result
-cast-result c = search needs
-
 mul-result : tie.Need-mul-result
 mul-result c = product (c .before .args .e) _ (c .before .pre .0) (c .before .pre .1) .fits
 
@@ -29,4 +23,4 @@ unfolding topOf
 returns c = sum-is (c .before .args .e) _ (c .before .pre .0) (c .before .pre .1) (c .exponent .result) _ (c .exponent .ensures) (small c)
 
 pub top-of-spec : {M : Type 1} → statement M
-top-of-spec = tie.close (tie.spec exponent-requires cast-result mul-result add-result returns)
+top-of-spec = tie.close (tie.spec (λ c κs. search needs) (λ c. search needs) mul-result add-result returns)

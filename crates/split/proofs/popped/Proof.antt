@@ -20,33 +20,12 @@ abbrev μ-loop : tie.MeasureT-loop
 loop-holds : tie.Need-loop-holds Inv-loop μ-loop
 loop-holds c = (search needs, refl)
 
-mul-a : tie.Need-mul-a Inv-loop μ-loop
-mul-a c = search needs
-
-element-copy-out-a : tie.Need-element-copy-out-a Inv-loop μ-loop
-element-copy-out-a c = search needs
-
-sub-b : tie.Need-sub-b Inv-loop μ-loop
-sub-b c = search needs
-
-mul-b : tie.Need-mul-b Inv-loop μ-loop
-mul-b c = search needs
-
-element-copy-out-b : tie.Need-element-copy-out-b Inv-loop μ-loop
-element-copy-out-b c = search needs
-
 cross-requires : tie.Need-cross-requires Inv-loop μ-loop
 cross-requires c κs =
     let p = c .before .before .before .before .pre in
     let l = c .before .before in
     let t = last-two _ _ (p .0) (l .before .loop .k) (l .loop-test .taken) (l .before .loop .inv .0) in
     (t .0, (omega (arith, t .1), p .1))
-
-sub-k : tie.Need-sub-k Inv-loop μ-loop
-sub-k c = search needs
-
-loop-less : tie.Need-loop-less Inv-loop μ-loop
-loop-less c = search needs
 
 loop-again : tie.Need-loop-again Inv-loop μ-loop
 loop-again c =
@@ -68,14 +47,14 @@ popped-spec =
     Inv-loop
     μ-loop
     loop-holds
-    mul-a
-    element-copy-out-a
-    sub-b
-    mul-b
-    element-copy-out-b
+    (λ c. search needs)
+    (λ c. search needs)
+    (λ c. search needs)
+    (λ c. search needs)
+    (λ c. search needs)
     cross-requires
-    sub-k
-    loop-less
+    (λ c. search needs)
+    (λ c. search needs)
     loop-again
     returns
     returns-2)

@@ -20,35 +20,8 @@ loop-holds : tie.Need-loop-holds Inv-loop μ-loop
 unfolding hullOf
 loop-holds c = (search needs, none-rising, simp sub-zero)
 
-add-loop : tie.Need-add-loop Inv-loop μ-loop
-add-loop c = search needs
-
-mul-is-finite : tie.Need-mul-is-finite Inv-loop μ-loop
-mul-is-finite c = search needs
-
-array-read-is-finite : tie.Need-array-read-is-finite Inv-loop μ-loop
-array-read-is-finite c = search needs
-
-is-finite-requires : tie.Need-is-finite-requires Inv-loop μ-loop
-is-finite-requires c κs = search needs
-
 popped-requires : tie.Need-popped-requires Inv-loop μ-loop
 popped-requires c κs = (c .before .before .before .before .before .loop .inv .1, search needs)
-
-mul-at : tie.Need-mul-at Inv-loop μ-loop
-mul-at c = search needs
-
-array-write-at : tie.Need-array-write-at Inv-loop μ-loop
-array-write-at c = search needs
-
-add-h : tie.Need-add-h Inv-loop μ-loop
-add-h c = search needs
-
-add-i : tie.Need-add-i Inv-loop μ-loop
-add-i c = search needs
-
-loop-less : tie.Need-loop-less Inv-loop μ-loop
-loop-less c = search needs
 
 loop-again : tie.Need-loop-again Inv-loop μ-loop
 loop-again c =
@@ -70,15 +43,15 @@ upper-hull-spec =
     Inv-loop
     μ-loop
     loop-holds
-    add-loop
-    mul-is-finite
-    array-read-is-finite
-    is-finite-requires
+    (λ c. search needs)
+    (λ c. search needs)
+    (λ c. search needs)
+    (λ c κs. search needs)
     popped-requires
-    mul-at
-    array-write-at
-    add-h
-    add-i
-    loop-less
+    (λ c. search needs)
+    (λ c. search needs)
+    (λ c. search needs)
+    (λ c. search needs)
+    (λ c. search needs)
     loop-again
     returns)

@@ -11,9 +11,6 @@ use Rattle.split.proofs.width.Tie as tie
 at : (k : ℕ) {n : ℕ} {x : Float} → x ≡ ofInt binary64 (pos k) → n ≡ k → x ≡ ofInt binary64 (pos n)
 at k p e = p ∙ ap (λ (i : ℕ). ofInt binary64 (pos i)) (sym e)
 
-sub-match : tie.Need-sub-match
-sub-match c = search needs
-
 returns : tie.Need-returns
 unfolding ofBits ofInt
 returns c = at 0 refl (c .match .keys1)
@@ -38,4 +35,4 @@ returns-5 c =
     at 4 refl e
 
 pub width-spec : {M : Type 1} → statement M
-width-spec = tie.close (tie.spec sub-match returns returns-2 returns-3 returns-4 returns-5)
+width-spec = tie.close (tie.spec (λ c. search needs) returns returns-2 returns-3 returns-4 returns-5)

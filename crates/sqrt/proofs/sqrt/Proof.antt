@@ -14,9 +14,6 @@ returns : tie.Need-returns
 unfolding ofBits div
 returns c = sym (root-negative _ (c .if1 .taken))
 
-normal-of-requires : tie.Need-normal-of-requires
-normal-of-requires c κs = search needs
-
 returns-2 : tie.Need-returns-2
 unfolding ofBits
 returns-2 c = sym (root-special _ (c .before .before .before .if1 .left) (decoded-irregular _ _ _ (c .before .before .normal-of .ensures) (c .if2 .taken)))
@@ -49,4 +46,4 @@ returns-3 c =
 pub sqrt-spec : {M : Type 1} → statement M
 sqrt-spec =
     tie.close
-    (tie.spec returns normal-of-requires returns-2 nearest-root-requires add-from-units from-units-requires returns-3)
+    (tie.spec returns (λ c κs. search needs) returns-2 nearest-root-requires add-from-units from-units-requires returns-3)

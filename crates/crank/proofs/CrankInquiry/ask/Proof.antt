@@ -4,12 +4,9 @@ use borrow.Author.Needs.{needs}
 use Rattle.crank.proofs.CrankInquiry.ask.Statement.{statement}
 use Rattle.crank.proofs.CrankInquiry.ask.Tie as tie
 
-ask-requires : tie.Need-ask-requires
-ask-requires c κs = search needs
-
 returns : tie.Need-returns
 unfolding crankAskedOf
 returns c = rw (c .before .ask .ensures)
 
 pub ask-spec : {M : Type 1} → statement M
-ask-spec = tie.close (tie.spec ask-requires returns)
+ask-spec = tie.close (tie.spec (λ c κs. search needs) returns)

@@ -4,12 +4,9 @@ use borrow.Author.Needs.{needs}
 use Rattle.crank.proofs.CrankInquiry.reply.Statement.{statement}
 use Rattle.crank.proofs.CrankInquiry.reply.Tie as tie
 
-reply-requires : tie.Need-reply-requires
-reply-requires c κs = search needs
-
 returns : tie.Need-returns
 unfolding crankRepliedOf
 returns c = rw (c .before .reply .ensures)
 
 pub reply-spec : {M : Type 1} → statement M
-reply-spec = tie.close (tie.spec reply-requires returns)
+reply-spec = tie.close (tie.spec (λ c κs. search needs) returns)

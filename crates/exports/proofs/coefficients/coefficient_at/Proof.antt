@@ -7,12 +7,6 @@ use Rattle.exports.proofs.Reading.{read-at, read-none}
 use Rattle.exports.proofs.coefficients.coefficient_at.Statement.{statement}
 use Rattle.exports.proofs.coefficients.coefficient_at.Tie as tie
 
-mul-f64-at : tie.Need-mul-f64-at
-mul-f64-at c = search needs
-
-f64-at-requires : tie.Need-f64-at-requires
-f64-at-requires c κs = search needs
-
 returns : tie.Need-returns
 returns c = c .f64-at .ensures ∙ read-at _ _ zero64 (c .before .if1 .taken)
 
@@ -20,4 +14,4 @@ returns-2 : tie.Need-returns-2
 returns-2 c = read-none (c .before .before .args .s .now) (c .before .before .args .i) (c .if1 .left)
 
 pub coefficient-at-spec : {M : Type 1} → statement M
-coefficient-at-spec = tie.close (tie.spec mul-f64-at f64-at-requires returns returns-2)
+coefficient-at-spec = tie.close (tie.spec (λ c. search needs) (λ c κs. search needs) returns returns-2)

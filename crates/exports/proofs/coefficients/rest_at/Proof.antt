@@ -28,9 +28,6 @@ mul-f64-at c = omega arith
 f64-at-requires : tie.Need-f64-at-requires Inv-loop μ-loop
 f64-at-requires c κs = omega arith
 
-rest-with-requires : tie.Need-rest-with-requires Inv-loop μ-loop
-rest-with-requires c κs = search needs
-
 add-i : tie.Need-add-i Inv-loop μ-loop
 add-i c = omega arith
 
@@ -47,16 +44,4 @@ returns : tie.Need-returns Inv-loop μ-loop
 returns c = let s = c .before .before .before .args .s .now in sym (rest-end s (c .before .loop .i) (c .before .loop .rest) (omega arith)) ∙ c .before .loop .inv
 
 pub rest-at-spec : {M : Type 1} → statement M
-rest-at-spec =
-    tie.close
-    (tie.spec
-    Inv-loop
-    μ-loop
-    loop-holds
-    mul-f64-at
-    f64-at-requires
-    rest-with-requires
-    add-i
-    loop-less
-    loop-again
-    returns)
+rest-at-spec = tie.close (tie.spec Inv-loop μ-loop loop-holds mul-f64-at f64-at-requires (λ c κs. search needs) add-i loop-less loop-again returns)

@@ -6,9 +6,6 @@ use Rattle.poly.specs.Short.{restWith}
 use Rattle.exports.proofs.coefficients.rest_with.Statement.{statement}
 use Rattle.exports.proofs.coefficients.rest_with.Tie as tie
 
-is-finite-requires : tie.Need-is-finite-requires
-is-finite-requires c κs = search needs
-
 returns : tie.Need-returns
 unfolding restWith
 returns c = simp (sym (c .before .before .is-finite .ensures) ∙ c .before .if1 .taken, c .if2 .taken)
@@ -22,4 +19,4 @@ unfolding restWith
 returns-3 c = simp (sym (c .before .is-finite .ensures) ∙ c .if1 .left)
 
 pub rest-with-spec : {M : Type 1} → statement M
-rest-with-spec = tie.close (tie.spec is-finite-requires returns returns-2 returns-3)
+rest-with-spec = tie.close (tie.spec (λ c κs. search needs) returns returns-2 returns-3)

@@ -8,9 +8,6 @@ use borrow.Author.Needs.{needs}
 use Rattle.inquiry.proofs.Inquiry.ask.Statement.{statement}
 use Rattle.inquiry.proofs.Inquiry.ask.Tie as tie
 
-is-sound-requires : tie.Need-is-sound-requires
-is-sound-requires c κs = search needs
-
 walk-all-requires : tie.Need-walk-all-requires
 walk-all-requires c κs =
     let at = c .before .before .before .before in
@@ -26,9 +23,6 @@ returns c =
     let at = c .before .before .before .before .before in
     if-taken _ _ (sym (at .before .is-sound .ensures) ∙ at .if1 .taken) (c .walk-all .ensures)
 
-nothing-requires : tie.Need-nothing-requires
-nothing-requires c κs = search needs
-
 returns-2 : tie.Need-returns-2
 unfolding askedOf
 returns-2 c = if-left _ _ (sym (c .before .before .is-sound .ensures) ∙ c .before .if1 .left) (c .nothing .ensures)
@@ -36,4 +30,4 @@ returns-2 c = if-left _ _ (sym (c .before .before .is-sound .ensures) ∙ c .bef
 pub ask-spec : {M : Type 1} → statement M
 ask-spec =
     tie.close
-    (tie.spec is-sound-requires walk-all-requires returns nothing-requires returns-2)
+    (tie.spec (λ c κs. search needs) walk-all-requires returns (λ c κs. search needs) returns-2)

@@ -9,9 +9,6 @@ use borrow.Author.Needs.{needs}
 use Rattle.inquiry.proofs.Inquiry.is_sound.Statement.{statement}
 use Rattle.inquiry.proofs.Inquiry.is_sound.Tie as tie
 
-sizes-fit-requires : tie.Need-sizes-fit-requires
-sizes-fit-requires c κs = search needs
-
 mul-counted-in : tie.Need-mul-counted-in
 mul-counted-in c = let few = c .before .before .sizes-fit .ensures .1 (c .before .if1 .taken) in record { fits = omega (arith, few .1) }
 
@@ -34,4 +31,4 @@ returns-2 c = sym (first-fails _ _ (sym (c .before .sizes-fit .ensures .0) ∙ c
 pub is-sound-spec : {M : Type 1} → statement M
 is-sound-spec =
     tie.close
-    (tie.spec sizes-fit-requires mul-counted-in sub-counted-in counted-in-requires returns returns-2)
+    (tie.spec (λ c κs. search needs) mul-counted-in sub-counted-in counted-in-requires returns returns-2)

@@ -8,9 +8,6 @@ use borrow.Author.Needs.{needs}
 use Rattle.inquiry.proofs.Inquiry.reply.Statement.{statement}
 use Rattle.inquiry.proofs.Inquiry.reply.Tie as tie
 
-ask-requires : tie.Need-ask-requires
-ask-requires c κs = search needs
-
 with-requires : tie.Need-with-requires
 with-requires c κs =
     let s = c .before .before .before in
@@ -31,4 +28,4 @@ returns-2 : tie.Need-returns-2
 returns-2 c = reply-refused (c .before .before .args .self) _ (ap (λ (a : Asked). a .asking) (sym (c .before .ask .ensures)) ∙ c .if1 .left)
 
 pub reply-spec : {M : Type 1} → statement M
-reply-spec = tie.close (tie.spec ask-requires with-requires returns returns-2)
+reply-spec = tie.close (tie.spec (λ c κs. search needs) with-requires returns returns-2)

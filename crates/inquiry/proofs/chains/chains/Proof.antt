@@ -20,30 +20,12 @@ Inv-loop poly tol replies used its w₀ k₀ w k = (k ≤ its .len) × (poly .d 
 abbrev μ-loop : tie.MeasureT-loop
 μ-loop poly tol replies used its w₀ k₀ w k = its .len - k
 
-no-chain-requires : tie.Need-no-chain-requires Inv-loop μ-loop
-no-chain-requires c κs = search needs
-
-none-requires : tie.Need-none-requires Inv-loop μ-loop
-none-requires c κs = search needs
-
 loop-holds : tie.Need-loop-holds Inv-loop μ-loop
 unfolding onward
 loop-holds c = let pre = c .before .before .pre in rw (c .none .ensures, c .before .no-chain .ensures) (search needs, pre .0, pre .1, pre .2, (refl, search needs), search needs, omega (arith, pre .3), search needs, refl)
 
-mul-it : tie.Need-mul-it Inv-loop μ-loop
-mul-it c = search needs
-
-element-copy-out-it : tie.Need-element-copy-out-it Inv-loop μ-loop
-element-copy-out-it c = search needs
-
 item-turn-requires : tie.Need-item-turn-requires Inv-loop μ-loop
 item-turn-requires c κs = let at = c .before .before in let inv = at .loop .inv in let more = c .before .loop-test .taken in let sum = sum-turn (at .before .before .before .args .t4) (at .loop .k) (inv .3) more in (inv .1, inv .2, (inv .4, omega (arith, inv .5, inv .3 .1, more), omega (arith, inv .6, sum), omega (arith, inv .7, inv .0, inv .3 .1, more)))
-
-add-k : tie.Need-add-k Inv-loop μ-loop
-add-k c = search needs
-
-loop-less : tie.Need-loop-less Inv-loop μ-loop
-loop-less c = search needs
 
 loop-again : tie.Need-loop-again Inv-loop μ-loop
 loop-again c = let at = c .before .before .before in let s = at .before .before .before in let its = s .args .t4 in let inv = at .loop .inv in let more = c .before .before .loop-test .taken in let sum = sum-turn its (at .loop .k) (inv .3) more in let adds = c .item-turn .ensures .1 in (search needs, inv .1, inv .2, inv .3, adds .0, omega (arith, inv .5, adds .1), omega (arith, inv .6, sum, adds .2), omega (arith, inv .7, adds .3), chains-turn (itemTurn (s .args .poly) (s .args .tol)) its (at .loop .k) (inv .3) (linksAt (s .args .replies) (at .loop .w)) (linksAt (s .args .replies) (c .item-turn .result)) more (c .item-turn .ensures .0) ∙ inv .8)
@@ -57,13 +39,13 @@ chains-spec =
     (tie.spec
     Inv-loop
     μ-loop
-    no-chain-requires
-    none-requires
+    (λ c κs. search needs)
+    (λ c κs. search needs)
     loop-holds
-    mul-it
-    element-copy-out-it
+    (λ c. search needs)
+    (λ c. search needs)
     item-turn-requires
-    add-k
-    loop-less
+    (λ c. search needs)
+    (λ c. search needs)
     loop-again
     returns)

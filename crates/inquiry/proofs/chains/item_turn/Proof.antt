@@ -15,32 +15,14 @@ returns c = (stays _ _ _ _ _ (c .if1 .taken), (c .before .pre .2 .0, omega arith
 emit-requires : tie.Need-emit-requires
 emit-requires c κs = let room = c .before .before .before .before .before .before .pre .2 in (room .0, omega (arith, room .1))
 
-no-chain-requires : tie.Need-no-chain-requires
-no-chain-requires c κs = search needs
-
 returns-2 : tie.Need-returns-2
 returns-2 c = let s = c .before .before .before .before .before .before .before .before in let fits : SFits w32 (s .args .poly .e) = (let h = s .good .0 .1 .1 .1 .1 .1 .1 .0 in search needs) in let fit = toZ-ofZ fits in let out = rw fit at (c .before .emit .ensures) in rw (c .no-chain .ensures) (item-separator (s .args .poly) _ _ _ (s .args .w .chain) _ _ (c .before .before .before .if2 .taken) (out .0) ∙ at-end _ _ _ _ _ (c .before .before .before .before .before .before .before .if1 .left), (out .1, omega (arith, out .2), omega arith, omega arith))
-
-opened-requires : tie.Need-opened-requires
-opened-requires c κs = search needs
 
 returns-3 : tie.Need-returns-3
 returns-3 c = let s = c .before .before .before .before .before .before .before .before in let it = s .args .it in rw (c .opened .ensures) (item-first _ _ _ _ _ _ (c .before .before .before .if2 .left) (c .before .if3 .taken) ∙ at-end _ _ _ _ _ (c .before .before .before .before .before .before .before .if1 .left), (s .pre .2 .0, omega arith, omega arith, omega (arith, double-most (it .multiplicity))))
 
-extremum-requires : tie.Need-extremum-requires
-extremum-requires c κs = search needs
-
-enum-known-found : tie.Need-enum-known-found
-enum-known-found c = search needs
-
-link-at-requires : tie.Need-link-at-requires
-link-at-requires c κs = search needs
-
 enum-told : tie.Need-enum-told
 enum-told c = search needs
-
-part-requires : tie.Need-part-requires
-part-requires c κs = search needs
 
 returns-4 : tie.Need-returns-4
 returns-4 c = let s = c .before .before .before .before .before .before .before .before .before .before .before .before .before .before .before in let fits : SFits w32 (s .args .poly .e) = (let h = s .good .0 .1 .1 .1 .1 .1 .1 .0 in search needs) in let fit = toZ-ofZ fits in let at = c .before .before .before .before .before in ((rw fit at (c .link-at .ensures .0)) ∙ item-link (s .args .poly) _ _ _ _ _ _ (at .before .before .before .before .before .if2 .left) (at .before .before .before .if3 .left) (sym (c .before .before .before .found .given .1) ∙ at .extremum .ensures) ∙ at-end _ _ _ _ _ (c .before .before .before .before .before .before .before .before .before .before .before .before .before .before .if1 .left), c .link-at .ensures .1)
@@ -54,14 +36,14 @@ item-turn-spec =
     (tie.spec
     returns
     emit-requires
-    no-chain-requires
+    (λ c κs. search needs)
     returns-2
-    opened-requires
+    (λ c κs. search needs)
     returns-3
-    extremum-requires
-    enum-known-found
-    link-at-requires
+    (λ c κs. search needs)
+    (λ c. search needs)
+    (λ c κs. search needs)
     enum-told
-    part-requires
+    (λ c κs. search needs)
     returns-4
     returns-5)

@@ -7,29 +7,14 @@ use borrow.Author.Needs.{needs}
 use Rattle.inquiry.proofs.chains.link_at.Statement.{statement}
 use Rattle.inquiry.proofs.chains.link_at.Tie as tie
 
-between-requires : tie.Need-between-requires
-between-requires c κs = search needs
-
-touches-at-requires : tie.Need-touches-at-requires
-touches-at-requires c κs = search needs
-
 returns : tie.Need-returns
 returns c = let s = c .before .before .before .before .before .before in let fit = toZ-ofZ (s .fits .e) in (link-asks (s .args .e) _ _ _ _ _ _ _ _ _ (sym (c .before .before .before .before .between .ensures) ∙ c .before .before .before .if1 .taken) (rw fit at (c .before .before .touches-at .ensures)) (c .before .if2 .taken), (s .pre .1 .0, omega arith, omega arith, omega arith))
-
-extended-requires : tie.Need-extended-requires
-extended-requires c κs = search needs
 
 returns-2 : tie.Need-returns-2
 returns-2 c = let s = c .before .before .before .before .before .before .before .before in let fit = toZ-ofZ (s .fits .e) in let it = s .args .it in rw (c .extended .ensures) (link-yes (s .args .e) _ _ (s .args .w .chain) _ _ _ _ _ _ (sym (c .before .before .before .before .before .before .between .ensures) ∙ c .before .before .before .before .before .if1 .taken) (rw fit at (c .before .before .before .before .touches-at .ensures)) (c .before .before .before .if2 .left) (c .before .before .if3 .taken), (s .pre .1 .0, omega arith, omega arith, omega (arith, double-most (it .multiplicity))))
 
-part-requires : tie.Need-part-requires
-part-requires c κs = search needs
-
 returns-3 : tie.Need-returns-3
 returns-3 c = let s = c .before .before .before .before .before .before .before in let fit = toZ-ofZ (s .fits .e) in ((rw fit at (c .part .ensures .0)) (s .args .replies) ∙ link-no (s .args .e) _ _ _ _ _ _ _ _ _ (sym (c .before .before .before .before .before .between .ensures) ∙ c .before .before .before .before .if1 .taken) (rw fit at (c .before .before .before .touches-at .ensures)) (c .before .before .if2 .left) (c .before .if3 .left), c .part .ensures .1)
-
-part-requires-2 : tie.Need-part-requires-2
-part-requires-2 c κs = search needs
 
 returns-4 : tie.Need-returns-4
 returns-4 c = let s = c .before .before .before .before in let fit = toZ-ofZ (s .fits .e) in ((rw fit at (c .part2 .ensures .0)) (s .args .replies) ∙ link-outside (s .args .e) _ _ _ _ _ (sym (c .before .before .between .ensures) ∙ c .before .if1 .left), c .part2 .ensures .1)
@@ -38,12 +23,12 @@ pub link-at-spec : {M : Type 1} → statement M
 link-at-spec =
     tie.close
     (tie.spec
-    between-requires
-    touches-at-requires
+    (λ c κs. search needs)
+    (λ c κs. search needs)
     returns
-    extended-requires
+    (λ c κs. search needs)
     returns-2
-    part-requires
+    (λ c κs. search needs)
     returns-3
-    part-requires-2
+    (λ c κs. search needs)
     returns-4)

@@ -3,11 +3,8 @@ use borrow.Author.Needs.{needs}
 use Rattle.inquiry.proofs.chains.opened.Statement.{statement}
 use Rattle.inquiry.proofs.chains.opened.Tie as tie
 
-double-requires : tie.Need-double-requires
-double-requires c κs = search needs
-
 returns : tie.Need-returns
 returns c = rw (c .double .ensures .0)
 
 pub opened-spec : {M : Type 1} → statement M
-opened-spec = tie.close (tie.spec double-requires returns)
+opened-spec = tie.close (tie.spec (λ c κs. search needs) returns)

@@ -9,23 +9,8 @@ use borrow.Author.Needs.{needs}
 use Rattle.inquiry.proofs.items.pair_at.Statement.{statement}
 use Rattle.inquiry.proofs.items.pair_at.Tie as tie
 
-abs-requires : tie.Need-abs-requires
-abs-requires c κs = search needs
-
-all-apart-requires : tie.Need-all-apart-requires
-all-apart-requires c κs = search needs
-
-touches-at-requires : tie.Need-touches-at-requires
-touches-at-requires c κs = search needs
-
 returns : tie.Need-returns
 returns c = let at = c .before .before .before .before in let s = at .before .before .before .before in let fits : SFits w32 (s .args .poly .e) = (let h = s .good .0 .1 .1 .1 .1 .1 .1 .0 in search needs) in let fit = toZ-ofZ fits in let far = sym (rw (at .before .before .abs .ensures) at (at .all-apart .ensures)) ∙ c .before .before .before .if1 .taken in (at-question _ _ _ _ _ (c .if2 .taken) ∙ pair-far (s .args .poly) (s .args .tol) _ _ _ _ far (rw fit at (c .before .touches-at .ensures)), (s .pre .1, omega arith, omega arith))
-
-double-if-requires : tie.Need-double-if-requires
-double-if-requires c κs = search needs
-
-push-requires : tie.Need-push-requires
-push-requires c κs = search needs
 
 returns-2 : tie.Need-returns-2
 returns-2 c = let at = c .before .before .before .before .before .before in let s = at .before .before .before .before in let fits : SFits w32 (s .args .poly .e) = (let h = s .good .0 .1 .1 .1 .1 .1 .1 .0 in search needs) in let fit = toZ-ofZ fits in let far = sym (rw (at .before .before .abs .ensures) at (at .all-apart .ensures)) ∙ c .before .before .before .before .before .if1 .taken in pair-added (s .args .poly) (s .args .tol) (s .args .w .items) _ _ _ _ _ _ _ _ (s .pre .1) (s .pre .2) (c .push .ensures) (c .before .double-if .ensures) (c .before .before .if2 .left) far (rw fit at (c .before .before .before .touches-at .ensures))
@@ -37,11 +22,11 @@ pub pair-at-spec : {M : Type 1} → statement M
 pair-at-spec =
     tie.close
     (tie.spec
-    abs-requires
-    all-apart-requires
-    touches-at-requires
+    (λ c κs. search needs)
+    (λ c κs. search needs)
+    (λ c κs. search needs)
     returns
-    double-if-requires
-    push-requires
+    (λ c κs. search needs)
+    (λ c κs. search needs)
     returns-2
     returns-3)

@@ -9,18 +9,6 @@ use Rattle.inquiry.proofs.items.pair_turn.Tie as tie
 returns : tie.Need-returns
 returns c = (stays _ _ _ _ _ (c .if1 .taken), (c .before .pre .2, omega arith, omega arith))
 
-reach-requires : tie.Need-reach-requires
-reach-requires c κs = search needs
-
-extremum-requires : tie.Need-extremum-requires
-extremum-requires c κs = search needs
-
-enum-known-found : tie.Need-enum-known-found
-enum-known-found c = search needs
-
-pair-at-requires : tie.Need-pair-at-requires
-pair-at-requires c κs = search needs
-
 enum-told : tie.Need-enum-told
 enum-told c = search needs
 
@@ -31,14 +19,4 @@ returns-3 : tie.Need-returns-3
 returns-3 c = let at = c .before .before in let s = at .before .before .before .before in let off = at .before .before .before .if1 .left in (is-ended _ _ _ _ off ∙ pair-nowhere (s .args .poly) (s .args .tol) _ _ ∙ pair-step (s .args .poly) (s .args .tol) _ _ _ _ _ (at .before .reach .ensures) (sym (c .enum-told .given .1) ∙ at .extremum .ensures) ∙ at-end _ _ _ _ _ off, (s .pre .2, omega arith, omega arith))
 
 pub pair-turn-spec : {M : Type 1} → statement M
-pair-turn-spec =
-    tie.close
-    (tie.spec
-    returns
-    reach-requires
-    extremum-requires
-    enum-known-found
-    pair-at-requires
-    enum-told
-    returns-2
-    returns-3)
+pair-turn-spec = tie.close (tie.spec returns (λ c κs. search needs) (λ c κs. search needs) (λ c. search needs) (λ c κs. search needs) enum-told returns-2 returns-3)

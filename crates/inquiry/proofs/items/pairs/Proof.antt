@@ -15,9 +15,6 @@ returns c =
     let a = s .args in
     (order-none (pairTurn (a .poly) (a .tol)) (listOf (a .items)) (repliesOf (a .replies)) (pairListOf (a .t5)) (pairs-none (a .t5) (c .if1 .taken)), s .pre .2, omega (arith, s .pre .5))
 
-element-copy-out-p : tie.Need-element-copy-out-p
-element-copy-out-p c = search needs
-
 pair-turn-requires : tie.Need-pair-turn-requires
 pair-turn-requires c κs = let pre = c .before .before .before .pre in (pre .0, pre .1, pre .2, omega (arith, pre .4, c .before .before .if1 .left))
 
@@ -30,9 +27,6 @@ returns-2 c =
       turn .1 .0,
       omega (arith, turn .1 .2, s .pre .5, c .before .if2 .taken),
     )
-
-element-copy-out-q : tie.Need-element-copy-out-q
-element-copy-out-q c = search needs
 
 pair-turn-requires-2 : tie.Need-pair-turn-requires-2
 pair-turn-requires-2 c κs = let pre = c .before .before .before .before .before .before .before .pre in (pre .0, pre .1, pre .2, omega (arith, pre .4, c .before .before .before .before .before .before .if1 .left))
@@ -83,10 +77,10 @@ pairs-spec =
     tie.close
     (tie.spec
     returns
-    element-copy-out-p
+    (λ c. search needs)
     pair-turn-requires
     returns-2
-    element-copy-out-q
+    (λ c. search needs)
     pair-turn-requires-2
     pair-turn-requires-3
     returns-3

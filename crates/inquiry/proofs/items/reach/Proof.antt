@@ -19,24 +19,6 @@ abbrev μ-loop : tie.MeasureT-loop
 loop-holds : tie.Need-loop-holds Inv-loop μ-loop
 loop-holds c = (search needs, c .pre, refl)
 
-mul-it : tie.Need-mul-it Inv-loop μ-loop
-mul-it c = search needs
-
-element-copy-out-it : tie.Need-element-copy-out-it Inv-loop μ-loop
-element-copy-out-it c = search needs
-
-abs-requires : tie.Need-abs-requires Inv-loop μ-loop
-abs-requires c κs = search needs
-
-min-requires : tie.Need-min-requires Inv-loop μ-loop
-min-requires c κs = search needs
-
-add-k : tie.Need-add-k Inv-loop μ-loop
-add-k c = search needs
-
-loop-less : tie.Need-loop-less Inv-loop μ-loop
-loop-less c = search needs
-
 loop-again : tie.Need-loop-again Inv-loop μ-loop
 loop-again c = let at = c .before .before .before .before .before in (search needs, at .loop .inv .1, rw (c .min .ensures, c .before .abs .ensures) (sym (reach-turn (at .before .args .t1) (at .loop .k) (at .loop .inv .1) _ _ (search needs)) ∙ at .loop .inv .2))
 
@@ -50,11 +32,11 @@ reach-spec =
     Inv-loop
     μ-loop
     loop-holds
-    mul-it
-    element-copy-out-it
-    abs-requires
-    min-requires
-    add-k
-    loop-less
+    (λ c. search needs)
+    (λ c. search needs)
+    (λ c κs. search needs)
+    (λ c κs. search needs)
+    (λ c. search needs)
+    (λ c. search needs)
     loop-again
     returns)

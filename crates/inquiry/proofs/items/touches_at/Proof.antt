@@ -7,18 +7,6 @@ use Rattle.inquiry.proofs.Steps.{touch-none, touch-reply, touch-ask}
 use Rattle.inquiry.proofs.items.touches_at.Statement.{statement}
 use Rattle.inquiry.proofs.items.touches_at.Tie as tie
 
-ldexp-requires : tie.Need-ldexp-requires
-ldexp-requires c κs = search needs
-
-is-finite-requires : tie.Need-is-finite-requires
-is-finite-requires c κs = search needs
-
-element-copy-out-yes : tie.Need-element-copy-out-yes
-element-copy-out-yes c = search needs
-
-add-t14 : tie.Need-add-t14
-add-t14 c = search needs
-
 returns : tie.Need-returns
 returns c = let at = c .before .before .before in let s = at .before .before in touch-reply (s .args .e) _ _ _ _ _ (rw (toZ-ofZ (s .fits .e)) at (at .before .ldexp .ensures)) (sym (at .is-finite .ensures) ∙ c .before .before .if1 .taken) (reply-cons (s .args .t2) (s .args .used) (s .pre) (c .before .if2 .taken))
 
@@ -29,13 +17,4 @@ returns-3 : tie.Need-returns-3
 returns-3 c = let s = c .before .before .before in touch-none (s .args .e) _ _ _ (rw (toZ-ofZ (s .fits .e)) at (c .before .before .ldexp .ensures)) (sym (c .before .is-finite .ensures) ∙ c .if1 .left)
 
 pub touches-at-spec : {M : Type 1} → statement M
-touches-at-spec =
-    tie.close
-    (tie.spec
-    ldexp-requires
-    is-finite-requires
-    element-copy-out-yes
-    add-t14
-    returns
-    returns-2
-    returns-3)
+touches-at-spec = tie.close (tie.spec (λ c κs. search needs) (λ c κs. search needs) (λ c. search needs) (λ c. search needs) returns returns-2 returns-3)

@@ -25,32 +25,17 @@ same z {n} f h = subst (λ (y : ℤ). natAbs y ≤ n) (sym (read z f)) h
 small : (e : ℤ) (a : List Float) (d : ℕ) → mag e < 2 ^ 31 → e ≡ scaleExponentOf a d → natAbs (toZ w32 (ofZ w32 e)) ≤ 2 ^ 13
 small e a d f h = same e f (bounded e a d h)
 
-scale-exponent-requires : tie.Need-scale-exponent-requires
-scale-exponent-requires c κs = search needs
-
-mul-top-of : tie.Need-mul-top-of
-mul-top-of c = search needs
-
-array-read-top-of : tie.Need-array-read-top-of
-array-read-top-of c = search needs
-
 top-of-requires : tie.Need-top-of-requires
 top-of-requires c κs = (small (c .scale-exponent .result) _ _ (c .scale-exponent .ok) (c .scale-exponent .ensures), search needs)
 
 coefficients-requires : tie.Need-coefficients-requires
 coefficients-requires c κs = (search needs, (small (c .before .scale-exponent .result) _ _ (c .before .scale-exponent .ok) (c .before .scale-exponent .ensures), same (c .top-of .result) (c .top-of .ok) (c .top-of .ensures .1)))
 
-monic-requires : tie.Need-monic-requires
-monic-requires c κs = search needs
-
 log-sizes-requires : tie.Need-log-sizes-requires
 log-sizes-requires c κs = let b = c .before .before in (search needs, (small (b .before .scale-exponent .result) _ _ (b .before .scale-exponent .ok) (b .before .scale-exponent .ensures), same (b .top-of .result) (b .top-of .ok) (b .top-of .ensures .1)))
 
 sub-ldexp : tie.Need-sub-ldexp
 sub-ldexp c = let s = c .before .before .before .before .scale-exponent in negated (s .result) (bounded (s .result) _ _ (s .ensures)) .fits
-
-ldexp-requires : tie.Need-ldexp-requires
-ldexp-requires c κs = search needs
 
 returns : tie.Need-returns
 returns c =
@@ -64,13 +49,13 @@ pub new-spec : {M : Type 1} → statement M
 new-spec =
     tie.close
     (tie.spec
-    scale-exponent-requires
-    mul-top-of
-    array-read-top-of
+    (λ c κs. search needs)
+    (λ c. search needs)
+    (λ c. search needs)
     top-of-requires
     coefficients-requires
-    monic-requires
+    (λ c κs. search needs)
     log-sizes-requires
     sub-ldexp
-    ldexp-requires
+    (λ c κs. search needs)
     returns)
