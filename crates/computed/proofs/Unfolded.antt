@@ -27,8 +27,8 @@ use Rattle.scaled.specs.Scaled.{topOf, shiftOf, coefficientOf, coefficientsOf, 
 use Rattle.split.specs.Hull.{crossOf, poppedOf, hullStep, hullOf, magOf}
 use Rattle.split.specs.Gap.{exp2Of, splitFrom, magnitudeSplitOf}
 use Rattle.factors.specs.Factors.{pushLinOf, pushQuadOf}
-use Rattle.factors.specs.Large.{quadUnitsOf, factorUnitsOf, endsOf, withUnit, largeFrom, largeOf}
-use Rattle.factors.specs.Quotient.{termOf, nextAt, mulOf, productOf, accOf, quotientOf, usableOf, mergedOf}
+use Rattle.large.specs.Large.{quadUnitsOf, factorUnitsOf, endsOf, withUnit, largeFrom, largeOf}
+use Rattle.quotient.specs.Quotient.{termOf, nextAt, mulOf, productOf, accOf, quotientOf, usableOf, mergedOf}
 use Rattle.factorize.specs.Factorize.{pairedOf, quarticFactorsOf, outOf, secondOf, factorsFrom, factorizeOf}
 use Rattle.roots.specs.Roots.{held, kept, paired}
 use Rattle.band.specs.Band.{magnitudeStep, magnitudeOf, budgetOf, baseOf, withinBandOf}

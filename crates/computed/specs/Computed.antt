@@ -19,8 +19,8 @@ use Rattle.scaled.specs.Scaled.{scaledOf}
 use Rattle.split.specs.Hull.{hullAt, hullOf}
 use Rattle.split.specs.Gap.{magnitudeSplitOf}
 use Rattle.factors.specs.Factors.{quadOf}
-use Rattle.factors.specs.Large.{largeOf}
-use Rattle.factors.specs.Quotient.{productOf, usableOf, mergedOf}
+use Rattle.large.specs.Large.{largeOf}
+use Rattle.quotient.specs.Quotient.{productOf, usableOf, mergedOf}
 use Rattle.factorize.specs.Factorize.{pairedOf, outOf, factorizeOf}
 use Rattle.roots.specs.Roots.{root, kept, pair, paired}
 use Rattle.band.specs.Band.{withinBandOf, bare}

@@ -19,9 +19,9 @@ use Rattle.split.specs.Gap.{magnitudeSplitOf}
 use Rattle.split.proofs.Gaps.{split-inside}
 use Rattle.factors.specs.declared.Factors.{Factors}
 use Rattle.factors.specs.Factors.{pushLinOf, pushQuadOf, degreeOf}
-use Rattle.factors.specs.Large.{largeOf}
-use Rattle.factors.specs.Quotient.{productOf, quotientOf, usableOf, mergedOf}
-use Rattle.factors.proofs.Counts.{merged-degree}
+use Rattle.large.specs.Large.{largeOf}
+use Rattle.quotient.specs.Quotient.{productOf, quotientOf, usableOf, mergedOf}
+use Rattle.quotient.proofs.Counts.{merged-degree}
 use Rattle.factorize.specs.Factorize.{cubicFactorsOf, pairedOf, quarticFactorsOf, outOf, Second, secondOf, factorsFrom}
 
 -- ---- at one scale

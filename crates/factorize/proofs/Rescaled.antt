@@ -18,11 +18,11 @@ use Rattle.scaled.proofs.Promise.{f-held, f-leading, f-small}
 use Rattle.split.specs.Gap.{magnitudeSplitOf}
 use Rattle.split.proofs.Gaps.{split-inside}
 use Rattle.factors.specs.declared.Factors.{Factors}
-use Rattle.factors.specs.declared.Monic.{Monic}
 use Rattle.factors.specs.Factors.{degreeOf}
-use Rattle.factors.specs.Large.{largeOf}
-use Rattle.factors.specs.Quotient.{productOf, quotientOf, usableOf}
-use Rattle.factors.proofs.Checked.{usable-finite, usable-last}
+use Rattle.large.specs.Large.{largeOf}
+use Rattle.quotient.specs.declared.Monic.{Monic}
+use Rattle.quotient.specs.Quotient.{productOf, quotientOf, usableOf}
+use Rattle.quotient.proofs.Checked.{usable-finite, usable-last}
 use Rattle.factorize.specs.Factorize.{secondOf}
 
 -- what the theorem says of a scaled polynomial, sizes in units of 2^-1074

@@ -8,9 +8,10 @@ use Rattle.facts.specs.Sort.{sortedBy}
 use Rattle.scaled.specs.declared.Scaled.{Scaled}
 use Rattle.factors.specs.declared.Factors.{Factors}
 use Rattle.factors.specs.Factors.{noFactors, degreeOf}
-use Rattle.factors.specs.Large.{factorUnitsOf, noSmaller}
-use Rattle.factors.specs.Quotient.{backLin, backQuad}
-use Rattle.factors.proofs.Room.{RoomForAll, large-room, lins-room, quads-room}
+use Rattle.large.specs.Large.{factorUnitsOf, noSmaller}
+use Rattle.large.proofs.Room.{RoomForAll, large-room}
+use Rattle.quotient.specs.Quotient.{backLin, backQuad}
+use Rattle.quotient.proofs.Counts.{lins-room, quads-room}
 use Rattle.factorize.specs.Factorize.{outOf, Second, secondOf, factorsFrom}
 use Rattle.factorize.proofs.Degree.{out-degree, Parted, parted, degrees-add}
 

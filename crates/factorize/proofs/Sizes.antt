@@ -17,8 +17,8 @@ use Rattle.split.specs.Gap.{magnitudeSplitOf}
 use Rattle.split.proofs.Gaps.{split-inside}
 use Rattle.factors.specs.declared.Factors.{Factors}
 use Rattle.factors.specs.Factors.{degreeOf, Sized}
-use Rattle.factors.specs.Large.{largeOf}
-use Rattle.factors.proofs.Counts.{large-sized}
+use Rattle.large.specs.Large.{largeOf}
+use Rattle.large.proofs.Sizes.{large-sized}
 use Rattle.factorize.specs.Factorize.{outOf, factorizeOf}
 use Rattle.factorize.proofs.Degree.{out-degree, degrees-add}
 

@@ -20,10 +20,10 @@ use Rattle.scaled.specs.Scaled.{scaledOf}
 use Rattle.split.specs.declared.Split.{Split}
 use Rattle.split.specs.Gap.{magnitudeSplitOf}
 use Rattle.factors.specs.declared.Factors.{Factors}
-use Rattle.factors.specs.declared.Monic.{Monic}
 use Rattle.factors.specs.Factors.{noFactors, pushLinOf, pushQuadOf, degreeOf}
-use Rattle.factors.specs.Large.{largeOf}
-use Rattle.factors.specs.Quotient.{productOf, quotientOf, usableOf, mergedOf}
+use Rattle.large.specs.Large.{largeOf}
+use Rattle.quotient.specs.declared.Monic.{Monic}
+use Rattle.quotient.specs.Quotient.{productOf, quotientOf, usableOf, mergedOf}
 use Rattle.factorize.specs.Factorize.{pairedOf, quarticFactorsOf, outOf, secondOf, factorsFrom, factorizeOf}
 
 -- ---- a quartic

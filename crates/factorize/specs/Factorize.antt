@@ -17,8 +17,8 @@ use Rattle.scaled.specs.Scaled.{scaledOf}
 use Rattle.split.specs.Gap.{magnitudeSplitOf}
 use Rattle.factors.specs.declared.Factors.{Factors}
 use Rattle.factors.specs.Factors.{noFactors, pushLinOf, pushQuadOf, degreeOf}
-use Rattle.factors.specs.Large.{largeOf}
-use Rattle.factors.specs.Quotient.{productOf, quotientOf, usableOf, mergedOf}
+use Rattle.large.specs.Large.{largeOf}
+use Rattle.quotient.specs.Quotient.{productOf, quotientOf, usableOf, mergedOf}
 
 -- the arm `3`
 unfoldable pub cubicFactorsOf : Float → Float → Float → Factors

@@ -1,5 +1,5 @@
 // factorize of poly.rs: the real factors of a scaled polynomial, and where a gap parts its roots by size, those of the small roots from a second scaling.
-// It rests on `factor`, `scaled`, `split` and `factors`; solving rests on it.
+// It rests on `factor`, `scaled`, `split`, `factors`, `large` and `quotient`; solving rests on it.
 ghost use mathlib.Core.Path.{_≡_};
 ghost use Prim.Native.Nat.{_≤_, _<_};
 ghost use Rattle.factorize.specs.Factorize.{cubicFactorsOf, quarticFactorsOf, outOf, factorizeOf};
@@ -103,18 +103,18 @@ pub fn factorize_rooted(sc: scaled::Scaled, depth: u32) -> Rooted
         return out;
     }
     let small = gap.small;
-    let large = factors::large(out.f, d - small, gap.threshold);
+    let large = large::large(out.f, d - small, gap.threshold);
     if large.degree() != d - small {
         return out;
     }
-    let s = factors::quotient(g, factors::product(large), small);
-    if !factors::usable(s, small) {
+    let s = quotient::quotient(g, quotient::product(large), small);
+    if !quotient::usable(s, small) {
         return out;
     }
     let sub = scaled::Scaled::new(s, small);
     let e = sub.e;
     let inner = factorize_rooted(sub, depth + 1);
-    with_discs(factors::merged(large, inner.f, e))
+    with_discs(quotient::merged(large, inner.f, e))
 }
 
 pub fn factorize(sc: scaled::Scaled, depth: u32) -> factors::Factors

@@ -1,3 +1,1 @@
 pub mod Factors
-pub mod Large
-pub mod Quotient

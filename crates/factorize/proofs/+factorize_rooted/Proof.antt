@@ -16,11 +16,11 @@ use Rattle.factorize.proofs.+factorize_rooted.Lts-factorize_rooted as l
 use Rattle.factorize.proofs.out_of.Reads as out-of-reads
 use Rattle.factorize.proofs.with_discs.Reads as with-discs-reads
 use Rattle.factors.proofs.Factors.degree.Reads as degree-reads
-use Rattle.factors.proofs.large.Reads as large-reads
-use Rattle.factors.proofs.merged.Reads as merged-reads
-use Rattle.factors.proofs.product.Reads as product-reads
-use Rattle.factors.proofs.quotient.Reads as quotient-reads
-use Rattle.factors.proofs.usable.Reads as usable-reads
+use Rattle.large.proofs.large.Reads as large-reads
+use Rattle.quotient.proofs.merged.Reads as merged-reads
+use Rattle.quotient.proofs.product.Reads as product-reads
+use Rattle.quotient.proofs.quotient.Reads as quotient-reads
+use Rattle.quotient.proofs.usable.Reads as usable-reads
 use Rattle.scaled.proofs.Scaled.new.Reads as new-reads
 use Rattle.split.proofs.magnitude_split.Reads as magnitude-split-reads
 use Rattle.factorize.proofs.+factorize_rooted.{statement}

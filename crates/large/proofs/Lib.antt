@@ -1,0 +1,4 @@
+pub mod Added
+pub mod Taken
+pub mod Sizes
+pub mod Room

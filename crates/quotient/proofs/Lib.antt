@@ -1,0 +1,4 @@
+pub mod Terms
+pub mod Counts
+pub mod Merging
+pub mod Checked

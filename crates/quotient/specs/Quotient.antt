@@ -1,0 +1,73 @@
+-- The product of the large factors, the quotient of g by it, and the way back from the second scaling. Definitions only.
+use mathlib.Core.Bool.{Bool, cond, _&&_}
+use mathlib.Core.List.{List, [], _∷_}
+use Prim.Native.Nat.{ℕ, _+_, _-_, min}
+use lib.Dec.{leb}
+use lib.IntN.{ℤ, pos, _*ℤ_}
+use lib.ListN.{length, getD, set, take, replicate}
+use lib.Ieee.{Float, nan, binary64, add, sub, mul, div, neg, ne}
+use Rattle.facts.specs.Arrays.{fromFn}
+use Rattle.facts.specs.Count.{countUp, countDown}
+use Rattle.float.specs.Literals.{zero64, one64}
+use Rattle.float.specs.Methods.{allFiniteOf}
+use Rattle.scale.specs.Scale.{ldexpOf}
+use Rattle.factors.specs.declared.Factors.{Factors}
+use Rattle.factors.specs.Factors.{pushLinOf, pushQuadOf, linAt, quadAt}
+use Rattle.quotient.specs.declared.Monic.{Monic}
+
+-- `next[i + j] += li * fj`, for one coefficient k = i + j: i goes up, so j goes down. l[..=dl] alone is multiplied, not the zeros after it.
+unfoldable pub termOf : List Float → ℕ → List Float → ℕ → ℕ → Float → Float
+termOf l dl f k j acc = cond (leb j k && leb (k - j) dl) (add binary64 acc (mul binary64 (getD l (k - j) nan) (getD f j nan))) acc
+
+-- next[k], from 0.0
+unfoldable pub nextAt : List Float → ℕ → List Float → ℕ → Float
+nextAt l dl f k = countDown (termOf l dl f k) (length f) zero64
+
+-- the closure `mul`: l times f, both ascending, and `dl += f.len() - 1`
+unfoldable pub mulOf : Monic → List Float → Monic
+mulOf p f = record { l = fromFn 5 (nextAt (p .l) (p .dl) f); dl = p .dl + (length f - 1) }
+
+-- mul(&[-r, 1.0]) and mul(&[be, al, 1.0])
+abbrev pub mulLin : Factors → ℕ → Monic → Monic
+mulLin f i p = mulOf p (neg (linAt f i) ∷ one64 ∷ [])
+
+abbrev pub mulQuad : Factors → ℕ → Monic → Monic
+mulQuad f i p = mulOf p (quadAt f i .be ∷ quadAt f i .al ∷ one64 ∷ [])
+
+-- L before any factor: `l[0] = 1.0`, `dl = 0`
+abbrev pub one : Monic
+one = record { l = one64 ∷ replicate 4 zero64; dl = 0 }
+
+-- 'L = product of the large factors (monic, ascending)'
+unfoldable pub productOf : Factors → Monic
+productOf large = countUp (large .nquad) (mulQuad large) (large .nquad) (countUp (large .nlin) (mulLin large) (large .nlin) one)
+
+-- acc = g[i], and `acc -= l[j] * s[i - j]` for j in 1..=i.min(dl)
+abbrev pub lessAt : List Float → List Float → ℕ → ℕ → Float → Float
+lessAt l s i j acc = sub binary64 acc (mul binary64 (getD l j nan) (getD s (i - j) nan))
+
+unfoldable pub accOf : List Float → Monic → List Float → ℕ → Float
+accOf g p s i = let m = min i (p .dl) in countUp (m + 1) (lessAt (p .l) s i) m (getD g i nan)
+
+-- s[i] = acc / l[0]
+abbrev pub quotientStep : List Float → Monic → ℕ → List Float → List Float
+quotientStep g p i s = set s i (div binary64 (accOf g p s i) (getD (p .l) 0 nan))
+
+-- 'g = L * S: solve for S from the low-order coefficients up': s[..=small], and zeros after it
+unfoldable pub quotientOf : List Float → Monic → ℕ → List Float
+quotientOf g p small = countUp (small + 1) (quotientStep g p) (small + 1) (replicate 5 zero64)
+
+-- s[..=small].iter().all(|v| v.is_finite()) && s[0] != 0.0 && s[small] != 0.0
+unfoldable pub usableOf : List Float → ℕ → Bool
+usableOf s small = allFiniteOf (take (small + 1) s) && (ne (getD s 0 nan) zero64 && ne (getD s small nan) zero64)
+
+-- merged.push_lin(ldexp(r, sub.e)) and merged.push_quad(ldexp(al, sub.e), ldexp(be, 2 * sub.e))
+abbrev pub backLin : Factors → ℤ → ℕ → Factors → Factors
+backLin f e i m = pushLinOf m (ldexpOf (linAt f i) e)
+
+abbrev pub backQuad : Factors → ℤ → ℕ → Factors → Factors
+backQuad f e i m = pushQuadOf m (ldexpOf (quadAt f i .al) e) (ldexpOf (quadAt f i .be) (pos 2 *ℤ e))
+
+-- `merged`: the large factors, and those of the second scaling in the first one's variable
+unfoldable pub mergedOf : Factors → Factors → ℤ → Factors
+mergedOf large inner e = countUp (inner .nquad) (backQuad inner e) (inner .nquad) (countUp (inner .nlin) (backLin inner e) (inner .nlin) large)
