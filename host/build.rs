@@ -1,8 +1,8 @@
-//! Links the proved archives, and writes geomcore's Rust to OUT_DIR twice: `untouched`, and
-//! `patched`, the reference build of document 01. EXPORTS names another folder for the archives,
-//! GEOMCORE another one for geomcore. Features write more copies: `coverage` the reference build
-//! with a counter at each branch, `mutants` one for each mistake, `causes` one for each leaf put
-//! back.
+//! Links the proved archives that .ci/archives names, and writes geomcore's Rust to OUT_DIR twice:
+//! `untouched`, and `patched`, the reference build of document 01. EXPORTS names another folder for
+//! the archives, GEOMCORE another one for geomcore. Features write more copies: `coverage` the
+//! reference build with a counter at each branch, `mutants` one for each mistake, `causes` one for
+//! each leaf put back.
 #[path = "build/branches.rs"]
 mod branches;
 #[path = "build/causes.rs"]
@@ -46,7 +46,10 @@ fn link_archives(here: &Path) {
     println!("cargo::rerun-if-env-changed=EXPORTS");
     let folder = env::var("EXPORTS").map_or(here.join("../target/staticlib"), PathBuf::from);
     println!("cargo::rustc-link-search=native={}", folder.display());
-    for name in ["layers", "exports"] {
+    let list = here.join("../.ci/archives");
+    println!("cargo::rerun-if-changed={}", list.display());
+    let names = fs::read_to_string(&list).unwrap_or_else(|e| panic!("{}: {e}", list.display()));
+    for name in names.lines() {
         let archive = folder.join(format!("lib{name}.a"));
         let path = archive.display();
         println!("cargo::rerun-if-changed={path}");

@@ -12,7 +12,7 @@ use Rattle.crank.specs.declared.CrankInquiry.{CrankInquiry}
 use Rattle.crank.specs.Crank.{crankAskedOf}
 use Rattle.lent.specs.Numbers.{number}
 use Rattle.inquiry.proofs.Shown.{shown-fits}
-use Rattle.exports.specs.Lists.{rootNumbers}
+use Rattle.clusters.specs.Clustering.{rootNumbers}
 use Rattle.exports.specs.Inquiries.{shownNumbers}
 
 pub crank-fits : (c : CrankInquiry) → Fits (crankAskedOf c .list)

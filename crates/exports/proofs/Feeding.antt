@@ -11,7 +11,7 @@ use lib.Ieee.{Float, nan}
 use Rattle.float.specs.Literals.{zero64, one64}
 use Rattle.roots.specs.declared.Roots.{Roots}
 use Rattle.lent.specs.Numbers.{number}
-use Rattle.exports.specs.Lists.{rootNumbers}
+use Rattle.clusters.specs.Clustering.{rootNumbers}
 use Rattle.exports.specs.Inquiries.{replyAt, eachReply, shownNumbers}
 
 module _ {A : Type 0} (f : A → Bool → A) (rs : List ℕ) (i : ℕ) (p : A) where

@@ -12,8 +12,9 @@ use Rattle.inquiry.specs.Inquiry.{askedOf, repliedOf}
 use Rattle.inquiry.specs.Start.{startOf}
 use Rattle.lent.specs.Bytes.{unless}
 use Rattle.lent.specs.Numbers.{number, flagOf}
-use Rattle.exports.specs.Coefficients.{coefficientsAt}
-use Rattle.exports.specs.Lists.{rootNumbers, notDoubles}
+use Rattle.coefficients.specs.Coefficients.{coefficientsAt}
+use Rattle.clusters.specs.Clustering.{rootNumbers}
+use Rattle.exports.specs.Lists.{notDoubles}
 
 -- a reply's byte: 0 is no, every other one yes
 abbrev pub replyAt : ℕ → Bool

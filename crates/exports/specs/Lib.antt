@@ -1,6 +1,4 @@
 pub mod Lists
-pub mod Coefficients
-pub mod Clustering
 pub mod Inquiries
 pub mod Cranks
 pub mod Quadratics

@@ -1,25 +1,15 @@
 -- What the export for lists stores, and its refusal. Definitions only.
 use mathlib.Core.Bool.{Bool}
-use mathlib.Core.List.{List, [], _∷_, _++_}
+use mathlib.Core.List.{List, []}
 use Prim.Native.Nat.{ℕ, _*_, _/_}
 use lib.Dec.{ltb}
-use lib.ListN.{length, getD}
+use lib.ListN.{length}
 use lib.Ieee.{Float}
-use Rattle.roots.specs.declared.Roots.{Roots}
-use Rattle.roots.specs.Listed.{blank}
 use Rattle.poly.specs.declared.Answer.{Answer}
 use Rattle.poly.specs.RealRoots.{realRootsOf}
 use Rattle.lent.specs.Bytes.{unless}
-use Rattle.lent.specs.Numbers.{number}
-use Rattle.exports.specs.Coefficients.{coefficientsAt}
-
--- place and multiplicity of the root i
-abbrev pub rootAt : Roots → ℕ → List Float
-rootAt s i = let r = getD (s .root) i blank in r .value ∷ number (r .multiplicity) ∷ []
-
--- how many roots there are, and the four places with their multiplicities
-unfoldable pub rootNumbers : Roots → List Float
-rootNumbers s = number (s .len) ∷ (rootAt s 0 ++ (rootAt s 1 ++ (rootAt s 2 ++ rootAt s 3)))
+use Rattle.coefficients.specs.Coefficients.{coefficientsAt}
+use Rattle.clusters.specs.Clustering.{rootNumbers}
 
 -- the bytes are no whole doubles
 abbrev pub notDoubles : List ℕ → Bool

@@ -2,34 +2,11 @@
 // the last root. The answer is how many bytes are stored, 72, or the number of the refusal, or 0 where the bytes are no whole doubles or where those lent
 // are too few: nothing is stored then.
 ghost use mathlib.Core.Path.{_≡_};
-ghost use Rattle.roots.specs.Listed.{Fits};
 ghost use Rattle.lent.specs.Bytes.{Answered};
-ghost use Rattle.exports.specs.Lists.{rootNumbers, notDoubles, listRefusal, listNumbers};
-use crate::coefficients::short_at;
+ghost use Rattle.exports.specs.Lists.{notDoubles, listRefusal, listNumbers};
+use clusters::root_numbers;
+use coefficients::short_at;
 use lent::answer;
-use roots::Roots;
-
-pub fn root_numbers(s: Roots) -> [f64; 9]
-    requires { ⌜ Fits s ⌝ }
-    ensures { λ r. ⌜ r ≡ rootNumbers s ⌝ }
-{
-    let root = s.root;
-    let a = root[0];
-    let b = root[1];
-    let c = root[2];
-    let d = root[3];
-    [
-        s.len as f64,
-        a.value,
-        a.multiplicity as f64,
-        b.value,
-        b.multiplicity as f64,
-        c.value,
-        c.multiplicity as f64,
-        d.value,
-        d.multiplicity as f64,
-    ]
-}
 
 // The bytes are no whole doubles.
 pub fn not_doubles(s: &[u8]) -> bool

@@ -4,7 +4,6 @@ use Prim.Native.Nat.{ℕ}
 use lib.ListN.{getD}
 use lib.Ieee.{Float, nan, binary64, ofInt}
 use Rattle.float.specs.Literals.{zero64, one64}
-use Rattle.angle.specs.declared.ThirdAngle.{ThirdAngle}
 use Rattle.horner.specs.declared.TwoProd.{TwoProd}
 use Rattle.horner.specs.declared.ValueSlope.{ValueSlope}
 use Rattle.horner.specs.declared.Derivs.{Derivs}
@@ -22,9 +21,6 @@ use Rattle.factors.specs.declared.Factors.{Factors}
 use Rattle.factors.specs.Factors.{linAt, quadAt}
 use Rattle.lent.specs.Bytes.{f64sAt}
 use Rattle.lent.specs.Numbers.{number, five, flagOf}
-
-abbrev pub angleNumbers : ThirdAngle → List Float
-angleNumbers t = t .cos ∷ t .sin ∷ []
 
 -- ---- evaluation
 abbrev pub productNumbers : TwoProd → List Float

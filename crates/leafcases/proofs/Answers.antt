@@ -11,7 +11,7 @@ use Rattle.sqrt.specs.Root.{sqrtOf}
 use Rattle.cbrt.specs.Root.{cbrtOf}
 use Rattle.angle.specs.Third.{thirdAngleOf}
 use Rattle.angle.specs.declared.ThirdAngle.{ThirdAngle}
-use Rattle.layers.specs.Total.{pow2OrNan}
+use Rattle.leaves.specs.Total.{pow2OrNan}
 use Rattle.leafcases.specs.Words.{sqrtWord, cbrtWord, thirdWord, log2Word, ldexpWord, exponentWord, pow2Word}
 use Rattle.leafcases.specs.Lines.{lineOf, answerOf}
 use Rattle.leafcases.specs.declared.lines.Word.the-variants.{Double, Whole, Nothing}

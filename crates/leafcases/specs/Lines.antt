@@ -15,7 +15,7 @@ use Rattle.log2.specs.Log.{log2GridOf}
 use Rattle.sqrt.specs.Root.{sqrtOf}
 use Rattle.cbrt.specs.Root.{cbrtOf}
 use Rattle.angle.specs.Third.{thirdAngleOf}
-use Rattle.layers.specs.Total.{pow2OrNan}
+use Rattle.leaves.specs.Total.{pow2OrNan}
 use Rattle.leafcases.specs.declared.lines.Word.{Word}
 use Rattle.leafcases.specs.declared.lines.Word.the-variants.{Double, Whole, Nothing}
 use Rattle.leafcases.specs.Words.{sqrtWord, cbrtWord, thirdWord, log2Word, ldexpWord, exponentWord, pow2Word, badLine}

@@ -1,6 +1,6 @@
 // Replays stored questions to the leaves: for each record of the file that its argument names, a line with the leaf's answer.
 // The work is `lines::put_lines`, proved equal to the definition `linesOf`; no contract can say what is read or written. It rests on the leaves,
-// `text` and `layers`.
+// `text` and `leaves`.
 ghost use mathlib.Core.Path.{_≡_};
 ghost use lib.ListN.{length};
 

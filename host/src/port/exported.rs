@@ -1,5 +1,5 @@
-//! The C functions of both archives, with the only `unsafe` of the host. The declarations are not
-//! checked against crates/layers and crates/exports: they stand in the order of those.
+//! The C functions of the archives, with the only `unsafe` of the host. The declarations are not
+//! checked against the crates that .ci/archives names: they stand in the order of those.
 //! A Rattle `&[u8]` or `&mut [u8]` is a pointer and a length, a number is itself, and no function
 //! requires anything of its arguments. All numbers of an answer are stored in `out` as doubles, one
 //! after another; what is said is how many bytes that are, or the number of a refusal, or 0 where
@@ -41,28 +41,8 @@ macro_rules! exported {
     };
 }
 
-// ---- crates/layers
+// ---- crates/leaves
 exported! {
-    /// The product, and its error.
-    fn two_prod(a: f64, b: f64, out: &mut [u8]) -> u64;
-    fn discriminant(al: f64, be: f64) -> f64;
-    /// For five doubles in 40 bytes and a degree up to 4.
-    fn value_slope(p: &[u8], d: u64, y: f64, out: &mut [u8]) -> u64;
-    fn value_slope_compensated(p: &[u8], d: u64, y: f64, out: &mut [u8]) -> u64;
-    fn derivs12(p: &[u8], d: u64, y: f64, out: &mut [u8]) -> u64;
-    fn taylor(p: &[u8], d: u64, y: f64, out: &mut [u8]) -> u64;
-
-    /// How many roots there are, and three places.
-    fn cubic_closed_form(b: f64, c: f64, d: f64, out: &mut [u8]) -> u64;
-    /// r, e and f.
-    fn cubic_factor(b: f64, c: f64, d: f64, out: &mut [u8]) -> u64;
-    /// al, be, ga and de.
-    fn quartic_factor(b: f64, c: f64, d: f64, e: f64, out: &mut [u8]) -> u64;
-    /// 1 and the root, or 0 and NaN.
-    fn isolated_root(al: f64, be: f64, ga: f64, de: f64, out: &mut [u8]) -> u64;
-    /// r, h2, h1 and h0.
-    fn peel_root(b: f64, c: f64, d: f64, e: f64, y: f64, out: &mut [u8]) -> u64;
-
     fn float_abs(x: f64) -> f64;
     fn float_copysign(x: f64, y: f64) -> f64;
     fn float_min(x: f64, y: f64) -> f64;
@@ -85,6 +65,29 @@ exported! {
     fn leaf_third_angle(v: f64, out: &mut [u8]) -> u64;
     /// L of five doubles in 40 bytes.
     fn leaf_log2_five(a: &[u8], out: &mut [u8]) -> u64;
+}
+
+// ---- crates/layers
+exported! {
+    /// The product, and its error.
+    fn two_prod(a: f64, b: f64, out: &mut [u8]) -> u64;
+    fn discriminant(al: f64, be: f64) -> f64;
+    /// For five doubles in 40 bytes and a degree up to 4.
+    fn value_slope(p: &[u8], d: u64, y: f64, out: &mut [u8]) -> u64;
+    fn value_slope_compensated(p: &[u8], d: u64, y: f64, out: &mut [u8]) -> u64;
+    fn derivs12(p: &[u8], d: u64, y: f64, out: &mut [u8]) -> u64;
+    fn taylor(p: &[u8], d: u64, y: f64, out: &mut [u8]) -> u64;
+
+    /// How many roots there are, and three places.
+    fn cubic_closed_form(b: f64, c: f64, d: f64, out: &mut [u8]) -> u64;
+    /// r, e and f.
+    fn cubic_factor(b: f64, c: f64, d: f64, out: &mut [u8]) -> u64;
+    /// al, be, ga and de.
+    fn quartic_factor(b: f64, c: f64, d: f64, e: f64, out: &mut [u8]) -> u64;
+    /// 1 and the root, or 0 and NaN.
+    fn isolated_root(al: f64, be: f64, ga: f64, de: f64, out: &mut [u8]) -> u64;
+    /// r, h2, h1 and h0.
+    fn peel_root(b: f64, c: f64, d: f64, e: f64, y: f64, out: &mut [u8]) -> u64;
 
     /// f, g, lg, d, e and unit of `Scaled::new`, 18 doubles, for five doubles in 40 bytes and a
     /// degree up to 4.
@@ -107,7 +110,7 @@ exported! {
     fn newton_cubic(p0: f64, p1: f64, p2: f64, p3: f64, p4: f64, y: f64) -> f64;
 }
 
-// ---- crates/exports
+// ---- crates/clusters
 exported! {
     fn noise(a: &[u8], d: u64, y: f64) -> f64;
     fn band(a: &[u8], d: u64, y: f64, tol: f64) -> f64;
@@ -124,13 +127,13 @@ exported! {
     /// Of n candidates, in the first 36 bytes of c: the count, and four places with their
     /// multiplicities, 9 doubles. Nothing is written where n is above 4.
     fn finish(a: &[u8], d: u64, c: &[u8], n: u64, tol: f64, out: &mut [u8]) -> u64;
+}
 
+// ---- crates/exports
+exported! {
     /// k of the crank equation, and then what its inquiry shows, as for a list, thirteen doubles.
     fn crank_inquire(confusion: f64, a2: f64, b2: f64, c1: f64, d1: f64, e: f64, replies: &[u8],
         out: &mut [u8]) -> u64;
-    /// The listing of a hall file from the start of `out` on, as far as `out` reaches, and how many
-    /// bytes the listing has.
-    fn hall_list_file(file: &[u8], out: &mut [u8]) -> u64;
     /// What the inquiry about the doubles in `coeffs`, at most 32, shows after these replies, one
     /// byte each and 0 for no: 0, or 4 where a reply was refused; 1 and the place where it asks, 0
     /// and 0 where not; and the list as for `real_roots`; twelve doubles.
@@ -149,4 +152,11 @@ exported! {
     fn touching_at(n: u32, x: f64, y: f64, vertex: f64, touches: bool, out: &mut [u8]) -> u64;
     /// k and the quartic.
     fn crank_front(a2: f64, b2: f64, c1: f64, d1: f64, e: f64, out: &mut [u8]) -> u64;
+}
+
+// ---- crates/halls
+exported! {
+    /// The listing of a hall file from the start of `out` on, as far as `out` reaches, and how many
+    /// bytes the listing has.
+    fn hall_list_file(file: &[u8], out: &mut [u8]) -> u64;
 }

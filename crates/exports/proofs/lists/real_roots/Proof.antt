@@ -6,7 +6,8 @@ use Rattle.roots.specs.Listed.{Fits}
 use Rattle.poly.specs.declared.Answer.{Answer}
 use Rattle.poly.proofs.Sums.{answer-fits}
 use Rattle.poly.proofs.Short.{short-lists}
-use Rattle.exports.specs.Lists.{answerAt, rootNumbers}
+use Rattle.clusters.specs.Clustering.{rootNumbers}
+use Rattle.exports.specs.Lists.{answerAt}
 use Rattle.exports.proofs.Listing.{no-doubles, of-doubles}
 use Rattle.exports.proofs.lists.real_roots.Statement.{statement}
 use Rattle.exports.proofs.lists.real_roots.Tie as tie
