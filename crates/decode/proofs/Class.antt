@@ -6,13 +6,16 @@ use Prim.Native.Nat.{ℕ, zero, suc, _+_, _*_, _/_, _%_, _^_, _≤_, _<_}
 use native.Mathlib.Omega.{arith}
 use native.Mathlib.Nat.{mul-one, zero-mul, mul-pos, zero-div, zero-lt-suc, lt-of-lt-of-le, lt-irrefl}
 use lib.Dec.{T, eqb, ltb, eqb→eq, ltb→lt}
-use borrow.Author.Tests.{lt-ltb}
+use borrow.Author.Tests.{lt-ltb, not-true}
 use lib.Pow.{pow-pos}
 use lib.IntN.{ℤ, pos}
-use lib.Ieee.{Float, fin, nan, inf, binary64, up, down, eq, ne, lt, fits, isNan, level}
+use lib.Ieee.{Float, fin, nan, inf, binary64, up, down, eq, ne, lt, fits, isNan, level, ofBits}
 use lib.Ieee.Fits.{up-pos, and-l}
 use lib.Ieee.Compare.{differs-from-itself}
-use Rattle.float.specs.Units.{unitsOf}
+use Rattle.float.specs.Literals.{zero64}
+use Rattle.float.specs.Methods.{isFiniteOf}
+use Rattle.float.specs.Units.{Finite, unitsOf}
+use Rattle.float.proofs.Bits.{of-true}
 use Rattle.decode.specs.Exponent.{regularOf}
 use Rattle.decode.specs.Shape.{Normal, Decoded}
 use Rattle.decode.proofs.Fields.{units-pos, Pattern, not-top, normal, fraction-is}
@@ -44,6 +47,14 @@ pub not-zero : (s : Bool) (k : ℤ) → eq (fin s 0 k) (fin false 0 (pos 0)) ≡
 unfolding eq
 not-zero true k e = absurd (false≢true (sym e ∙ zero-test true k))
 not-zero false k e = absurd (false≢true (sym e ∙ zero-test false k))
+
+-- a finite double that is not zero has units
+pub some-units : (x : Float) → Finite x → ne x zero64 ≡ true → 0 < unitsOf x
+unfolding isFiniteOf ne ofBits
+some-units nan F h = absurd (false≢true (F .finite))
+some-units (inf s) F h = absurd (false≢true (F .finite))
+some-units (fin s zero e) F h = absurd (not-zero s e (not-true (eq (fin s 0 e) (fin false 0 (pos 0))) h))
+some-units (fin s (suc m) e) F h = units-pos s (suc m) e (of-true (F .held)) (zero-lt-suc m)
 
 -- ---- a regular value
 

@@ -1,16 +1,13 @@
 -- What `usable` says of a quotient: s[0] to s[small] are finite doubles, and s[small] is not zero. Assumes nothing.
 use mathlib.Core.Path.{_≡_, refl, sym, ap, _∙_}
-use mathlib.Core.Bool.{true, false, _&&_, false≢true}
+use mathlib.Core.Bool.{true, _&&_}
 use mathlib.Core.List.{List, [], _∷_}
 use Prim.Native.Nat.{ℕ, zero, suc, _+_, _-_, _≤_, _<_}
 use native.Mathlib.Omega.{arith}
-use native.Mathlib.Nat.{zero-lt-suc}
-use borrow.Author.Tests.{not-true}
 use lib.Dec.{T}
-use lib.IntN.{pos}
 use lib.ListN.{length, getD, set, take, replicate, length-set}
 use lib.Seq.{getD-take, length-take-le}
-use lib.Ieee.{Float, nan, inf, fin, binary64, fits, eq, ne, div, ofBits}
+use lib.Ieee.{Float, nan, binary64, fits, ne, div}
 use lib.Ieee.Bits.{is-true, ofBits-fits}
 use lib.Ieee.Fits.{nan-fits, div-fits}
 use Rattle.facts.specs.Cond.{first-holds, second-holds}
@@ -19,10 +16,8 @@ use Rattle.facts.specs.Lists.{AllOf, all-at}
 use Rattle.float.specs.Literals.{zero64}
 use Rattle.float.specs.Methods.{isFiniteOf, allFiniteOf}
 use Rattle.float.specs.Units.{Finite, unitsOf}
-use Rattle.float.proofs.Bits.{of-true}
 use Rattle.float.proofs.Finite.{finite-at}
-use Rattle.decode.proofs.Class.{not-zero}
-use Rattle.decode.proofs.Fields.{units-pos}
+use Rattle.decode.proofs.Class.{some-units}
 use Rattle.quotient.specs.declared.Monic.{Monic}
 use Rattle.quotient.specs.Quotient.{accOf, quotientStep, quotientOf, usableOf}
 
@@ -50,14 +45,6 @@ quotient-doubles g p small = go (small + 1) (replicate 5 zero64) (zeros 5) refl
         let i = small + 1 - suc k in
         let x = div binary64 (accOf g p s i) (getD (p .l) 0 nan) in
         go k (set s i x) (doubles-set s i x h (div-fits binary64 (accOf g p s i) (getD (p .l) 0 nan))) (length-set s i x ∙ l)
-
--- ---- a finite double that is not zero has units
-pub some-units : (x : Float) → Finite x → ne x zero64 ≡ true → 0 < unitsOf x
-unfolding isFiniteOf ne ofBits
-some-units nan F h = absurd (false≢true (F .finite))
-some-units (inf s) F h = absurd (false≢true (F .finite))
-some-units (fin s zero e) F h = absurd (not-zero s e (not-true (eq (fin s 0 e) (fin false 0 (pos 0))) h))
-some-units (fin s (suc m) e) F h = units-pos s (suc m) e (of-true (F .held)) (zero-lt-suc m)
 
 -- ---- both, of a quotient
 module _ (g : List Float) (p : Monic) (small : ℕ) (D : small ≤ 4) (U : usableOf (quotientOf g p small) small ≡ true) where
