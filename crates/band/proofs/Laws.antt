@@ -13,9 +13,9 @@ use Rattle.horner.specs.Product.{discriminantOf}
 use Rattle.horner.specs.Taylor.{derivs12Of}
 use Rattle.horner.specs.declared.Derivs.{Derivs}
 use Rattle.refine.specs.Newton.{flatOf, noGainOf}
-use Rattle.factor.specs.declared.Disc.{Disc}
-use Rattle.factor.specs.Isolated.{farRootOf, discOf, farBy}
-use Rattle.factor.proofs.Laws.{far-by}
+use Rattle.isolated.specs.declared.Disc.{Disc}
+use Rattle.isolated.specs.Isolated.{farRootOf, discOf, farBy}
+use Rattle.isolated.proofs.Laws.{far-by}
 use Rattle.scaled.specs.declared.Scaled.{Scaled}
 use Rattle.roots.specs.declared.Roots.{Roots}
 use Rattle.roots.specs.declared.Pairs.{Pairs}

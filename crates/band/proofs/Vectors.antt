@@ -6,7 +6,7 @@ use Prim.Native.Nat.{ℕ}
 use lib.IntN.{pos}
 use lib.Ieee.{Float, nan, binary64, ofBits}
 use Rattle.float.specs.Literals.{zero64, half64, one64}
-use Rattle.factor.proofs.Vectors.{computes as factors}
+use Rattle.isolated.proofs.Vectors.{computes as factors}
 use Rattle.scaled.specs.declared.Scaled.{Scaled}
 use Rattle.band.specs.Band.{magnitudeStep, magnitudeOf, budgetOf, kthRootOf, radiusStep, radiusOf, noiseWithin, noiseOf, baseOf, bandOf, withinBandOf}
 use Rattle.band.specs.Critical.{isBetweenOf, criticalNext, criticalPointOf, extremumOf}

@@ -6,8 +6,8 @@ use Rattle.float.specs.Literals.{zero64, half64}
 use Rattle.float.specs.Methods.{absOf}
 use Rattle.sqrt.specs.Root.{sqrtOf}
 use Rattle.horner.specs.Product.{discriminantOf}
-use Rattle.factor.specs.declared.Disc.{Disc}
-use Rattle.factor.specs.Isolated.{farRootOf, farBy}
+use Rattle.isolated.specs.declared.Disc.{Disc}
+use Rattle.isolated.specs.Isolated.{farRootOf, farBy}
 use Rattle.scaled.specs.declared.Scaled.{Scaled}
 use Rattle.roots.specs.declared.RealRoot.{RealRoot}
 use Rattle.roots.specs.declared.Roots.{Roots}

@@ -1,5 +1,5 @@
 // The clustering band of a scaled polynomial, and what is found within it: `noise`, `band`, `within_band`, `critical_point`, `extremum` and `push_quadratic` of poly.rs.
-// It rests on the leaves, `horner`, `refine`, `factor`, `scaled` and `roots`; lists and the inquiry rest on it.
+// It rests on the leaves, `horner`, `refine`, `isolated`, `scaled` and `roots`; lists and the inquiry rest on it.
 ghost use mathlib.Core.Path.{_≡_};
 ghost use Prim.Native.Nat.{_≤_};
 ghost use Rattle.facts.specs.Turns.{turnsOf};
@@ -220,7 +220,7 @@ pub fn push_quadratic(
     requires { ⌜ poly .d ≤ 4 ⌝ }
     ensures { λ r. ⌜ r ≡ pushQuadraticIn poly al be tol out pairs ⌝ }
 {
-    push_rooted(poly, al, be, factor::disc_of(al, be), tol, out, pairs)
+    push_rooted(poly, al, be, isolated::disc_of(al, be), tol, out, pairs)
 }
 
 // The same, with its discriminant at hand.
@@ -228,7 +228,7 @@ pub fn push_rooted(
     poly: scaled::Scaled,
     al: f64,
     be: f64,
-    s: factor::Disc,
+    s: isolated::Disc,
     tol: f64,
     out: roots::Roots,
     pairs: roots::Pairs,
@@ -245,7 +245,7 @@ pub fn push_rooted(
         return Found { roots, pairs };
     }
     if s.disc > 0.0 {
-        let q = factor::far_by(al, s.root);
+        let q = isolated::far_by(al, s.root);
         let roots = out.keep(q, 1).keep(be / q, 1);
         return Found { roots, pairs };
     }

@@ -19,9 +19,9 @@ use Rattle.horner.specs.Taylor.{derivsStep, derivs12Of}
 use Rattle.square.specs.Square as square
 use Rattle.refine.specs.Refine.{overOf, weightedOf, normOf, isSettledOf, advancedOf, nextOf, refineOf}
 use Rattle.refine.specs.Newton.{flatOf, noGainOf, newtonNext, newtonCubicOf}
-use Rattle.factor.specs.Cubic.{oneRootOf, depressedRootsOf, cubicClosedFormOf, isolationOf, betterOf, mostIsolatedOf, cubicFactorOf}
-use Rattle.factor.specs.Isolated.{farRootOf, rootPairOf, isBetterOf, judgedOf, bestRootOf, isolatedRootOf, peelRootOf}
-use Rattle.factor.specs.Quartic.{largestOf, resolventOf, isClearOf, ferrariOf, quarticFactorOf}
+use Rattle.cubic.specs.Cubic.{oneRootOf, depressedRootsOf, cubicClosedFormOf, isolationOf, betterOf, mostIsolatedOf, cubicFactorOf}
+use Rattle.isolated.specs.Isolated.{farRootOf, rootPairOf, isBetterOf, judgedOf, bestRootOf, isolatedRootOf, peelRootOf}
+use Rattle.quartic.specs.Quartic.{largestOf, resolventOf, isClearOf, ferrariOf, quarticFactorOf}
 use Rattle.scaled.specs.Exponent.{scaleExponentOf}
 use Rattle.scaled.specs.Scaled.{topOf, shiftOf, coefficientOf, coefficientsOf, monicAt, monicOf, sizesOf, logSizeOf, logSizesOf, scaledOf}
 use Rattle.split.specs.Hull.{crossOf, poppedOf, hullStep, hullOf, magOf}

@@ -12,9 +12,9 @@ use Rattle.float.specs.Literals.{zero64, epsilon64, one64, two64, three64, inf6
 use Rattle.float.specs.Methods.{minOf, maxOf}
 use Rattle.square.specs.Square.{solveSquareOf}
 use Rattle.refine.specs.Refine.{advancedOf}
-use Rattle.factor.specs.declared.QuarticFactor.{QuarticFactor}
-use Rattle.factor.specs.declared.LoneRoot.the-variants.{At, None}
-use Rattle.factor.specs.Isolated.{rootPairOf, isolatedRootOf}
+use Rattle.quartic.specs.declared.QuarticFactor.{QuarticFactor}
+use Rattle.isolated.specs.declared.LoneRoot.the-variants.{At, None}
+use Rattle.isolated.specs.Isolated.{rootPairOf, isolatedRootOf}
 use Rattle.scaled.specs.Scaled.{scaledOf}
 use Rattle.split.specs.Hull.{hullAt, hullOf}
 use Rattle.split.specs.Gap.{magnitudeSplitOf}

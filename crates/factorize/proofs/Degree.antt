@@ -8,11 +8,11 @@ use borrow.Author.Tests.{eqb-true}
 use lib.Dec.{leb, eqb}
 use lib.Ieee.{Float}
 use Rattle.facts.specs.Cond.{first-holds, second-holds}
-use Rattle.factor.specs.declared.QuarticFactor.{QuarticFactor}
-use Rattle.factor.specs.declared.LoneRoot.{LoneRoot}
-use Rattle.factor.specs.declared.LoneRoot.the-variants.{At, None}
-use Rattle.factor.specs.Quartic.{quarticFactorOf}
-use Rattle.factor.specs.Isolated.{isolatedRootOf}
+use Rattle.quartic.specs.declared.QuarticFactor.{QuarticFactor}
+use Rattle.isolated.specs.declared.LoneRoot.{LoneRoot}
+use Rattle.isolated.specs.declared.LoneRoot.the-variants.{At, None}
+use Rattle.quartic.specs.Quartic.{quarticFactorOf}
+use Rattle.isolated.specs.Isolated.{isolatedRootOf}
 use Rattle.scaled.specs.declared.Scaled.{Scaled}
 use Rattle.scaled.specs.Scaled.{scaledOf}
 use Rattle.split.specs.Gap.{magnitudeSplitOf}

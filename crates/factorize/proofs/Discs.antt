@@ -6,11 +6,11 @@ use native.Mathlib.Omega.{arith}
 use borrow.Author.Tests.{lt-ltb}
 use lib.ListN.{getD}
 use lib.Ieee.{Float, nan}
-use Rattle.factor.specs.declared.QuarticFactor.{QuarticFactor}
-use Rattle.factor.specs.declared.LoneRoot.{LoneRoot}
-use Rattle.factor.specs.declared.Disc.{Disc}
-use Rattle.factor.specs.declared.Pairing.{Pairing}
-use Rattle.factor.specs.Isolated.{discOf, isolatedOf, isolatedRootOf}
+use Rattle.quartic.specs.declared.QuarticFactor.{QuarticFactor}
+use Rattle.isolated.specs.declared.LoneRoot.{LoneRoot}
+use Rattle.isolated.specs.declared.Disc.{Disc}
+use Rattle.isolated.specs.declared.Pairing.{Pairing}
+use Rattle.isolated.specs.Isolated.{discOf, isolatedOf, isolatedRootOf}
 use Rattle.factors.specs.declared.Factors.{Factors}
 use Rattle.factors.specs.Factors.{noFactors, pushQuadOf, quadAt}
 use Rattle.factorize.specs.declared.Rooted.{Rooted}

@@ -10,7 +10,7 @@ use Rattle.float.specs.Floor.{floorOf}
 use Rattle.scale.specs.Scale.{chain, scaledOf as timesPowerOf, ldexpOf}
 use Rattle.nearest.specs.Greatest.{greatest}
 use Rattle.decode.specs.Exponent.{exponentOf}
-use Rattle.factor.proofs.Vectors.{computes as factors-compute}
+use Rattle.isolated.proofs.Vectors.{computes as factors-compute}
 use Rattle.scaled.specs.declared.Scaled.{Scaled}
 use Rattle.scaled.specs.Exponent.{heldAt, heldBelow, tooSmall, scaleExponentOf}
 use Rattle.scaled.specs.Scaled.{topOf, shiftOf, coefficientOf, coefficientsOf, monicAt, monicOf, scaledOf}

@@ -7,14 +7,14 @@ use native.Mathlib.Omega.{arith}
 use borrow.Author.Tests.{le-leb, lt-leb, eq-eqb, ne-eqb}
 use lib.IntN.{ℤ}
 use lib.Ieee.{Float}
-use Rattle.factor.specs.declared.CubicFactor.{CubicFactor}
-use Rattle.factor.specs.declared.QuarticFactor.{QuarticFactor}
-use Rattle.factor.specs.declared.LoneRoot.{LoneRoot}
-use Rattle.factor.specs.declared.LoneRoot.the-variants.{At, None}
-use Rattle.factor.specs.declared.Peeled.{Peeled}
-use Rattle.factor.specs.Cubic.{cubicFactorOf}
-use Rattle.factor.specs.Quartic.{quarticFactorOf}
-use Rattle.factor.specs.Isolated.{isolatedRootOf, peelRootOf}
+use Rattle.cubic.specs.declared.CubicFactor.{CubicFactor}
+use Rattle.quartic.specs.declared.QuarticFactor.{QuarticFactor}
+use Rattle.isolated.specs.declared.LoneRoot.{LoneRoot}
+use Rattle.isolated.specs.declared.LoneRoot.the-variants.{At, None}
+use Rattle.isolated.specs.declared.Peeled.{Peeled}
+use Rattle.cubic.specs.Cubic.{cubicFactorOf}
+use Rattle.quartic.specs.Quartic.{quarticFactorOf}
+use Rattle.isolated.specs.Isolated.{isolatedRootOf, peelRootOf}
 use Rattle.scaled.specs.declared.Scaled.{Scaled}
 use Rattle.scaled.specs.Scaled.{scaledOf}
 use Rattle.split.specs.declared.Split.{Split}

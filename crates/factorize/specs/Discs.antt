@@ -4,8 +4,8 @@ use mathlib.Core.List.{[], _∷_}
 use Prim.Native.Nat.{ℕ}
 use lib.Dec.{ltb}
 use Rattle.float.specs.Literals.{zero64}
-use Rattle.factor.specs.declared.Disc.{Disc}
-use Rattle.factor.specs.Isolated.{discOf}
+use Rattle.isolated.specs.declared.Disc.{Disc}
+use Rattle.isolated.specs.Isolated.{discOf}
 use Rattle.factors.specs.declared.Factors.{Factors}
 use Rattle.factors.specs.Factors.{quadAt}
 use Rattle.factorize.specs.declared.Rooted.{Rooted}

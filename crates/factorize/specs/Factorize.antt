@@ -6,12 +6,12 @@ use Prim.Native.Nat.{ℕ, zero, suc, _-_}
 use lib.Dec.{leb, eqb}
 use lib.ListN.{getD}
 use lib.Ieee.{Float, nan, neg}
-use Rattle.factor.specs.declared.QuarticFactor.{QuarticFactor}
-use Rattle.factor.specs.declared.LoneRoot.{LoneRoot}
-use Rattle.factor.specs.declared.LoneRoot.the-variants.{At, None}
-use Rattle.factor.specs.Cubic.{cubicFactorOf}
-use Rattle.factor.specs.Quartic.{quarticFactorOf}
-use Rattle.factor.specs.Isolated.{isolatedRootOf, peelRootOf}
+use Rattle.quartic.specs.declared.QuarticFactor.{QuarticFactor}
+use Rattle.isolated.specs.declared.LoneRoot.{LoneRoot}
+use Rattle.isolated.specs.declared.LoneRoot.the-variants.{At, None}
+use Rattle.cubic.specs.Cubic.{cubicFactorOf}
+use Rattle.quartic.specs.Quartic.{quarticFactorOf}
+use Rattle.isolated.specs.Isolated.{isolatedRootOf, peelRootOf}
 use Rattle.scaled.specs.declared.Scaled.{Scaled}
 use Rattle.scaled.specs.Scaled.{scaledOf}
 use Rattle.split.specs.Gap.{magnitudeSplitOf}

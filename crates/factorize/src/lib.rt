@@ -1,5 +1,5 @@
 // factorize of poly.rs: the real factors of a scaled polynomial, and where a gap parts its roots by size, those of the small roots from a second scaling.
-// It rests on `factor`, `scaled`, `split`, `factors`, `large` and `quotient`; solving rests on it.
+// It rests on `cubic`, `quartic`, `isolated`, `scaled`, `split`, `factors`, `large` and `quotient`; solving rests on it.
 ghost use mathlib.Core.Path.{_≡_};
 ghost use Prim.Native.Nat.{_≤_, _<_};
 ghost use Rattle.factorize.specs.Factorize.{cubicFactorsOf, quarticFactorsOf, outOf, factorizeOf};
@@ -8,7 +8,7 @@ ghost use Rattle.factorize.specs.Discs.{discAt, rootedOf};
 fn cubic_factors(b: f64, c: f64, d: f64) -> factors::Factors
     ensures { λ r. ⌜ r ≡ cubicFactorsOf b c d ⌝ }
 {
-    let k = factor::cubic_factor(b, c, d);
+    let k = cubic::cubic_factor(b, c, d);
     factors::Factors::default()
         .push_lin(k.r)
         .push_quad(k.e, k.f)
@@ -17,18 +17,18 @@ fn cubic_factors(b: f64, c: f64, d: f64) -> factors::Factors
 // Factors, and the discriminants of the quadratic ones.
 pub struct Rooted {
     pub f: factors::Factors,
-    pub disc: [factor::Disc; 2],
+    pub disc: [isolated::Disc; 2],
 }
 
-fn disc_at(f: factors::Factors, i: usize) -> factor::Disc
+fn disc_at(f: factors::Factors, i: usize) -> isolated::Disc
     requires { ⌜ i < 2 ⌝ }
     ensures { λ r. ⌜ r ≡ discAt f i ⌝ }
 {
     if i < f.nquad {
         let q = f.quad[i];
-        return factor::disc_of(q.al, q.be);
+        return isolated::disc_of(q.al, q.be);
     }
-    factor::Disc {
+    isolated::Disc {
         disc: 0.0,
         root: 0.0,
     }
@@ -44,13 +44,13 @@ fn with_discs(f: factors::Factors) -> Rooted
 fn quartic_factors(b: f64, c: f64, d: f64, e: f64) -> Rooted
     ensures { λ r. ⌜ r ≡ rootedOf (quarticFactorsOf b c d e) ⌝ }
 {
-    let quads = factor::quartic_factor(b, c, d, e);
-    let s = factor::isolated(quads);
+    let quads = quartic::quartic_factor(b, c, d, e);
+    let s = isolated::isolated(quads);
     let far = s.far;
     match far {
-        factor::LoneRoot::At(r) => {
-            let p = factor::peel_root(b, c, d, e, r);
-            let k = factor::cubic_factor(p.h2, p.h1, p.h0);
+        isolated::LoneRoot::At(r) => {
+            let p = isolated::peel_root(b, c, d, e, r);
+            let k = cubic::cubic_factor(p.h2, p.h1, p.h0);
             with_discs(
                 factors::Factors::default()
                     .push_lin(p.r)
@@ -58,7 +58,7 @@ fn quartic_factors(b: f64, c: f64, d: f64, e: f64) -> Rooted
                     .push_quad(k.e, k.f),
             )
         }
-        factor::LoneRoot::None => {
+        isolated::LoneRoot::None => {
             let f = factors::Factors::default()
                 .push_quad(quads.al, quads.be)
                 .push_quad(quads.ga, quads.de);

@@ -14,7 +14,7 @@ use Rattle.float.specs.Literals.{zero64}
 use Rattle.float.specs.Methods.{absOf}
 use Rattle.sqrt.specs.Root.{sqrtOf}
 use Rattle.horner.specs.Product.{discriminantOf}
-use Rattle.factor.specs.Isolated.{farRootOf}
+use Rattle.isolated.specs.Isolated.{farRootOf}
 use Rattle.factors.specs.declared.Quad.{Quad}
 use Rattle.factors.specs.declared.Factors.{Factors}
 use Rattle.factors.specs.Factors.{quadOf, degreeOf}

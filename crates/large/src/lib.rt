@@ -1,5 +1,5 @@
 // The large factors of factorize: real roots and quadratic factors as units, by falling size, down to the gap.
-// It rests on `order`, `sqrt`, `horner`, `factor` and `factors`; factorize rests on it.
+// It rests on `order`, `sqrt`, `horner`, `isolated` and `factors`; factorize rests on it.
 ghost use mathlib.Core.Path.{_≡_};
 ghost use Prim.Native.Nat.{_+_, _≤_, _<_};
 ghost use lib.Ieee.{nan};
@@ -53,7 +53,7 @@ fn add_quad(u: Units, al: f64, be: f64) -> Units
 {
     let disc = horner::discriminant(al, be);
     if disc > 0.0 {
-        let q = factor::far_root(al, disc);
+        let q = isolated::far_root(al, disc);
         let v = add_real(u, q);
         return add_real(v, be / q);
     }

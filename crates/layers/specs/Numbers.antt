@@ -9,12 +9,12 @@ use Rattle.horner.specs.declared.ValueSlope.{ValueSlope}
 use Rattle.horner.specs.declared.Derivs.{Derivs}
 use Rattle.square.specs.declared.Step3.{Step3}
 use Rattle.square.specs.declared.Step4.{Step4}
-use Rattle.factor.specs.declared.CubicRoots.{CubicRoots}
-use Rattle.factor.specs.declared.CubicFactor.{CubicFactor}
-use Rattle.factor.specs.declared.QuarticFactor.{QuarticFactor}
-use Rattle.factor.specs.declared.LoneRoot.{LoneRoot}
-use Rattle.factor.specs.declared.LoneRoot.the-variants.{At, None}
-use Rattle.factor.specs.declared.Peeled.{Peeled}
+use Rattle.cubic.specs.declared.CubicRoots.{CubicRoots}
+use Rattle.cubic.specs.declared.CubicFactor.{CubicFactor}
+use Rattle.quartic.specs.declared.QuarticFactor.{QuarticFactor}
+use Rattle.isolated.specs.declared.LoneRoot.{LoneRoot}
+use Rattle.isolated.specs.declared.LoneRoot.the-variants.{At, None}
+use Rattle.isolated.specs.declared.Peeled.{Peeled}
 use Rattle.scaled.specs.declared.Scaled.{Scaled}
 use Rattle.split.specs.declared.Split.{Split}
 use Rattle.factors.specs.declared.Factors.{Factors}

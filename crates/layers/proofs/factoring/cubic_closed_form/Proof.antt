@@ -9,8 +9,8 @@ use lib.Ieee.{Float, lt, le}
 use Rattle.float.specs.Literals.{zero64}
 use Rattle.facts.specs.Cond.{either-way}
 use Rattle.float.proofs.Whole.{whole-exact}
-use Rattle.factor.specs.declared.CubicRoots.{CubicRoots}
-use Rattle.factor.specs.Cubic.{oneRootOf, threeRootsOf, depressedRootsOf, cubicClosedFormOf}
+use Rattle.cubic.specs.declared.CubicRoots.{CubicRoots}
+use Rattle.cubic.specs.Cubic.{oneRootOf, threeRootsOf, depressedRootsOf, cubicClosedFormOf}
 use Rattle.lent.proofs.Whole.{stored-as}
 use borrow.Author.Needs.{needs}
 use Rattle.layers.proofs.factoring.cubic_closed_form.Statement.{statement}

@@ -1,3 +1,0 @@
-pub mod Cubic
-pub mod Quartic
-pub mod Isolated
