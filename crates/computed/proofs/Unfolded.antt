@@ -36,7 +36,7 @@ use Rattle.band.specs.Critical.{criticalNext, criticalPointOf, extremumOf}
 use Rattle.band.specs.Quadratic as band
 use Rattle.polish.specs.Polish.{isLongOf, isSmallOf, polishNext, polishOf}
 use Rattle.asking.specs.Asking.{answered, _then_, each}
-use Rattle.inquiry.specs.Touching.{pairOrder, ordered, linkAt, contactOf, emitted, itemTurn, chained, touching}
+use Rattle.touching.specs.Touching.{pairOrder, ordered, linkAt, contactOf, emitted, itemTurn, chained, touching}
 
 -- doubles, loops, orders and leaves
 unfoldable pub arithmetic : ℕ

@@ -27,7 +27,7 @@ use Rattle.band.specs.Band.{withinBandOf, bare}
 use Rattle.band.specs.Quadratic.{pushQuadraticOf}
 use Rattle.polish.specs.Polish.{isLongOf, polishOf}
 use Rattle.asking.specs.Asking.{answered}
-use Rattle.inquiry.specs.Touching.{touching}
+use Rattle.touching.specs.Touching.{touching}
 use Rattle.computed.specs.Values.{_*2^_, _/2^_, minusZero, minusInf, factors, monic}
 use Rattle.computed.specs.Steps.{Steps}
 

@@ -96,7 +96,7 @@ pub fn crank(confusion: f64, a2: f64, b2: f64, c1: f64, d1: f64, e: f64) -> Cran
     let s = start(confusion, a2, b2, c1, d1, e);
     if s.number == 0 {
         let c = s.crank;
-        let replies = inquiry::Replies {
+        let replies = touching::Replies {
             reply: [false; 4],
             count: 4,
         };

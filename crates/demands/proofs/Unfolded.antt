@@ -38,7 +38,7 @@ use Rattle.poly.specs.Coefficients.{trimmedFrom, trimmedOf, zerosOf, refusalBy,
 use Rattle.poly.specs.Solve.{zeroRootsOf, candidatesOf, finishedOf, solveOf}
 use Rattle.poly.specs.RealRoots.{unscaledAll, answerOf, realRootsOf}
 use Rattle.asking.specs.Asking.{answered}
-use Rattle.inquiry.specs.Touching.{touchesAt, pairOrder, allApart, pairAt, pairTurn, ordered, contactOf, emitted, itemTurn, chained, touching}
+use Rattle.touching.specs.Touching.{touchesAt, pairOrder, allApart, pairAt, pairTurn, ordered, contactOf, emitted, itemTurn, chained, touching}
 use Rattle.inquiry.specs.Start.{realRootsTouching, startOf}
 use Rattle.equation.specs.Quadratic.{valuesOf, isGrazingOf, twoOf, solveQuadraticOf, quadraticOf}
 use Rattle.equation.specs.Crank.{unitOf, fAtOf, sampleOf, quarticOf, crankFrontOf}

@@ -17,7 +17,7 @@ use Rattle.poly.specs.Solve.{finishedOf, refusedBy, solveOf}
 use Rattle.poly.proofs.Refusals.{Told, told, solved-number, answered-is}
 use Rattle.poly.proofs.Sums.{solved-shared, solved-fits, poly-degree}
 use Rattle.asking.specs.Asking.{done, _then_, each}
-use Rattle.inquiry.specs.Touching.{pairOrder, ordered, emitted, chained, touching}
+use Rattle.touching.specs.Touching.{pairOrder, ordered, emitted, chained, touching}
 use Rattle.inquiry.specs.Inquiry.{soundOf, asking}
 use Rattle.inquiry.specs.Start.{realRootsTouching, freshBy, startOf}
 use Rattle.inquiry.proofs.Sound.{sound-holds}

@@ -1,7 +1,5 @@
-pub mod Lists
-pub mod Steps
 pub mod Sound
-pub mod Bound
+pub mod Ends
 pub mod Shown
 pub mod Questions
 pub mod Fresh

@@ -14,10 +14,11 @@ use Rattle.roots.proofs.Sums.{length-counted}
 use Rattle.asking.specs.Asking.{Stage, asks, ended, walked}
 use Rattle.asking.specs.Within.{AtStage}
 use Rattle.asking.proofs.Within.{walked-within}
+use Rattle.touching.specs.Replies.{repliesOf}
+use Rattle.touching.proofs.Bound.{ListedIn, touching-within}
 use Rattle.inquiry.specs.declared.Inquiry.{Inquiry}
-use Rattle.inquiry.specs.Inquiry.{repliesOf, soundOf, asking, shown, nothing, askedOf, withReply, repliedOf}
+use Rattle.inquiry.specs.Inquiry.{soundOf, asking, shown, nothing, askedOf, withReply, repliedOf}
 use Rattle.inquiry.proofs.Sound.{sound-is}
-use Rattle.inquiry.proofs.Bound.{ListedIn, touching-within}
 
 -- what asks is sound, and at a question
 asks-sound : (q : Inquiry) → askedOf q .asking ≡ true → (soundOf q ≡ true) × (shown (walked (repliesOf (q .replies)) (asking q)) .asking ≡ true)

@@ -13,10 +13,11 @@ use Rattle.roots.proofs.Sums.{counted, length-counted}
 use Rattle.asking.specs.Asking.{Stage, asks, ended, walked}
 use Rattle.asking.specs.Within.{AtStage}
 use Rattle.asking.proofs.Within.{walked-within}
+use Rattle.touching.specs.Replies.{repliesOf}
+use Rattle.touching.proofs.Bound.{ListedIn, touching-within}
 use Rattle.inquiry.specs.declared.Inquiry.{Inquiry}
-use Rattle.inquiry.specs.Inquiry.{repliesOf, soundOf, asking, shown, nothing, askedOf}
+use Rattle.inquiry.specs.Inquiry.{soundOf, asking, shown, nothing, askedOf}
 use Rattle.inquiry.proofs.Sound.{sound-is}
-use Rattle.inquiry.proofs.Bound.{ListedIn, touching-within}
 
 stage-fits : (d : ℕ) (X : Type 0) (s : Stage (List RealRoot)) → d ≤ 4 → AtStage X (ListedIn d) s → Fits (shown s .list)
 unfolding shown

@@ -14,9 +14,9 @@ use Rattle.roots.specs.Roots.{listOf}
 use Rattle.roots.specs.Listed.{multiplicities, Counted, Fits, blank}
 use Rattle.roots.proofs.Laws.{roots-cons, roots-nil, length-list}
 use Rattle.roots.proofs.Sums.{length-counted}
+use Rattle.touching.specs.Walk.{Held}
 use Rattle.inquiry.specs.declared.Inquiry.{Inquiry}
 use Rattle.inquiry.specs.Inquiry.{countedIn, sizesFit, soundOf}
-use Rattle.inquiry.specs.Walk.{Held}
 
 -- ---- the loop over the roots
 module _ (s : Roots) (k : ℕ) (fit : Fits s) (n : ℕ) where

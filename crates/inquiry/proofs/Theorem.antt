@@ -24,13 +24,14 @@ use Rattle.asking.specs.Asking.{Asking, answered, placesAsked, walked, asks}
 use Rattle.asking.specs.Within.{Within}
 use Rattle.asking.proofs.Feeding.{question, finish}
 use Rattle.asking.proofs.Within.{answered-within, places-within}
+use Rattle.touching.specs.Replies.{repliesOf}
+use Rattle.touching.proofs.Bound.{ListedIn, touching-within}
 use Rattle.inquiry.specs.declared.Inquiry.{Inquiry}
 use Rattle.inquiry.specs.declared.Asked.{Asked}
-use Rattle.inquiry.specs.Inquiry.{repliesOf, soundOf, asking, shown, nothing, askedOf, withReply, repliedOf}
+use Rattle.inquiry.specs.Inquiry.{soundOf, asking, shown, nothing, askedOf, withReply, repliedOf}
 use Rattle.inquiry.specs.Start.{realRootsTouching, startOf, fed}
 use Rattle.inquiry.specs.Claims.{Fed}
 use Rattle.inquiry.proofs.Sound.{Sound, sound-is, sound-holds}
-use Rattle.inquiry.proofs.Bound.{ListedIn, touching-within}
 use Rattle.inquiry.proofs.Questions.{reply-taken, reply-refused}
 use Rattle.inquiry.proofs.Fresh.{start-sound, start-asks}
 

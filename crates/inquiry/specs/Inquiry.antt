@@ -1,22 +1,17 @@
 -- An inquiry: what `solve` and `finish` gave, and the replies so far. It shows a question about a place, or the finished list. Definitions only.
 use mathlib.Core.Bool.{Bool, true, false, cond, _&&_}
 use mathlib.Core.List.{List, [], _∷_}
-use Prim.Native.Nat.{ℕ, _+_, _-_, _*_}
+use Prim.Native.Nat.{ℕ, _-_, _*_}
 use lib.Dec.{ltb, leb}
-use lib.ListN.{take, set}
 use Rattle.float.specs.Literals.{zero64}
 use Rattle.roots.specs.declared.RealRoot.{RealRoot}
 use Rattle.roots.specs.Roots.{listOf, rootsOf, noRoots, pairListOf}
 use Rattle.asking.specs.Asking.{Asking, Stage, asks, ended, walked}
-use Rattle.inquiry.specs.declared.Replies.{Replies}
+use Rattle.touching.specs.Touching.{touching}
+use Rattle.touching.specs.Replies.{repliesOf, repliedBy}
 use Rattle.inquiry.specs.declared.Inquiry.{Inquiry}
 use Rattle.inquiry.specs.declared.Asked.{Asked}
 use Rattle.inquiry.specs.declared.Replied.{Replied}
-use Rattle.inquiry.specs.Touching.{touching}
-
--- the replies that count
-abbrev pub repliesOf : Replies → List Bool
-repliesOf s = take (s .count) (s .reply)
 
 -- ---- which values ask
 -- each root counts at least once, and together they count at most n times
@@ -54,10 +49,6 @@ unfolding soundOf shown
 askedOf q = cond (soundOf q) (shown (walked (repliesOf (q .replies)) (asking q))) nothing
 
 -- ---- a reply
--- one reply more
-abbrev pub repliedBy : Replies → Bool → Replies
-repliedBy s r = record { reply = set (s .reply) (s .count) r; count = s .count + 1 }
-
 -- the inquiry with one reply more
 abbrev pub withReply : Inquiry → Bool → Inquiry
 withReply q r = record { poly = q .poly; tol = q .tol; roots = q .roots; pairs = q .pairs; replies = repliedBy (q .replies) r }

@@ -1,5 +1,3 @@
-pub mod Touching
 pub mod Inquiry
-pub mod Walk
 pub mod Start
 pub mod Claims

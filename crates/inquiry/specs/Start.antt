@@ -11,9 +11,9 @@ use Rattle.poly.specs.declared.Solved.{Solved}
 use Rattle.poly.specs.Coefficients.{refusalOf}
 use Rattle.poly.specs.Solve.{solveOf}
 use Rattle.asking.specs.Asking.{Asking, done, answered, placesAsked}
+use Rattle.touching.specs.Touching.{touching}
 use Rattle.inquiry.specs.declared.Inquiry.{Inquiry}
 use Rattle.inquiry.specs.declared.Started.{Started}
-use Rattle.inquiry.specs.Touching.{touching}
 use Rattle.inquiry.specs.Inquiry.{askedOf, repliedOf}
 
 -- ---- the Rust's function

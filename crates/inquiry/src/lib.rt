@@ -1,29 +1,20 @@
 // real_roots_touching of poly.rs as an inquiry: a value that shows a question about a place, or the finished list.
-// Nothing is suspended in it: `ask` walks anew, with the replies at hand. It rests on `poly` (solve), `finish`, `band` (extremum), `scale` and `asking`, which says what
-// a computation that asks is.
+// Nothing is suspended in it: `ask` walks anew, with the replies at hand. It rests on `poly` (solve), `touching` (the walk), `finish` and `asking`, which says what
+// a computation that asks is; the crank and the programs rest on it.
 ghost use mathlib.Core.Path.{_≡_};
-ghost use Prim.Native.Nat.{_≤_, _<_};
+ghost use Prim.Native.Nat.{_≤_};
 ghost use mathlib.Core.Bool.{true};
 ghost use Rattle.roots.specs.Roots.{listOf, pairListOf};
 ghost use Rattle.roots.specs.Listed.{multiplicities, Fits};
 ghost use Rattle.asking.specs.Asking.{asks, walked};
-ghost use Rattle.inquiry.specs.Touching.{chained, touching};
-ghost use Rattle.inquiry.specs.Inquiry.{repliesOf, countedIn, sizesFit, soundOf, shown, nothing, askedOf, repliedBy, repliedOf};
+ghost use Rattle.touching.specs.Touching.{chained, touching};
+ghost use Rattle.touching.specs.Replies.{repliesOf};
+ghost use Rattle.touching.specs.Walk.{leftOf, RepliesFit, Held};
+ghost use Rattle.inquiry.specs.Inquiry.{countedIn, sizesFit, soundOf, shown, nothing, askedOf, repliedOf};
 ghost use Rattle.inquiry.specs.Start.{startOf};
-ghost use Rattle.inquiry.specs.Walk.{leftOf, RepliesFit, Held};
-
-mod chains;
-mod items;
-
-use crate::chains::chains;
-use crate::chains::emit;
-use crate::items::pairs;
-
-// The replies so far: at most degree - 1.
-pub struct Replies {
-    pub reply: [bool; 4],
-    pub count: usize,
-}
+use touching::chains::chains;
+use touching::chains::emit;
+use touching::items::pairs;
 
 // What `solve` and `finish` gave, in the scaled variable, the tolerance, and the replies.
 pub struct Inquiry {
@@ -31,7 +22,7 @@ pub struct Inquiry {
     pub tol: f64,
     pub roots: roots::Roots,
     pub pairs: roots::Pairs,
-    pub replies: Replies,
+    pub replies: touching::Replies,
 }
 
 // An inquiry, and 0; or the number of the refusal, and an inquiry that asks nothing and lists nothing.
@@ -51,40 +42,6 @@ pub struct Asked {
 pub struct Replied {
     pub number: u32,
     pub inquiry: Inquiry,
-}
-
-// Roots linked by touching critical points between them; none where mult is 0.
-pub struct Chain {
-    pub first: f64,
-    pub last: f64,
-    pub at: f64,
-    pub touching: u32,
-    pub mult: u32,
-}
-
-// What touches_at came to: a reply, or a place that has none yet. `used` replies are behind it.
-pub struct Heard {
-    pub yes: bool,
-    pub used: usize,
-    pub asking: bool,
-    pub place: f64,
-}
-
-// The items so far, likewise.
-pub struct Walk {
-    pub items: roots::Roots,
-    pub used: usize,
-    pub asking: bool,
-    pub place: f64,
-}
-
-// The chain at hand and the list so far, likewise.
-pub struct Links {
-    pub chain: Chain,
-    pub out: roots::Roots,
-    pub used: usize,
-    pub asking: bool,
-    pub place: f64,
 }
 
 fn nothing() -> Asked
@@ -112,7 +69,7 @@ fn question(place: f64) -> Asked
 fn finished(
     poly: scaled::Scaled,
     tol: f64,
-    replies: Replies,
+    replies: touching::Replies,
     its: roots::Roots,
     used: usize,
 ) -> Asked
@@ -174,7 +131,7 @@ fn sizes_fit(d: usize, replies: usize, roots: usize, pairs: usize) -> bool
 fn walk_all(
     poly: scaled::Scaled,
     tol: f64,
-    replies: Replies,
+    replies: touching::Replies,
     items: roots::Roots,
     ps: roots::Pairs,
 ) -> Asked
@@ -201,7 +158,7 @@ pub fn start(coeffs: &[f64], tol: f64) -> Started
     let poly = s.poly;
     let roots = s.roots;
     let pairs = s.pairs;
-    let replies = Replies {
+    let replies = touching::Replies {
         reply: [false; 4],
         count: 0,
     };
@@ -215,20 +172,6 @@ pub fn start(coeffs: &[f64], tol: f64) -> Started
     Started {
         number: s.number,
         inquiry,
-    }
-}
-
-impl Replies {
-    // One reply more.
-    fn with(self, yes: bool) -> Replies
-        requires { ⌜ self .count < 4 ⌝ }
-        ensures { λ r. ⌜ r ≡ repliedBy self yes ⌝ }
-    {
-        let at = self.count;
-        let mut out = self;
-        out.reply[at] = yes;
-        out.count = at + 1;
-        out
     }
 }
 

@@ -4,7 +4,7 @@ use mir.Facts.{toZ-ofZ}
 use mir.Syntax.{w32}
 use mir.Val.{SFits}
 use Rattle.roots.specs.Roots.{rootsOf}
-use Rattle.inquiry.proofs.Steps.{finish-asks, finish-ends}
+use Rattle.inquiry.proofs.Ends.{finish-asks, finish-ends}
 use borrow.Author.Needs.{needs}
 use Rattle.inquiry.proofs.finished.Statement.{statement}
 use Rattle.inquiry.proofs.finished.Tie as tie

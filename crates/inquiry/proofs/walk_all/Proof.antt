@@ -4,8 +4,8 @@ use native.Mathlib.Omega.{arith}
 use Rattle.facts.specs.Lists.{length-mapped}
 use Rattle.roots.specs.Roots.{listOf, pairListOf}
 use Rattle.roots.specs.Listed.{multiplicities}
-use Rattle.inquiry.proofs.Lists.{pairs-none, pairs-some, multiplicities-byValue}
-use Rattle.inquiry.proofs.Steps.{ask-asks, ask-ends, ordered-none, ordered-some}
+use Rattle.touching.proofs.Lists.{pairs-none, pairs-some, multiplicities-byValue}
+use Rattle.inquiry.proofs.Ends.{ask-asks, ask-ends, ordered-none, ordered-some}
 use borrow.Author.Needs.{needs}
 use Rattle.inquiry.proofs.walk_all.Statement.{statement}
 use Rattle.inquiry.proofs.walk_all.Tie as tie

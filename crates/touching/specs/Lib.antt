@@ -1,0 +1,3 @@
+pub mod Touching
+pub mod Replies
+pub mod Walk
