@@ -15,8 +15,8 @@ use crate::quadratics::{quadratic, solution};
 use crate::random::Random;
 use crate::roots::{shown, tolerance_for};
 use crate::telling::{self, Telling};
-use crate::trees::Tree;
-use std::panic;
+use crate::trees::{REFERENCE, Tree};
+use std::{panic, process};
 
 include!(concat!(env!("OUT_DIR"), "/mutants.rs"));
 
@@ -184,7 +184,8 @@ impl Mutant {
     }
 }
 
-/// Made inputs of a sort, until all are noticed or `count` is reached.
+/// Made inputs of a sort, until all are noticed or `count` is reached. The reference build without a
+/// mistake must answer each as the port does.
 fn try_sort(all: &mut [Mutant], sort: usize, count: u64, seed: u64) {
     let mut r = Random::new(seed);
     let mut live: Vec<&mut Mutant> =
@@ -195,6 +196,10 @@ fn try_sort(all: &mut [Mutant], sort: usize, count: u64, seed: u64) {
         }
         let input = Input::made(&mut r, sort, n);
         let given = input.by_port();
+        if !input.by(&REFERENCE).same(&given) {
+            eprintln!("{}: the reference build itself differs at {}", SORTS[sort], input.text());
+            process::exit(2);
+        }
         live.retain_mut(|mutant| {
             let same = mutant.same(&input, &given);
             if !same {

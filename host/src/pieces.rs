@@ -101,8 +101,9 @@ macro_rules! pieces {
             let mut found = candidates();
             s.push_quadratic(al, be, p.tol, &mut found, &mut pairs);
             let done = s.finish(candidates(), p.tol);
-            let numbers = |c: &poly::Candidates| {
-                [&[c.len as f64][..], &c.value, &c.mult.map(f64::from)].concat()
+            let numbers = |c: &poly::Candidates| -> Vec<f64> {
+                let each = c.value.into_iter().zip(c.mult).flat_map(|(x, m)| [x, f64::from(m)]);
+                [c.len as f64].into_iter().chain(each).collect()
             };
             [
                 &[f.nlin as f64][..],

@@ -1,8 +1,13 @@
 //! The copies of geomcore's Rust: document 01's entries of inquiries, quadratics and cranks by the
-//! reference build. Lists: tests/lists.rs.
+//! reference build. Lists: tests/lists.rs. And that a copy's functions below whole lists are asked
+//! and answer in the order of the port's, as the search for mistakes takes them.
 #![cfg(geomcore)]
+use host::compare::bits;
+use host::pieces::Pieces;
+use host::random::Random;
 use host::reference::patched;
 use host::reference::patched::equation::{QuadraticSolution, solve_quadratic, solve_trig};
+use host::trees::REFERENCE;
 use std::cell::RefCell;
 
 const TOL: f64 = 1.0 / (1u64 << 30) as f64;
@@ -59,4 +64,14 @@ fn cranks() {
     assert_eq!(crank(0.0, 0.0, 1.0, 0.0, 0.0), (4, vec![(minus_one, 1), (ONE, 1)]));
     assert_eq!(crank(0.0, 0.0, 0.0, 0.0, 1.0).0, 7);
     assert_eq!(crank(1.0, 0.0, 0.0, 0.0, 0.0).0, 6);
+}
+
+#[test]
+fn pieces() {
+    let mut r = Random::new(1301);
+    for n in 0..50_000 {
+        let p = Pieces::made(&mut r, n);
+        let by = |all: Vec<f64>| -> Vec<u64> { all.into_iter().map(bits).collect() };
+        assert_eq!(by(p.by_port()), by((REFERENCE.pieces)(&p)), "{n}");
+    }
 }
