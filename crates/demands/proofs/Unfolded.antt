@@ -40,8 +40,9 @@ use Rattle.poly.specs.RealRoots.{unscaledAll, answerOf, realRootsOf}
 use Rattle.asking.specs.Asking.{answered}
 use Rattle.touching.specs.Touching.{touchesAt, pairOrder, allApart, pairAt, pairTurn, ordered, contactOf, emitted, itemTurn, chained, touching}
 use Rattle.inquiry.specs.Start.{realRootsTouching, startOf}
-use Rattle.equation.specs.Quadratic.{valuesOf, isGrazingOf, twoOf, solveQuadraticOf, quadraticOf}
-use Rattle.equation.specs.Crank.{unitOf, fAtOf, sampleOf, quarticOf, crankFrontOf}
+use Rattle.solution.specs.Solution.{valuesOf}
+use Rattle.equation.specs.Quadratic.{isGrazingOf, twoOf, solveQuadraticOf, quadraticOf}
+use Rattle.front.specs.Crank.{unitOf, fAtOf, sampleOf, quarticOf, crankFrontOf}
 use Rattle.crank.specs.Crank.{crankStartOf, crankOf}
 use Rattle.text.specs.Digits.{hexDigit, hexDigits, decimal}
 use Rattle.hall.specs.File.{listing}

@@ -13,10 +13,11 @@ use Rattle.float.specs.Literals.{zero64}
 use Rattle.float.specs.Methods.{absOf, copysignOf, allFiniteOf}
 use Rattle.sqrt.specs.Root.{sqrtOf}
 use Rattle.sqrt.proofs.Size.{signed-root}
-use Rattle.equation.specs.declared.QuadraticSolution.{QuadraticSolution}
-use Rattle.equation.specs.declared.QuadraticSolution.the-variants.{One, Empty}
+use Rattle.solution.specs.declared.QuadraticSolution.{QuadraticSolution}
+use Rattle.solution.specs.declared.QuadraticSolution.the-variants.{One, Empty}
 use Rattle.equation.specs.declared.QuadraticAnswer.{QuadraticAnswer}
-use Rattle.equation.specs.Quadratic.{valuesOf, midOf, discOf, isGrazingOf, twoOf, solveQuadraticOf, refusedBy, quadraticOf}
+use Rattle.solution.specs.Solution.{valuesOf}
+use Rattle.equation.specs.Quadratic.{midOf, discOf, isGrazingOf, twoOf, solveQuadraticOf, refusedBy, quadraticOf}
 
 -- where |a| is above `angular`: with the one root that the code takes, and its test
 module _ (a b c confusion angular : Float) {s size root : Float} {grazing : Bool} (is-s : s ≡ absOf a) (curved : le s angular ≡ false)

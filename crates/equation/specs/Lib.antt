@@ -1,2 +1,1 @@
 pub mod Quadratic
-pub mod Crank

@@ -1,49 +1,16 @@
--- `QuadraticSolution`, `quadratic_centre` and `solve_quadratic` of equation.rs, and the quadratic that document 01 answers or refuses. Tolerances are taken as they are: a NaN
+-- `quadratic_centre` and `solve_quadratic` of equation.rs, and the quadratic that document 01 answers or refuses. Tolerances are taken as they are: a NaN
 -- or a negative one is not read as 0. Definitions only.
 use mathlib.Core.Bool.{Bool, cond, _&&_}
-use mathlib.Core.List.{List, [], _∷_}
+use mathlib.Core.List.{[], _∷_}
 use Prim.Native.Nat.{ℕ}
 use lib.Ieee.{Float, binary64, add, sub, mul, div, neg, lt, le}
 use Rattle.float.specs.Literals.{zero64, epsilon64, half64, one64, two64, four64}
 use Rattle.float.specs.Methods.{absOf, isFiniteOf, copysignOf, minOf, maxOf, allFiniteOf}
 use Rattle.sqrt.specs.Root.{sqrtOf}
-use Rattle.equation.specs.declared.QuadraticSolution.{QuadraticSolution}
-use Rattle.equation.specs.declared.QuadraticSolution.the-variants.{Two, One, Linear, Degenerate, Empty}
+use Rattle.solution.specs.declared.QuadraticSolution.{QuadraticSolution}
+use Rattle.solution.specs.declared.QuadraticSolution.the-variants.{Two, One, Linear, Degenerate, Empty}
+use Rattle.solution.specs.Solution.{valuesOf}
 use Rattle.equation.specs.declared.QuadraticAnswer.{QuadraticAnswer}
-
--- ---- what an answer says
-
--- its word's place among `two`, `one`, `linear`, `degenerate`, `empty`
-unfoldable pub numberOf : QuadraticSolution → ℕ
-numberOf (Two x y) = 0
-numberOf (One x) = 1
-numberOf (Linear x) = 2
-numberOf Degenerate = 3
-numberOf Empty = 4
-
--- its places
-unfoldable pub valuesOf : QuadraticSolution → List Float
-valuesOf (Two x y) = x ∷ y ∷ []
-valuesOf (One x) = x ∷ []
-valuesOf (Linear x) = x ∷ []
-valuesOf Degenerate = []
-valuesOf Empty = []
-
--- `shifted`: every place moved by t0
-unfoldable pub shiftedOf : QuadraticSolution → Float → QuadraticSolution
-shiftedOf (Two x y) t0 = Two (add binary64 t0 x) (add binary64 t0 y)
-shiftedOf (One x) t0 = One (add binary64 t0 x)
-shiftedOf (Linear x) t0 = Linear (add binary64 t0 x)
-shiftedOf Degenerate t0 = Degenerate
-shiftedOf Empty t0 = Empty
-
--- `touching_at`: two places or none become the vertex, where it is finite and the reply is yes
-unfoldable pub touchingAtOf : QuadraticSolution → Float → Bool → QuadraticSolution
-touchingAtOf (Two x y) vertex reply = cond (isFiniteOf vertex && reply) (One vertex) (Two x y)
-touchingAtOf (One x) vertex reply = One x
-touchingAtOf (Linear x) vertex reply = Linear x
-touchingAtOf Degenerate vertex reply = Degenerate
-touchingAtOf Empty vertex reply = cond (isFiniteOf vertex && reply) (One vertex) Empty
 
 -- ---- the equation a*t^2 + b*t + c = 0
 

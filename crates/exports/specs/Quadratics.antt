@@ -5,10 +5,10 @@ use Prim.Native.Nat.{ℕ}
 use lib.Dec.{eqb}
 use lib.ListN.{getD}
 use lib.Ieee.{Float, nan}
-use Rattle.equation.specs.declared.QuadraticSolution.{QuadraticSolution}
-use Rattle.equation.specs.declared.QuadraticSolution.the-variants.{Two, One, Linear, Degenerate, Empty}
-use Rattle.equation.specs.declared.Crank.{Crank}
-use Rattle.equation.specs.Quadratic.{numberOf, valuesOf}
+use Rattle.solution.specs.declared.QuadraticSolution.{QuadraticSolution}
+use Rattle.solution.specs.declared.QuadraticSolution.the-variants.{Two, One, Linear, Degenerate, Empty}
+use Rattle.front.specs.declared.Crank.{Crank}
+use Rattle.solution.specs.Solution.{numberOf, valuesOf}
 use Rattle.lent.specs.Numbers.{number, five}
 
 -- the answer whose number is n, with its places: empty from 4 on

@@ -2,13 +2,14 @@
 // and second place, NaN where there is none. What is said is how many bytes are stored, or the number of the refusal, or 0 where the bytes lent are too few: nothing is
 // stored then.
 ghost use mathlib.Core.Path.{_≡_};
-ghost use Rattle.equation.specs.Quadratic.{shiftedOf, touchingAtOf, quadraticCentreOf, solveQuadraticOf, quadraticOf};
-ghost use Rattle.equation.specs.Crank.{crankFrontOf};
+ghost use Rattle.solution.specs.Solution.{shiftedOf, touchingAtOf};
+ghost use Rattle.equation.specs.Quadratic.{quadraticCentreOf, solveQuadraticOf, quadraticOf};
+ghost use Rattle.front.specs.Crank.{crankFrontOf};
 ghost use Rattle.lent.specs.Bytes.{Answered, Stored};
 ghost use Rattle.exports.specs.Quadratics.{solutionOf, solutionNumbers, frontNumbers};
-use equation::QuadraticSolution;
 use lent::answer;
 use lent::store;
+use solution::QuadraticSolution;
 
 fn solution_numbers(s: QuadraticSolution) -> [f64; 3]
     ensures { λ r. ⌜ r ≡ solutionNumbers s ⌝ }
@@ -102,7 +103,7 @@ pub extern "C" fn touching_at(
 pub extern "C" fn crank_front(a2: f64, b2: f64, c1: f64, d1: f64, e: f64, out: &mut [u8]) -> u64
     ensures { λ r. ⌜ Answered (crankFrontOf a2 b2 c1 d1 e .number) (frontNumbers (crankFrontOf a2 b2 c1 d1 e)) (now (out .entry)) r (now (out .exit)) ⌝ }
 {
-    let x = equation::crank_front(a2, b2, c1, d1, e);
+    let x = front::crank_front(a2, b2, c1, d1, e);
     let q = x.q;
     answer(out, x.number, &[x.k as f64, q[0], q[1], q[2], q[3], q[4]])
 }

@@ -27,9 +27,10 @@ use Rattle.poly.specs.Solve.{solveOf}
 use Rattle.poly.specs.RealRoots.{unscaledAll, answerOf, realRootsOf}
 use Rattle.poly.proofs.Refusals.{trimmed-is, number-most, no-root, stands-for, refusal-most}
 use Rattle.poly.proofs.Sums.{answer-within}
-use Rattle.equation.specs.Quadratic.{valuesOf, solveQuadraticOf, quadraticOf}
-use Rattle.equation.specs.declared.Crank.{Crank}
-use Rattle.equation.specs.Crank.{crankFrontOf}
+use Rattle.solution.specs.Solution.{valuesOf}
+use Rattle.equation.specs.Quadratic.{solveQuadraticOf, quadraticOf}
+use Rattle.front.specs.declared.Crank.{Crank}
+use Rattle.front.specs.Crank.{crankFrontOf}
 use Rattle.inquiry.proofs.Fresh.{start-number}
 use Rattle.crank.specs.Crank.{trigQuarticOf, solveTrigOf, crankStartOf, crankOf}
 use Rattle.crank.specs.Claims.{Cranks}

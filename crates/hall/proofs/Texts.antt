@@ -17,8 +17,8 @@ use Rattle.roots.specs.Roots.{listOf}
 use Rattle.roots.specs.Listed.{multiplicities, blank}
 use Rattle.roots.proofs.Laws.{roots-cons, length-list}
 use Rattle.poly.specs.declared.Answer.{Answer}
-use Rattle.equation.specs.declared.QuadraticSolution.{QuadraticSolution}
-use Rattle.equation.specs.declared.QuadraticSolution.the-variants.{Two, One, Linear, Degenerate, Empty}
+use Rattle.solution.specs.declared.QuadraticSolution.{QuadraticSolution}
+use Rattle.solution.specs.declared.QuadraticSolution.the-variants.{Two, One, Linear, Degenerate, Empty}
 use Rattle.equation.specs.declared.QuadraticAnswer.{QuadraticAnswer}
 use Rattle.crank.specs.declared.CrankAnswer.{CrankAnswer}
 use Rattle.hall.specs.declared.records.Kind.{Kind}

@@ -9,8 +9,8 @@ use Rattle.roots.specs.declared.RealRoot.{RealRoot}
 use Rattle.roots.specs.declared.Roots.{Roots}
 use Rattle.roots.specs.Roots.{listOf}
 use Rattle.poly.specs.declared.Answer.{Answer}
-use Rattle.equation.specs.declared.QuadraticSolution.{QuadraticSolution}
-use Rattle.equation.specs.declared.QuadraticSolution.the-variants.{Two, One, Linear, Degenerate, Empty}
+use Rattle.solution.specs.declared.QuadraticSolution.{QuadraticSolution}
+use Rattle.solution.specs.declared.QuadraticSolution.the-variants.{Two, One, Linear, Degenerate, Empty}
 use Rattle.equation.specs.declared.QuadraticAnswer.{QuadraticAnswer}
 use Rattle.crank.specs.declared.CrankAnswer.{CrankAnswer}
 use Rattle.hall.specs.declared.records.Kind.{Kind}

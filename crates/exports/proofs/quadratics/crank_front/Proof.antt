@@ -4,7 +4,7 @@ use Rattle.exports.specs.Quadratics.{frontNumbers}
 use native.Mathlib.Omega.{arith}
 use mathlib.Core.Path.{subst⁻¹, ap}
 use Prim.Native.Nat.{_<_}
-use Rattle.equation.specs.declared.Crank.{Crank}
+use Rattle.front.specs.declared.Crank.{Crank}
 use Rattle.float.proofs.Whole.{whole-exact}
 use Rattle.crank.proofs.Front.{front-below}
 use Rattle.lent.proofs.Whole.{answered-as}

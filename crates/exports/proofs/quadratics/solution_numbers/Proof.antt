@@ -1,7 +1,7 @@
 -- `exports::quadratics::solution_numbers` meets its contract: by its cases.
 -- Assumes nothing.
 use lib.Ieee.{ofBits, div, ofInt}
-use Rattle.equation.specs.Quadratic.{numberOf, valuesOf}
+use Rattle.solution.specs.Solution.{numberOf, valuesOf}
 use Rattle.exports.specs.Quadratics.{solutionNumbers}
 use borrow.Author.Needs.{needs}
 use Rattle.exports.proofs.quadratics.solution_numbers.Statement.{statement}
