@@ -1,3 +1,1 @@
 pub mod Laws
-pub mod Lists
-pub mod Vectors

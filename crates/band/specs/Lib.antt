@@ -1,3 +1,1 @@
 pub mod Band
-pub mod Critical
-pub mod Quadratic

@@ -16,8 +16,8 @@ use Rattle.roots.specs.declared.Pairs.{Pairs}
 use Rattle.roots.specs.Roots.{rootsOf}
 use Rattle.roots.specs.Listed.{multiplicities, Fits, PairsFit}
 use Rattle.roots.proofs.Laws.{roots-fit, kept-fits, paired-fits}
-use Rattle.band.specs.declared.Found.{Found}
-use Rattle.band.specs.Quadratic.{Factor, double, apart, complex, quadraticOf, pushFactorIn, pushQuadraticIn}
+use Rattle.push.specs.declared.Found.{Found}
+use Rattle.push.specs.Quadratic.{Factor, double, apart, complex, quadraticOf, pushFactorIn, pushQuadraticIn}
 use Rattle.finish.specs.Finish.{finishOf}
 use Rattle.finish.proofs.Counts.{finish-counts}
 use Rattle.lent.proofs.Five.{none-holds}

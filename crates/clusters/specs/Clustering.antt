@@ -14,10 +14,10 @@ use Rattle.roots.specs.declared.Pair.{Pair}
 use Rattle.roots.specs.declared.Pairs.{Pairs}
 use Rattle.roots.specs.Roots.{root, pair, listOf, rootsOf}
 use Rattle.roots.specs.Listed.{blank, blankPair}
-use Rattle.band.specs.declared.TurningPoint.{TurningPoint}
-use Rattle.band.specs.declared.TurningPoint.the-variants.{At, None}
-use Rattle.band.specs.declared.Found.{Found}
-use Rattle.band.specs.Quadratic.{pushQuadraticIn}
+use Rattle.critical.specs.declared.TurningPoint.{TurningPoint}
+use Rattle.critical.specs.declared.TurningPoint.the-variants.{At, None}
+use Rattle.push.specs.declared.Found.{Found}
+use Rattle.push.specs.Quadratic.{pushQuadraticIn}
 use Rattle.finish.specs.Finish.{finishOf}
 use Rattle.lent.specs.Bytes.{fiveAt, lacksFive, unless}
 use Rattle.lent.specs.Numbers.{number}

@@ -11,7 +11,7 @@ ghost use lib.Ieee.{nan};
 ghost use Rattle.roots.specs.Roots.{listOf};
 ghost use Rattle.roots.specs.Listed.{multiplicities, Fits, PairsFit};
 ghost use Rattle.band.specs.Band.{noiseOf, bandOf, withinBandOf};
-ghost use Rattle.band.specs.Critical.{criticalPointOf, extremumOf};
+ghost use Rattle.critical.specs.Critical.{criticalPointOf, extremumOf};
 ghost use Rattle.polish.specs.Polish.{polishOf};
 ghost use Rattle.lent.specs.Bytes.{lacksFive, unless, Stored};
 ghost use Rattle.clusters.specs.Clustering.{polyAt, turningOrNan, candidateAt, lacksOf, candidatesAt, pairsAt, rootNumbers, foundNumbers, pushedNumbers, finishedNumbers};
@@ -63,7 +63,7 @@ pub extern "C" fn critical_point(a: &[u8], d: u64, y: f64, lo: f64, hi: f64) -> 
     if lacks_five(a, d) {
         return 0.0 / 0.0;
     }
-    band::critical_point(poly_at(a, d), y, lo, hi)
+    critical::critical_point(poly_at(a, d), y, lo, hi)
 }
 
 // The place, NaN where there is none.
@@ -74,10 +74,10 @@ pub extern "C" fn extremum(a: &[u8], d: u64, y: f64, lo: f64, hi: f64, tol: f64)
     if lacks_five(a, d) {
         return 0.0 / 0.0;
     }
-    let found = band::extremum(poly_at(a, d), y, lo, hi, tol);
+    let found = critical::extremum(poly_at(a, d), y, lo, hi, tol);
     match found {
-        band::TurningPoint::At(x) => x,
-        band::TurningPoint::None => 0.0 / 0.0,
+        critical::TurningPoint::At(x) => x,
+        critical::TurningPoint::None => 0.0 / 0.0,
     }
 }
 
@@ -178,7 +178,7 @@ pub fn root_numbers(s: roots::Roots) -> [f64; 9]
     ]
 }
 
-fn found_numbers(s: band::Found) -> [f64; 14]
+fn found_numbers(s: push::Found) -> [f64; 14]
     requires { ⌜ Fits (s .roots) ⌝ ∗ ⌜ PairsFit (s .pairs) ⌝ }
     ensures { λ r. ⌜ r ≡ foundNumbers s ⌝ }
 {
@@ -226,7 +226,7 @@ pub extern "C" fn push_quadratic(
     if lacks(c, 68, n, m) {
         return 0;
     }
-    let s = band::push_quadratic(
+    let s = push::push_quadratic(
         poly_at(a, d),
         al,
         be,

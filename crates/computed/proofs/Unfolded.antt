@@ -32,8 +32,8 @@ use Rattle.quotient.specs.Quotient.{termOf, nextAt, mulOf, productOf, accOf, qu
 use Rattle.factorize.specs.Factorize.{pairedOf, quarticFactorsOf, outOf, secondOf, factorsFrom, factorizeOf}
 use Rattle.roots.specs.Roots.{held, kept, paired}
 use Rattle.band.specs.Band.{magnitudeStep, magnitudeOf, budgetOf, baseOf, withinBandOf}
-use Rattle.band.specs.Critical.{criticalNext, criticalPointOf, extremumOf}
-use Rattle.band.specs.Quadratic as band
+use Rattle.critical.specs.Critical.{criticalNext, criticalPointOf, extremumOf}
+use Rattle.push.specs.Quadratic as push
 use Rattle.polish.specs.Polish.{isLongOf, isSmallOf, polishNext, polishOf}
 use Rattle.asking.specs.Asking.{answered, _then_, each}
 use Rattle.touching.specs.Touching.{pairOrder, ordered, linkAt, contactOf, emitted, itemTurn, chained, touching}
@@ -60,5 +60,5 @@ scaling = 0
 
 -- layer 6
 unfoldable pub solving : ℕ
-unfolding held kept paired magnitudeStep magnitudeOf budgetOf baseOf withinBandOf criticalNext criticalPointOf extremumOf band.quadraticOf band.pushFactor band.pushQuadraticOf isLongOf isSmallOf polishNext polishOf answered _then_ each pairOrder ordered linkAt contactOf emitted itemTurn chained touching
+unfolding held kept paired magnitudeStep magnitudeOf budgetOf baseOf withinBandOf criticalNext criticalPointOf extremumOf push.quadraticOf push.pushFactor push.pushQuadraticOf isLongOf isSmallOf polishNext polishOf answered _then_ each pairOrder ordered linkAt contactOf emitted itemTurn chained touching
 solving = 0

@@ -24,7 +24,7 @@ use Rattle.quotient.specs.Quotient.{productOf, usableOf, mergedOf}
 use Rattle.factorize.specs.Factorize.{pairedOf, outOf, factorizeOf}
 use Rattle.roots.specs.Roots.{root, kept, pair, paired}
 use Rattle.band.specs.Band.{withinBandOf, bare}
-use Rattle.band.specs.Quadratic.{pushQuadraticOf}
+use Rattle.push.specs.Quadratic.{pushQuadraticOf}
 use Rattle.polish.specs.Polish.{isLongOf, polishOf}
 use Rattle.asking.specs.Asking.{answered}
 use Rattle.touching.specs.Touching.{touching}

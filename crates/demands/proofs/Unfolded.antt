@@ -30,8 +30,8 @@ use Rattle.factors.specs.Factors.{pushQuadOf}
 use Rattle.factorize.specs.Factorize.{pairedOf, quarticFactorsOf, outOf, secondOf, factorsFrom, factorizeOf}
 use Rattle.roots.specs.Roots.{kept, paired}
 use Rattle.band.specs.Band.{magnitudeStep, magnitudeOf, budgetOf, baseOf, withinBandOf}
-use Rattle.band.specs.Critical.{criticalNext, criticalPointOf, extremumOf}
-use Rattle.band.specs.Quadratic as band
+use Rattle.critical.specs.Critical.{criticalNext, criticalPointOf, extremumOf}
+use Rattle.push.specs.Quadratic as push
 use Rattle.polish.specs.Polish.{polishNext, polishOf}
 use Rattle.finish.specs.Finish.{byValue, orderedAt, orderedOf, polishedAt, polishedOf, isNearOf, joinedFrom, joinedOf, finishOf}
 use Rattle.poly.specs.Coefficients.{trimmedFrom, trimmedOf, zerosOf, refusalBy, middleAt, middleOf, polyOf}
@@ -74,7 +74,7 @@ scaling = 0
 
 -- layer 6: a list
 unfoldable pub solving : ℕ
-unfolding kept paired magnitudeStep magnitudeOf budgetOf baseOf withinBandOf criticalNext criticalPointOf extremumOf band.quadraticOf band.pushFactor band.pushQuadraticOf polishNext polishOf byValue orderedAt orderedOf polishedAt polishedOf isNearOf joinedFrom joinedOf finishOf trimmedFrom trimmedOf zerosOf refusalBy middleAt middleOf polyOf zeroRootsOf candidatesOf finishedOf solveOf unscaledAll answerOf realRootsOf
+unfolding kept paired magnitudeStep magnitudeOf budgetOf baseOf withinBandOf criticalNext criticalPointOf extremumOf push.quadraticOf push.pushFactor push.pushQuadraticOf polishNext polishOf byValue orderedAt orderedOf polishedAt polishedOf isNearOf joinedFrom joinedOf finishOf trimmedFrom trimmedOf zerosOf refusalBy middleAt middleOf polyOf zeroRootsOf candidatesOf finishedOf solveOf unscaledAll answerOf realRootsOf
 solving = 0
 
 -- an inquiry, a quadratic and a crank

@@ -23,9 +23,9 @@ use Rattle.roots.specs.declared.Pair.{Pair}
 use Rattle.roots.specs.Roots.{root, listOf, rootsOf, held, kept, keptIn, noRoots, noPairs}
 use Rattle.roots.specs.Listed.{Fits, blank}
 use Rattle.roots.proofs.Laws.{length-list, kept-roots}
-use Rattle.band.specs.declared.Found.{Found}
-use Rattle.band.specs.Quadratic.{foundOf}
-use Rattle.band.proofs.Lists.{push-lists}
+use Rattle.push.specs.declared.Found.{Found}
+use Rattle.push.specs.Quadratic.{foundOf}
+use Rattle.push.proofs.Lists.{push-lists}
 use Rattle.poly.specs.Solve.{zeroRootsOf, withLin, withQuad, candidatesOf}
 use Rattle.poly.specs.Found.{withLinIn, withQuadIn}
 use Rattle.poly.specs.RealRoots.{unscaledOf, unscaledAll}

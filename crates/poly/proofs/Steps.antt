@@ -14,8 +14,8 @@ use Rattle.roots.specs.declared.RealRoot.{RealRoot}
 use Rattle.roots.specs.declared.Roots.{Roots}
 use Rattle.roots.specs.Roots.{listOf, rootsOf}
 use Rattle.roots.proofs.Laws.{list-roots}
-use Rattle.band.specs.declared.Found.{Found}
-use Rattle.band.specs.Quadratic.{foundOf}
+use Rattle.push.specs.declared.Found.{Found}
+use Rattle.push.specs.Quadratic.{foundOf}
 use Rattle.finish.specs.Finish.{finishOf}
 use Rattle.poly.specs.declared.Solved.{Solved}
 use Rattle.poly.specs.Coefficients.{trimmedOf, zerosOf, refusalBy, middleOf, polyOf}

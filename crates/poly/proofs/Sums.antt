@@ -24,9 +24,9 @@ use Rattle.roots.specs.Roots.{root, kept, listOf, pairListOf}
 use Rattle.roots.specs.Listed.{multiplicities, Counted, Listed, Within, Shared, Fits, PairsFit}
 use Rattle.roots.proofs.Laws.{list-roots, roots-fit, list-pairs, pairs-fit}
 use Rattle.roots.proofs.Sums.{counted, within-none, within-more, within-kept, shared-none, shared-more}
-use Rattle.band.specs.declared.Found.{Found}
-use Rattle.band.specs.Quadratic.{foundOf}
-use Rattle.band.proofs.Lists.{quadratic-adds}
+use Rattle.push.specs.declared.Found.{Found}
+use Rattle.push.specs.Quadratic.{foundOf}
+use Rattle.push.proofs.Lists.{quadratic-adds}
 use Rattle.finish.specs.Finish.{finishOf}
 use Rattle.poly.specs.Coefficients.{trimmedOf, zerosOf, refusalOf, degreeLeft, polyOf}
 use Rattle.poly.specs.Solve.{zeroRootsOf, withLin, withQuad, candidatesOf, finishedOf, refusedBy, solveOf}

@@ -6,8 +6,8 @@ use Rattle.factors.specs.declared.Factors.{Factors}
 use Rattle.factors.specs.Factors.{linAt, quadAt}
 use Rattle.roots.specs.declared.Roots.{Roots}
 use Rattle.roots.specs.Roots.{root, keptIn}
-use Rattle.band.specs.declared.Found.{Found}
-use Rattle.band.specs.Quadratic.{pushQuadraticIn}
+use Rattle.push.specs.declared.Found.{Found}
+use Rattle.push.specs.Quadratic.{pushQuadraticIn}
 
 -- withLin and withQuad, in the arrays
 abbrev pub withLinIn : Factors → ℕ → Roots → Roots

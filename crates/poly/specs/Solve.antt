@@ -16,7 +16,7 @@ use Rattle.factorize.specs.Factorize.{factorizeOf}
 use Rattle.roots.specs.declared.RealRoot.{RealRoot}
 use Rattle.roots.specs.declared.Pair.{Pair}
 use Rattle.roots.specs.Roots.{root, kept, rootsOf, noRoots, pairsOf, noPairs}
-use Rattle.band.specs.Quadratic.{pushQuadraticOf}
+use Rattle.push.specs.Quadratic.{pushQuadraticOf}
 use Rattle.finish.specs.Finish.{finishOf}
 use Rattle.poly.specs.declared.Solved.{Solved}
 use Rattle.poly.specs.Coefficients.{zerosOf, refusalOf, polyOf}

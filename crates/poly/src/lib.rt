@@ -8,7 +8,7 @@ ghost use Rattle.float.specs.Methods.{allFiniteOf};
 ghost use Rattle.factorize.specs.Factorize.{factorizeOf};
 ghost use Rattle.factorize.specs.Discs.{rootedOf};
 ghost use Rattle.roots.specs.Roots.{rootsOf, listOf};
-ghost use Rattle.band.specs.Quadratic.{foundOf};
+ghost use Rattle.push.specs.Quadratic.{foundOf};
 ghost use Rattle.poly.specs.Coefficients.{trimmedOf, zerosOf, refusalBy, middleAt, middleOf};
 ghost use Rattle.poly.specs.Solve.{zeroRootsOf, candidatesOf, finishedOf, refusedBy, solveOf};
 ghost use Rattle.poly.specs.Found.{withLinIn, withQuadIn};
@@ -143,8 +143,8 @@ fn with_quads(
     poly: scaled::Scaled,
     r: factorize::Rooted,
     tol: f64,
-    start: band::Found,
-) -> band::Found
+    start: push::Found,
+) -> push::Found
     requires { ⌜ poly .d ≤ 4 ⌝ ∗ ⌜ (r .f .nquad ≤ 2) × (r ≡ rootedOf (r .f)) ⌝ }
     ensures { λ s. ⌜ s ≡ countUp (r .f .nquad) (withQuadIn poly (r .f) tol) (r .f .nquad) start ⌝ }
 {
@@ -154,20 +154,20 @@ fn with_quads(
     while i < f.nquad {
         let q = f.quad[i];
         let d = r.disc[i];
-        s = band::push_rooted(poly, q.al, q.be, d, tol, s.roots, s.pairs);
+        s = push::push_rooted(poly, q.al, q.be, d, tol, s.roots, s.pairs);
         i += 1;
     }
     s
 }
 
-fn candidates(poly: scaled::Scaled, zeros: usize, tol: f64) -> band::Found
+fn candidates(poly: scaled::Scaled, zeros: usize, tol: f64) -> push::Found
     requires { ⌜ poly .d ≤ 4 ⌝ ∗ ⌜ zeros ≤ 4 ⌝ }
     ensures { λ r. ⌜ r ≡ foundOf (candidatesOf poly zeros (factorizeOf poly 0) tol) ⌝ }
 {
     let r = factorize::factorize_rooted(poly, 0);
     let roots = with_lins(r.f, zero_roots(zeros));
     let pairs = roots::Pairs::none();
-    with_quads(poly, r, tol, band::Found { roots, pairs })
+    with_quads(poly, r, tol, push::Found { roots, pairs })
 }
 
 fn finished(poly: scaled::Scaled, zeros: usize, tol: f64) -> Solved

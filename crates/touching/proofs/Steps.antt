@@ -19,9 +19,9 @@ use Rattle.roots.specs.declared.Pair.{Pair}
 use Rattle.roots.specs.Roots.{root, listOf, pushedOf}
 use Rattle.roots.specs.Listed.{multiplicities, Fits, blank}
 use Rattle.roots.proofs.Laws.{roots-cons, roots-nil}
-use Rattle.band.specs.declared.TurningPoint.{TurningPoint}
-use Rattle.band.specs.declared.TurningPoint.the-variants.{At, None}
-use Rattle.band.specs.Critical.{extremumOf}
+use Rattle.critical.specs.declared.TurningPoint.{TurningPoint}
+use Rattle.critical.specs.declared.TurningPoint.the-variants.{At, None}
+use Rattle.critical.specs.Critical.{extremumOf}
 use Rattle.poly.specs.RealRoots.{unscaledOf}
 use Rattle.asking.specs.Asking.{Asking, done, Stage, asks, ended, walked, onward, each}
 use Rattle.asking.proofs.Laws.{walked-then, each-end, each-turn, each-one, each-two}

@@ -6,7 +6,7 @@ ghost use mathlib.Core.List.{[]};
 ghost use lib.Ieee.{lt};
 ghost use Rattle.roots.specs.Roots.{listOf};
 ghost use Rattle.roots.specs.Listed.{multiplicities, Fits};
-ghost use Rattle.band.specs.declared.TurningPoint.the-variants.{At};
+ghost use Rattle.critical.specs.declared.TurningPoint.the-variants.{At};
 ghost use Rattle.asking.specs.Asking.{ended, walked, onward, each};
 ghost use Rattle.touching.specs.declared.Replies.{Replies};
 ghost use Rattle.touching.specs.Touching.{noChain, doubleOf, openedBy, extendedBy, contactOf, emitted, parted, linkAt, itemTurn};
@@ -199,10 +199,10 @@ fn item_turn(
             place: 0.0,
         };
     }
-    let found = band::extremum(poly, 0.5 * (c.last + it.value), c.last, it.value, tol);
+    let found = critical::extremum(poly, 0.5 * (c.last + it.value), c.last, it.value, tol);
     match found {
-        band::TurningPoint::At(y) => link_at(poly.e, replies, w, it, y),
-        band::TurningPoint::None => part(poly.e, w, it, w.used),
+        critical::TurningPoint::At(y) => link_at(poly.e, replies, w, it, y),
+        critical::TurningPoint::None => part(poly.e, w, it, w.used),
     }
 }
 

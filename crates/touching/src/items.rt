@@ -4,7 +4,7 @@ ghost use Prim.Native.Nat.{_≤_, _<_};
 ghost use mathlib.Core.Bool.{cond};
 ghost use Rattle.roots.specs.Roots.{listOf, pairListOf};
 ghost use Rattle.roots.specs.Listed.{multiplicities, Fits};
-ghost use Rattle.band.specs.declared.TurningPoint.the-variants.{At};
+ghost use Rattle.critical.specs.declared.TurningPoint.the-variants.{At};
 ghost use Rattle.asking.specs.Asking.{walked, onward, each};
 ghost use Rattle.touching.specs.Touching.{touchesAt, pairOrder, reachOf, allApart, pairAt, pairTurn};
 ghost use Rattle.touching.specs.Replies.{repliesOf};
@@ -131,10 +131,10 @@ fn pair_turn(poly: scaled::Scaled, tol: f64, replies: Replies, p: roots::Pair, w
     let m = p.centre;
     let items = w.items;
     let r = reach(items, m, p.half);
-    let found = band::extremum(poly, m, m - r, m + r, tol);
+    let found = critical::extremum(poly, m, m - r, m + r, tol);
     match found {
-        band::TurningPoint::At(y) => pair_at(poly, tol, replies, w, y),
-        band::TurningPoint::None => w,
+        critical::TurningPoint::At(y) => pair_at(poly, tol, replies, w, y),
+        critical::TurningPoint::None => w,
     }
 }
 

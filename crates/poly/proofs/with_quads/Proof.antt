@@ -4,7 +4,7 @@ use Prim.Native.Nat.{_-_, _≤_}
 use borrow.Author.Needs.{needs}
 use native.Mathlib.Nat.{sub-zero}
 use Rattle.facts.specs.Count.{countUp, up-turn, up-end}
-use Rattle.band.proofs.Laws.{same-push}
+use Rattle.push.proofs.Laws.{same-push}
 use Rattle.factorize.proofs.Discs.{disc-is}
 use Rattle.poly.specs.Found.{withQuadIn}
 use Rattle.poly.proofs.with_quads.Statement.{statement}

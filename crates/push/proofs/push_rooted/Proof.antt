@@ -1,9 +1,9 @@
 -- `push_rooted` is its definition, by what the factor is. Assumes nothing.
-use Rattle.band.specs.Quadratic.{pushFactorIn, pushRootedIn}
-use Rattle.band.proofs.Laws.{is-double, is-apart, is-complex}
+use Rattle.push.specs.Quadratic.{pushFactorIn, pushRootedIn}
+use Rattle.push.proofs.Laws.{is-double, is-apart, is-complex}
 use borrow.Author.Needs.{needs}
-use Rattle.band.proofs.push_rooted.Statement.{statement}
-use Rattle.band.proofs.push_rooted.Tie as tie
+use Rattle.push.proofs.push_rooted.Statement.{statement}
+use Rattle.push.proofs.push_rooted.Tie as tie
 
 returns : tie.Need-returns
 unfolding pushRootedIn pushFactorIn

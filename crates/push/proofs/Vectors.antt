@@ -8,11 +8,11 @@ use lib.Ieee.{Float, nan, binary64, ofBits}
 use Rattle.float.specs.Literals.{zero64, half64, one64}
 use Rattle.isolated.proofs.Vectors.{computes as factors}
 use Rattle.scaled.specs.declared.Scaled.{Scaled}
 use Rattle.band.specs.Band.{magnitudeStep, magnitudeOf, budgetOf, kthRootOf, radiusStep, radiusOf, noiseWithin, noiseOf, baseOf, bandOf, withinBandOf}
-use Rattle.band.specs.Critical.{isBetweenOf, criticalNext, criticalPointOf, extremumOf}
+use Rattle.critical.specs.Critical.{isBetweenOf, criticalNext, criticalPointOf, extremumOf}
 use Rattle.roots.specs.Roots.{root, pair, held, kept, paired}
-use Rattle.band.specs.Quadratic.{double, quadraticOf, pushFactor, pushQuadraticOf}
-use Rattle.band.specs.declared.TurningPoint.the-variants.{At, None}
+use Rattle.push.specs.Quadratic.{double, quadraticOf, pushFactor, pushQuadraticOf}
+use Rattle.critical.specs.declared.TurningPoint.the-variants.{At, None}
 
 -- what has to unfold for the definitions to compute: a fact says `unfolding computes`
 unfoldable pub computes : ℕ

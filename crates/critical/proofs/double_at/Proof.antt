@@ -1,9 +1,9 @@
 -- `double_at` is its definition, by what its calls give. Assumes nothing.
 use Rattle.band.specs.Band.{noiseOf, bandOf}
-use Rattle.band.specs.Critical.{criticalPointOf}
+use Rattle.critical.specs.Critical.{criticalPointOf}
 use borrow.Author.Needs.{needs}
-use Rattle.band.proofs.double_at.Statement.{statement}
-use Rattle.band.proofs.double_at.Tie as tie
+use Rattle.critical.proofs.double_at.Statement.{statement}
+use Rattle.critical.proofs.double_at.Tie as tie
 
 returns : tie.Need-returns
 unfolding noiseOf bandOf criticalPointOf

@@ -1,9 +1,9 @@
 -- `extremum` is its definition, by whether the last step is within the band. Assumes nothing.
 use mathlib.Core.Path.{sym}
-use Rattle.band.specs.Critical.{extremumOf}
+use Rattle.critical.specs.Critical.{extremumOf}
 use borrow.Author.Needs.{needs}
-use Rattle.band.proofs.extremum.Statement.{statement}
-use Rattle.band.proofs.extremum.Tie as tie
+use Rattle.critical.proofs.extremum.Statement.{statement}
+use Rattle.critical.proofs.extremum.Tie as tie
 
 returns : tie.Need-returns
 unfolding extremumOf

@@ -4,11 +4,11 @@ use Prim.Native.Nat.{_-_, _≤_}
 use borrow.Author.Tests.{not-true, not-false}
 use Rattle.facts.specs.Turns.{turnsOf, turns-stop, turns-go, turns-end}
 use Rattle.horner.specs.Taylor.{derivs12Of}
-use Rattle.band.specs.Critical.{criticalNext}
-use Rattle.band.proofs.Laws.{critical-flat, critical-outside, critical-held, critical-moved}
+use Rattle.critical.specs.Critical.{criticalNext}
+use Rattle.critical.proofs.Laws.{critical-flat, critical-outside, critical-held, critical-moved}
 use borrow.Author.Needs.{needs}
-use Rattle.band.proofs.critical.Statement.{statement}
-use Rattle.band.proofs.critical.Tie as tie
+use Rattle.critical.proofs.critical.Statement.{statement}
+use Rattle.critical.proofs.critical.Tie as tie
 
 abbrev Inv-loop : tie.InvT-loop
 Inv-loop f d y0 lo hi y₀ at₀ k₀ y at k = (k ≤ 4) × (at ≡ derivs12Of f d y) × (turnsOf (criticalNext f d lo hi) (4 - k) y ≡ turnsOf (criticalNext f d lo hi) 4 y0)

@@ -9,9 +9,9 @@ use Rattle.float.specs.Methods.{absOf}
 use Rattle.horner.specs.Taylor.{derivs12Of}
 use Rattle.refine.specs.Newton.{flatOf, noGainOf}
 use Rattle.scaled.specs.declared.Scaled.{Scaled}
 use Rattle.band.specs.Band.{baseOf, bandOf}
-use Rattle.band.specs.declared.TurningPoint.{TurningPoint}
-use Rattle.band.specs.declared.TurningPoint.the-variants.{At, None}
+use Rattle.critical.specs.declared.TurningPoint.{TurningPoint}
+use Rattle.critical.specs.declared.TurningPoint.the-variants.{At, None}
 
 -- lo <= x && x <= hi
 unfoldable pub isBetweenOf : Float → Float → Float → Bool

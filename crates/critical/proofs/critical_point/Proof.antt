@@ -1,8 +1,8 @@
 -- `critical_point` is its definition: f and d suffice. Assumes nothing.
-use Rattle.band.specs.Critical.{criticalPointOf}
+use Rattle.critical.specs.Critical.{criticalPointOf}
 use borrow.Author.Needs.{needs}
-use Rattle.band.proofs.critical_point.Statement.{statement}
-use Rattle.band.proofs.critical_point.Tie as tie
+use Rattle.critical.proofs.critical_point.Statement.{statement}
+use Rattle.critical.proofs.critical_point.Tie as tie
 
 returns : tie.Need-returns
 unfolding criticalPointOf

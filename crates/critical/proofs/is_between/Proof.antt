@@ -1,7 +1,7 @@
 -- `is_between` is the test of two parts, by the part that decides. Assumes nothing.
-use Rattle.band.specs.Critical.{isBetweenOf}
-use Rattle.band.proofs.is_between.Statement.{statement}
-use Rattle.band.proofs.is_between.Tie as tie
+use Rattle.critical.specs.Critical.{isBetweenOf}
+use Rattle.critical.proofs.is_between.Statement.{statement}
+use Rattle.critical.proofs.is_between.Tie as tie
 
 returns : tie.Need-returns
 unfolding isBetweenOf

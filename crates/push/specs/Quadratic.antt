@@ -14,9 +14,9 @@ use Rattle.roots.specs.declared.Roots.{Roots}
 use Rattle.roots.specs.declared.Pair.{Pair}
 use Rattle.roots.specs.declared.Pairs.{Pairs}
 use Rattle.roots.specs.Roots.{root, rootsOf, kept, keptIn, pair, pairsOf, paired, pairedIn}
 use Rattle.band.specs.Band.{bandOf, withinBandOf}
-use Rattle.band.specs.Critical.{criticalPointOf}
-use Rattle.band.specs.declared.Found.{Found}
+use Rattle.critical.specs.Critical.{criticalPointOf}
+use Rattle.push.specs.declared.Found.{Found}
 
 -- what the factor y^2 + al*y + be is found to be: a double root at y, two simple roots, or a complex pair
 pub data Factor : Type 0 where

@@ -1,9 +1,9 @@
 -- `push_quadratic` is its definition: what `push_rooted` gives from the factor's own discriminant. Assumes nothing.
 use mathlib.Core.Path.{_∙_}
-use Rattle.band.proofs.Laws.{same-push}
+use Rattle.push.proofs.Laws.{same-push}
 use borrow.Author.Needs.{needs}
-use Rattle.band.proofs.push_quadratic.Statement.{statement}
-use Rattle.band.proofs.push_quadratic.Tie as tie
+use Rattle.push.proofs.push_quadratic.Statement.{statement}
+use Rattle.push.proofs.push_quadratic.Tie as tie
 
 returns : tie.Need-returns
 returns c = c .push-rooted .ensures ∙ same-push _ _ _ _ _ _ (c .before .disc-of .ensures)

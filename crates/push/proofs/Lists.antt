@@ -13,7 +13,7 @@ use Rattle.roots.specs.Roots.{root, rootsOf, kept, keptIn, pairsOf}
 use Rattle.roots.specs.Listed.{Shared}
 use Rattle.roots.proofs.Laws.{kept-roots, paired-pairs}
 use Rattle.roots.proofs.Sums.{shared-more, shared-kept, shared-paired}
-use Rattle.band.specs.Quadratic.{Factor, double, apart, complex, quadraticOf, pushFactor, pushQuadraticOf, foundOf, pushFactorIn, pushQuadraticIn}
+use Rattle.push.specs.Quadratic.{Factor, double, apart, complex, quadraticOf, pushFactor, pushQuadraticOf, foundOf, pushFactorIn, pushQuadraticIn}
 
 push-factor : (out : List RealRoot) (pairs : List Pair) (f : Factor) → pushFactorIn (foundOf (out, pairs)) f ≡ foundOf (pushFactor (out, pairs) f)
 unfolding pushFactor pushFactorIn
