@@ -134,12 +134,12 @@ exported! {
     /// k of the crank equation, and then what its inquiry shows, as for a list, thirteen doubles.
     fn crank_inquire(confusion: f64, a2: f64, b2: f64, c1: f64, d1: f64, e: f64, replies: &[u8],
         out: &mut [u8]) -> u64;
-    /// What the inquiry about the doubles in `coeffs`, at most 32, shows after these replies, one
-    /// byte each and 0 for no: 0, or 4 where a reply was refused; 1 and the place where it asks, 0
-    /// and 0 where not; and the list as for `real_roots`; twelve doubles.
+    /// What the inquiry about the doubles in `coeffs` shows after these replies, one byte each and 0
+    /// for no: 0, or 4 where a reply was refused; 1 and the place where it asks, 0 and 0 where not;
+    /// and the list as for `real_roots`; twelve doubles.
     fn inquire(coeffs: &[u8], tol: f64, replies: &[u8], out: &mut [u8]) -> u64;
-    /// How many roots the list of the doubles in `coeffs`, at most 32, has, and four places with
-    /// their multiplicities, nine doubles.
+    /// How many roots the list of the doubles in `coeffs` has, and four places with their
+    /// multiplicities, nine doubles.
     fn real_roots(coeffs: &[u8], tol: f64, out: &mut [u8]) -> u64;
 
     /// A number, 0 to 4 for two, one, linear, degenerate and empty, and two places, NaN where there
