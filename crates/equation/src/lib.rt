@@ -1,5 +1,5 @@
 // equation.rs on all bits: quadratics with a caller's tolerances.
-// It rests on `float`, `finite`, `sqrt` and `solution`; the hall file and the C functions rest on it.
+// It rests on `float`, `sqrt` and `solution`; the hall file and the C functions rest on it.
 ghost use mathlib.Core.Path.{_≡_};
 ghost use Rattle.equation.specs.Quadratic.{quadraticCentreOf, linearOf, isGrazingOf, twoOf, solveQuadraticOf, refusedBy, quadraticOf};
 use solution::QuadraticSolution;
@@ -84,7 +84,8 @@ fn refused(number: u32) -> QuadraticAnswer
 pub fn quadratic(a: f64, b: f64, c: f64, confusion: f64, angular: f64) -> QuadraticAnswer
     ensures { λ r. ⌜ r ≡ quadraticOf a b c confusion angular ⌝ }
 {
-    if finite::three_finite(a, b, c) {
+    let handed = [a, b, c];
+    if float::all_finite(&handed) {
         let solution = solve_quadratic(a, b, c, confusion, angular);
         if solution.is_finite() {
             return QuadraticAnswer {

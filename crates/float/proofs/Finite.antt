@@ -1,7 +1,7 @@
--- Whether all numbers of a list are finite: at each place, by its parts, and as a loop finds it. Assumes nothing.
-use mathlib.Core.Path.{_≡_, refl, sym, ap, _∙_}
+-- Whether all numbers of a list are finite: at each place, of one number, and as a loop finds it. Assumes nothing.
+use mathlib.Core.Path.{_≡_, sym, _∙_}
 use mathlib.Core.Bool.{Bool, true, _&&_, and-true, and-assoc, and-eq-true-iff}
-use mathlib.Core.List.{List, [], _∷_, _++_}
+use mathlib.Core.List.{List, [], _∷_}
 use Prim.Native.Nat.{ℕ, zero, suc, _<_}
 use native.Mathlib.Omega.{arith}
 use lib.ListN.{length, getD}
@@ -13,9 +13,8 @@ finite-at [] e i h = absurd (omega (arith, h))
 finite-at (x ∷ l) e zero h = and-eq-true-iff (isFiniteOf x) (allFiniteOf l) .0 e .0
 finite-at (x ∷ l) e (suc i) h = finite-at l (and-eq-true-iff (isFiniteOf x) (allFiniteOf l) .0 e .1) i (omega arith)
 
-pub finite-append : (l m : List Float) → allFiniteOf (l ++ m) ≡ (allFiniteOf l && allFiniteOf m)
-finite-append [] m = refl
-finite-append (x ∷ l) m = ap (λ (b : Bool). isFiniteOf x && b) (finite-append l m) ∙ sym (and-assoc (isFiniteOf x) (allFiniteOf l) (allFiniteOf m))
+pub one-finite : {b : Bool} (x : Float) → b ≡ isFiniteOf x → b ≡ allFiniteOf (x ∷ [])
+one-finite x is = is ∙ sym (and-true (isFiniteOf x))
 
 -- ---- a loop that has found b so far, and comes to r
 -- a turn, where l is left, and x the next of it

@@ -1,5 +1,5 @@
 // Doubles: the methods of Rust's f64 that Rattle has not, and doubles as bits and as bytes. Every function takes all bits; every NaN is one NaN.
-// It rests on `rounding`. Every crate that computes with doubles rests on it.
+// It rests on `facts` and `rounding`. Every crate that computes with doubles rests on it.
 ghost use mathlib.Core.Path.{_≡_};
 ghost use mathlib.Core.Bool.{cond, _||_};
 ghost use Prim.Native.Nat.{_+_, _^_, _<_, _≤_};
@@ -7,7 +7,7 @@ ghost use lib.ListN.{length, getD};
 ghost use lib.Seq.{sets};
 ghost use lib.Ieee.{binary64, isNan, lt, minus, ofInt, ofBits, toBits};
 ghost use Rattle.float.specs.Literals.{zero64, inf64};
-ghost use Rattle.float.specs.Methods.{absOf, isFiniteOf, isSignNegativeOf, copysignOf, minOf, maxOf, clampOf, totalLeOf, powiOf};
+ghost use Rattle.float.specs.Methods.{absOf, isFiniteOf, allFiniteOf, isSignNegativeOf, copysignOf, minOf, maxOf, clampOf, totalLeOf, powiOf};
 ghost use Rattle.float.specs.Floor.{floorOf};
 ghost use Rattle.float.specs.Bytes.{u64At, f64At, bytesOf};
 
@@ -36,6 +36,19 @@ pub fn is_finite(x: f64) -> bool
 {
     let most = infinity();
     -most < x && x < most
+}
+
+// No way out before the end: the loop of a few numbers is unrolled then.
+pub fn all_finite(s: &[f64]) -> bool
+    ensures { λ r. ⌜ r ≡ allFiniteOf (now (s .entry)) ⌝ }
+{
+    let mut all = true;
+    let mut i = 0;
+    while i < s.len() {
+        all = all & is_finite(s[i]);
+        i += 1;
+    }
+    all
 }
 
 // Below 0 where the sign is set: 1 / -0 is -infinity.

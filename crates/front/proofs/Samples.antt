@@ -3,8 +3,7 @@ use mathlib.Core.Path.{_≡_, refl, sym, ap, _∙_}
 use mathlib.Core.Bool.{Bool, true, false, cond}
 use mathlib.Core.List.{List, [], _∷_}
 use Prim.Native.Nat.{ℕ, _+_, _-_, _<_, _≤_}
-use lib.ListN.{getD}
-use lib.Ieee.{Float, nan}
+use lib.Ieee.{Float}
 use Rattle.facts.specs.Cond.{if-taken, if-left}
 use Rattle.facts.specs.Count.{countUp, up-turn, up-end}
 use Rattle.float.specs.Methods.{absOf, totalLeOf, allFiniteOf}
@@ -29,26 +28,18 @@ module _ (a2 b2 c1 d1 e : Float) where
   pub last-sample : (j k : ℕ) (largest : Float) → 8 ≤ j → chosen j (k, largest) ≡ k
   last-sample j k largest h = ap (λ (s : ℕ × Float). s .0) (up-end 8 (sampledOf a2 b2 c1 d1 e) j (k, largest) h)
 
-  -- a quartic's coefficients, one by one
-  abbrev pub each : List Float → List Float
-  each q = getD q 0 nan ∷ getD q 1 nan ∷ getD q 2 nan ∷ getD q 3 nan ∷ getD q 4 nan ∷ []
-
-  same-quartic : (k : ℕ) → each (quarticOf a2 b2 c1 d1 e k) ≡ quarticOf a2 b2 c1 d1 e k
-  unfolding quarticOf
-  same-quartic k = refl
-
   module _ {finite : Bool} (is-finite : finite ≡ allFiniteOf (a2 ∷ b2 ∷ c1 ∷ d1 ∷ e ∷ [])) where
     pub not-finite : {r : Crank} → finite ≡ false → r ≡ noCrank 1 → r ≡ crankFrontOf a2 b2 c1 d1 e
     unfolding crankFrontOf
     not-finite h is = if-left _ _ (sym is-finite ∙ h) is
 
-    module _ (k : ℕ) (q : List Float) {sound : Bool} (is-k : k ≡ sampleOf a2 b2 c1 d1 e) (is-q : q ≡ quarticOf a2 b2 c1 d1 e k) (is-sound : sound ≡ allFiniteOf (each q))
+    module _ (k : ℕ) (q : List Float) {sound : Bool} (is-k : k ≡ sampleOf a2 b2 c1 d1 e) (is-q : q ≡ quarticOf a2 b2 c1 d1 e k) (is-sound : sound ≡ allFiniteOf q)
         (h : finite ≡ true) where
       the-quartic : q ≡ quarticOf a2 b2 c1 d1 e (sampleOf a2 b2 c1 d1 e)
       the-quartic = is-q ∙ ap (quarticOf a2 b2 c1 d1 e) is-k
 
       the-coefficients : sound ≡ allFiniteOf (quarticOf a2 b2 c1 d1 e (sampleOf a2 b2 c1 d1 e))
-      the-coefficients = is-sound ∙ ap (λ (l : List Float). allFiniteOf (each l)) the-quartic ∙ ap allFiniteOf (same-quartic (sampleOf a2 b2 c1 d1 e))
+      the-coefficients = is-sound ∙ ap allFiniteOf the-quartic
 
       pub made : sound ≡ true → record { number = 0; k = k; q = q } ≡ crankFrontOf a2 b2 c1 d1 e
       unfolding crankFrontOf

@@ -1,5 +1,5 @@
 // solve_trig of equation.rs on all bits, up to its quartic: the crank equation's k, and the quartic in u.
-// It rests on `float` and `finite`; the crank's inquiry and the C functions rest on it.
+// It rests on `float`; the crank's inquiry and the C functions rest on it.
 ghost use mathlib.Core.Path.{_≡_};
 ghost use Prim.Native.Nat.{_<_};
 ghost use Rattle.front.specs.Crank.{unitOf, fAtOf, sampleOf, quarticOf, noCrank, crankFrontOf};
@@ -101,10 +101,11 @@ fn no_crank(number: u32) -> Crank
 pub fn crank_front(a2: f64, b2: f64, c1: f64, d1: f64, e: f64) -> Crank
     ensures { λ r. ⌜ r ≡ crankFrontOf a2 b2 c1 d1 e ⌝ }
 {
-    if finite::five_finite(a2, b2, c1, d1, e) {
+    let handed = [a2, b2, c1, d1, e];
+    if float::all_finite(&handed) {
         let k = sample(a2, b2, c1, d1, e);
         let q = quartic(a2, b2, c1, d1, e, k);
-        if finite::five_finite(q[0], q[1], q[2], q[3], q[4]) {
+        if float::all_finite(&q) {
             return Crank { number: 0, k, q };
         }
         return no_crank(5);

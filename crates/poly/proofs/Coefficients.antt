@@ -11,21 +11,8 @@ use lib.ListN.{length, drop, getD, drop-of-length-le}
 use lib.Seq.{drop-cons}
 use lib.Ieee.{Float, nan, eq}
 use Rattle.facts.specs.Cond.{either-way}
-use Rattle.facts.specs.Lists.{drop-next}
 use Rattle.float.specs.Literals.{zero64}
-use Rattle.float.specs.Methods.{isFiniteOf, allFiniteOf}
-use Rattle.float.proofs.Finite.{finite-turn}
 use Rattle.poly.specs.Coefficients.{trimmedFrom, trimmedOf, zerosOf, refusalBy}
-
--- ---- all finite
-pub finite-stop : (s : List Float) (i : ℕ) → i < length s → isFiniteOf (getD s i nan) ≡ false → allFiniteOf (drop i s) ≡ false
-finite-stop s i h t = sym (finite-turn true (drop i s) _ _ refl (drop-next s i nan h)) ∙ simp t
-
-pub finite-go : (s : List Float) (i : ℕ) → i < length s → isFiniteOf (getD s i nan) ≡ true → allFiniteOf (drop i s) ≡ allFiniteOf (drop (i + 1) s)
-finite-go s i h t = sym (finite-turn true (drop i s) _ _ refl (drop-next s i nan h)) ∙ simp t
-
-pub finite-end : (s : List Float) (i : ℕ) → length s ≤ i → allFiniteOf (drop i s) ≡ true
-finite-end s i h = ap allFiniteOf (drop-of-length-le s {i = i} h)
 
 -- ---- trailing zeros
 trim-turn : (s : List Float) (n : ℕ) → 0 < n → trimmedFrom s n ≡ cond (eq (getD s (n - 1) nan) zero64) (trimmedFrom s (n - 1)) n

@@ -4,7 +4,6 @@ ghost use mathlib.Core.Path.{_≡_};
 ghost use Prim.Native.Nat.{_≤_, _<_, _+_};
 ghost use lib.ListN.{length};
 ghost use Rattle.facts.specs.Count.{countUp};
-ghost use Rattle.float.specs.Methods.{allFiniteOf};
 ghost use Rattle.factorize.specs.Factorize.{factorizeOf};
 ghost use Rattle.factorize.specs.Discs.{rootedOf};
 ghost use Rattle.roots.specs.Roots.{rootsOf, listOf};
@@ -27,19 +26,6 @@ pub struct Solved {
 pub struct Answer {
     pub number: u32,
     pub roots: roots::Roots,
-}
-
-fn all_finite(coeffs: &[f64]) -> bool
-    ensures { λ r. ⌜ r ≡ allFiniteOf (now (coeffs .entry)) ⌝ }
-{
-    let mut i = 0;
-    while i < coeffs.len() {
-        if !float::is_finite(coeffs[i]) {
-            return false;
-        }
-        i += 1;
-    }
-    true
 }
 
 // How many are left once trailing zeros are dropped.
@@ -212,7 +198,7 @@ pub fn solve(coeffs: &[f64], tol: f64) -> Solved
     ensures { λ r. ⌜ r ≡ solveOf (now (coeffs .entry)) tol ⌝ }
 {
     let n = trimmed(coeffs);
-    let number = refusal(all_finite(coeffs), n);
+    let number = refusal(float::all_finite(coeffs), n);
     if number != 0 {
         return refused(number);
     }

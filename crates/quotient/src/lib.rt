@@ -3,8 +3,7 @@
 ghost use mathlib.Core.Path.{_≡_};
 ghost use Prim.Native.Nat.{_+_, _^_, _≤_, _<_, min};
 ghost use lib.IntN.{natAbs};
-ghost use lib.ListN.{length, take};
-ghost use Rattle.float.specs.Methods.{allFiniteOf};
+ghost use lib.ListN.{length};
 ghost use Rattle.factors.specs.Factors.{degreeOf, Sized};
 ghost use Rattle.quotient.specs.Quotient.{nextAt, mulOf, productOf, accOf, quotientOf, usableOf, mergedOf};
 use factors::Factors;
@@ -110,24 +109,11 @@ pub fn quotient(g: [f64; 5], p: Monic, small: usize) -> [f64; 5]
     s
 }
 
-fn finite_below(s: [f64; 5], n: usize) -> bool
-    requires { ⌜ n ≤ 5 ⌝ }
-    ensures { λ r. ⌜ r ≡ allFiniteOf (take n s) ⌝ }
-{
-    let mut all = true;
-    let mut i = 0;
-    while i < n {
-        all = all & float::is_finite(s[i]);
-        i += 1;
-    }
-    all
-}
-
 pub fn usable(s: [f64; 5], small: usize) -> bool
     requires { ⌜ small ≤ 4 ⌝ }
     ensures { λ r. ⌜ r ≡ usableOf s small ⌝ }
 {
-    if finite_below(s, small + 1) {
+    if float::all_finite(&s[..small + 1]) {
         if s[0] != 0.0 {
             return s[small] != 0.0;
         }

@@ -1,7 +1,6 @@
 // Newton's method on square systems: `refine` of poly.rs at sizes 3 and 4, for the factors of a cubic, the two quadratics of a quartic, and a quartic with one root
 // peeled off; and `newton_cubic`. It rests on `square` (elimination), `horner` (evaluation), `float` and `facts`; factoring rests on it.
 ghost use mathlib.Core.Path.{_≡_};
-ghost use Rattle.float.specs.Methods.{allFiniteOf};
 ghost use Rattle.square.specs.Step.{step3, step4};
 ghost use Rattle.refine.specs.Refine.{overOf, isSettledOf, weighRowOf, weighRowsOf, trialOf, noLessOf, refineOf};
 ghost use Rattle.refine.specs.Systems.{size2Of, size3Of, size4Of, cubicResidualOf, cubicMagnitudeOf, cubicJacobianOf, cubicSystem, quarticResidualOf, quarticMagnitudeOf, quarticJacobianOf, quarticSystem, peelResidualOf, peelMagnitudeOf, peelJacobianOf, peelSystem, systemOf};
@@ -38,18 +37,6 @@ fn is_settled(current: f64) -> bool
         return !float::is_finite(current);
     }
     true
-}
-
-fn all_finite(s: &[f64]) -> bool
-    ensures { λ r. ⌜ r ≡ allFiniteOf (now (s .entry)) ⌝ }
-{
-    let mut all = true;
-    let mut i = 0;
-    while i < s.len() {
-        all = all & float::is_finite(s[i]);
-        i += 1;
-    }
-    all
 }
 
 // The norm `next` is no smaller than `current`, or is a NaN.
@@ -119,7 +106,7 @@ fn trial3(x: [f64; 3], at: Weighed3, j: [[f64; 3]; 3]) -> square::Step3
         return step;
     }
     let s = step.x;
-    if !all_finite(&s) {
+    if !float::all_finite(&s) {
         return square::Step3 {
             ok: false,
             x: [0.0; 3],
@@ -176,7 +163,7 @@ fn trial4(x: [f64; 4], at: Weighed4, j: [[f64; 4]; 4]) -> square::Step4
         return step;
     }
     let s = step.x;
-    if !all_finite(&s) {
+    if !float::all_finite(&s) {
         return square::Step4 {
             ok: false,
             x: [0.0; 4],

@@ -1,5 +1,5 @@
 // QuadraticSolution of equation.rs on all bits: the answer to a quadratic, moved, and made to touch.
-// It rests on `float` and `finite`; `equation` gives such answers, and the hall file and the C functions tell them.
+// It rests on `float`; `equation` gives such answers, and the hall file and the C functions tell them.
 ghost use mathlib.Core.Path.{_≡_};
 ghost use mathlib.Core.Bool.{_&&_};
 ghost use Rattle.float.specs.Methods.{isFiniteOf, allFiniteOf};
@@ -32,7 +32,10 @@ impl QuadraticSolution {
         ensures { λ r. ⌜ r ≡ allFiniteOf (valuesOf self) ⌝ }
     {
         match self {
-            QuadraticSolution::Two(x, y) => finite::both_finite(x, y),
+            QuadraticSolution::Two(x, y) => {
+                let both = [x, y];
+                float::all_finite(&both)
+            }
             QuadraticSolution::One(x) => float::is_finite(x),
             QuadraticSolution::Linear(x) => float::is_finite(x),
             QuadraticSolution::Degenerate => true,

@@ -1,13 +1,13 @@
 -- `solution::QuadraticSolution::is_finite` meets its contract: by its cases. Assumes nothing.
 use Rattle.solution.specs.Solution.{valuesOf}
-use Rattle.finite.proofs.Finite.{one-finite}
+use Rattle.float.proofs.Finite.{one-finite}
 use borrow.Author.Needs.{needs}
 use Rattle.solution.proofs.QuadraticSolution.is_finite.Statement.{statement}
 use Rattle.solution.proofs.QuadraticSolution.is_finite.Tie as tie
 
 returns : tie.Need-returns
 unfolding valuesOf
-returns c = rw (c .before .before .self .given .1) (c .both-finite .ensures)
+returns c = rw (c .before .before .before .self .given .1) (c .all-finite .ensures)
 
 returns-2 : tie.Need-returns-2
 unfolding valuesOf
@@ -26,4 +26,4 @@ unfolding valuesOf
 returns-5 c = search needs
 
 pub is-finite-spec : {M : Type 1} → statement M
-is-finite-spec = tie.close (tie.spec (λ c. search needs) (λ c κs. search needs) (λ c. search needs) (λ c κs. search needs) (λ c. search needs) (λ c κs. search needs) (λ c. search needs) (λ c. search needs) returns returns-2 returns-3 returns-4 returns-5)
+is-finite-spec = tie.close (tie.spec (λ c. search needs) (λ c. search needs) (λ c κs. search needs) (λ c. search needs) (λ c κs. search needs) (λ c. search needs) (λ c κs. search needs) (λ c. search needs) (λ c. search needs) returns returns-2 returns-3 returns-4 returns-5)

@@ -5,11 +5,11 @@ use Prim.Native.Nat.{_-_, _≤_}
 use lib.ListN.{length, drop, drop-of-length-le}
 use lib.Ieee.{nan}
 use Rattle.facts.specs.Lists.{drop-next}
 use Rattle.float.specs.Methods.{allFiniteOf}
 use Rattle.float.proofs.Finite.{finite-turn, finite-end}
 use borrow.Author.Needs.{needs}
-use Rattle.refine.proofs.all_finite.Statement.{statement}
-use Rattle.refine.proofs.all_finite.Tie as tie
+use Rattle.float.proofs.all_finite.Statement.{statement}
+use Rattle.float.proofs.all_finite.Tie as tie
 
 abbrev Inv-loop : tie.InvT-loop
 Inv-loop s all₀ i₀ all i = (i ≤ length s) × ((all && allFiniteOf (drop i s)) ≡ allFiniteOf s)
