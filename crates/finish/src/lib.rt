@@ -1,106 +1,156 @@
 // Scaled::finish of poly.rs: the candidates in order, the simple ones polished, and runs of them within the band joined.
-// It rests on `order`, `roots`, `polish` and `band`; the lists and the inquiry rest on it.
+// Each place is named by its number, so that the compiler keeps the roots in registers.
+// It rests on `roots`, `polish` and `band`; the lists and the inquiry rest on it.
 ghost use mathlib.Core.Path.{_≡_};
-ghost use mathlib.Core.Bool.{cond};
-ghost use mathlib.Core.List.{map};
+ghost use mathlib.Core.List.{[], _∷_};
 ghost use Prim.Native.Nat.{_+_, _^_, _≤_, _<_};
-ghost use lib.Dec.{ltb};
-ghost use lib.ListN.{getD};
 ghost use Rattle.facts.specs.Arrays.{fromFn};
-ghost use Rattle.roots.specs.Roots.{listOf, rootsOf};
-ghost use Rattle.roots.specs.Listed.{blank, multiplicities};
-ghost use Rattle.finish.specs.Finish.{byValue, belowOf, aboveOf, orderedAt, polishedAt, polishedOf, isNearOf, joinOf, joinedOf, finishOf};
+ghost use Rattle.roots.specs.Roots.{listOf, rootsOf, keptIn};
+ghost use Rattle.roots.specs.Listed.{multiplicities};
+ghost use Rattle.finish.specs.Finish.{byValue, orderedAt, polishedAt, polishedOf, isNearOf, joinOf, joinedOf, finishOf};
+ghost use Rattle.finish.specs.Places.{inserted, placeOf};
 ghost use Rattle.finish.specs.Run.{nextRun};
+use roots::RealRoot;
+use roots::Roots;
+use scaled::Scaled;
 
 // The places of the runs that have ended, and the run at hand.
 struct Run {
-    out: roots::Roots,
-    at: roots::RealRoot,
+    out: Roots,
+    at: RealRoot,
 }
 
-fn values(c: roots::Roots) -> [f64; 4]
-    ensures { λ r. ⌜ r ≡ map (λ a. a .value) (c .root) ⌝ }
+// The root x put behind those of the places before it that stand before it, ties among them: one, two and three.
+fn behind_one(a: RealRoot, x: RealRoot) -> [RealRoot; 2]
+    ensures { λ r. ⌜ r ≡ inserted x (a ∷ []) ⌝ }
 {
-    let r0 = c.root[0];
-    let r1 = c.root[1];
-    let r2 = c.root[2];
-    let r3 = c.root[3];
-    [r0.value, r1.value, r2.value, r3.value]
+    if float::total_le(a.value, x.value) {
+        return [a, x];
+    }
+    [x, a]
 }
 
-pub fn ordered(c: roots::Roots) -> roots::Roots
+fn behind_two(a: RealRoot, b: RealRoot, x: RealRoot) -> [RealRoot; 3]
+    ensures { λ r. ⌜ r ≡ inserted x (a ∷ b ∷ []) ⌝ }
+{
+    if float::total_le(a.value, x.value) {
+        if float::total_le(b.value, x.value) {
+            return [a, b, x];
+        }
+        return [a, x, b];
+    }
+    [x, a, b]
+}
+
+fn behind_three(a: RealRoot, b: RealRoot, c: RealRoot, x: RealRoot) -> [RealRoot; 4]
+    ensures { λ r. ⌜ r ≡ inserted x (a ∷ b ∷ c ∷ []) ⌝ }
+{
+    if float::total_le(a.value, x.value) {
+        if float::total_le(b.value, x.value) {
+            if float::total_le(c.value, x.value) {
+                return [a, b, c, x];
+            }
+            return [a, b, x, c];
+        }
+        return [a, x, b, c];
+    }
+    [x, a, b, c]
+}
+
+pub fn ordered(c: Roots) -> Roots
     requires { ⌜ c .len ≤ 4 ⌝ }
     ensures { λ r. ⌜ (listOf r ≡ byValue (listOf c)) × (r .len ≡ c .len) ⌝ }
 {
-    let at = order::rising(values(c), c.len);
-    let i0 = at[0];
-    let i1 = at[1];
-    let i2 = at[2];
-    let i3 = at[3];
-    let root = [c.root[i0], c.root[i1], c.root[i2], c.root[i3]];
-    roots::Roots { root, len: c.len }
+    if c.len < 2 {
+        return c;
+    }
+    let third = c.root[2];
+    let fourth = c.root[3];
+    let two = behind_one(c.root[0], c.root[1]);
+    if c.len == 2 {
+        return Roots {
+            root: [two[0], two[1], third, fourth],
+            len: 2,
+        };
+    }
+    let three = behind_two(two[0], two[1], third);
+    if c.len == 3 {
+        return Roots {
+            root: [three[0], three[1], three[2], fourth],
+            len: 3,
+        };
+    }
+    Roots {
+        root: behind_three(three[0], three[1], three[2], fourth),
+        len: 4,
+    }
 }
 
-fn below(o: roots::Roots, k: usize) -> f64
-    requires { ⌜ (o .len ≤ 4) × (k < o .len) ⌝ }
-    ensures { λ r. ⌜ r ≡ belowOf (listOf o) k ⌝ }
+// A root at this gap from its nearest neighbour, polished where it is simple.
+fn polished_at(poly: Scaled, r: RealRoot, gap: f64) -> RealRoot
+    requires { ⌜ poly .d ≤ 4 ⌝ }
+    ensures { λ s. ⌜ s ≡ polishedAt 4 poly (placeOf r gap) ⌝ }
 {
-    if k > 0 {
-        let here = o.root[k];
-        let there = o.root[k - 1];
-        return here.value - there.value;
-    }
-    float::infinity()
-}
-
-fn above(o: roots::Roots, k: usize) -> f64
-    requires { ⌜ (o .len ≤ 4) × (k < o .len) ⌝ }
-    ensures { λ r. ⌜ r ≡ aboveOf (listOf o) k ⌝ }
-{
-    if k + 1 < o.len {
-        let here = o.root[k];
-        let there = o.root[k + 1];
-        return there.value - here.value;
-    }
-    float::infinity()
-}
-
-// Place k, polished where it counts and is simple.
-fn polished_at(poly: scaled::Scaled, o: roots::Roots, k: usize) -> roots::RealRoot
-    requires { ⌜ poly .d ≤ 4 ⌝ ∗ ⌜ (o .len ≤ 4) × (k < 4) ⌝ }
-    ensures { λ r. ⌜ r ≡ cond (ltb k (o .len)) (polishedAt 4 poly (orderedAt (listOf o) k)) (getD (o .root) k blank) ⌝ }
-{
-    let r = o.root[k];
-    if k >= o.len {
-        return r;
-    }
     if r.multiplicity != 1 {
         return r;
     }
-    let gap = float::min(below(o, k), above(o, k));
     let f = poly.f;
     let y = polish::polish(f, poly.d, r.value, gap);
-    roots::RealRoot {
+    RealRoot {
         value: y,
         multiplicity: 1,
     }
 }
 
-fn polished(poly: scaled::Scaled, o: roots::Roots) -> roots::Roots
+// There is no neighbour below the first and above the last.
+fn polished(poly: Scaled, o: Roots) -> Roots
     requires { ⌜ poly .d ≤ 4 ⌝ ∗ ⌜ o .len ≤ 4 ⌝ }
     ensures { λ r. ⌜ (listOf r ≡ polishedOf 4 poly (fromFn (o .len) (orderedAt (listOf o)))) × (r .len ≡ o .len) ⌝ }
 {
-    let root = [
-        polished_at(poly, o, 0),
-        polished_at(poly, o, 1),
-        polished_at(poly, o, 2),
-        polished_at(poly, o, 3),
-    ];
-    roots::Roots { root, len: o.len }
+    if o.len == 0 {
+        return o;
+    }
+    let none = float::infinity();
+    let a = o.root[0];
+    let b = o.root[1];
+    let c = o.root[2];
+    let d = o.root[3];
+    if o.len == 1 {
+        let first = polished_at(poly, a, float::min(none, none));
+        return Roots {
+            root: [first, b, c, d],
+            len: 1,
+        };
+    }
+    let ab = b.value - a.value;
+    let first = polished_at(poly, a, float::min(none, ab));
+    if o.len == 2 {
+        let second = polished_at(poly, b, float::min(ab, none));
+        return Roots {
+            root: [first, second, c, d],
+            len: 2,
+        };
+    }
+    let bc = c.value - b.value;
+    let second = polished_at(poly, b, float::min(ab, bc));
+    if o.len == 3 {
+        let third = polished_at(poly, c, float::min(bc, none));
+        return Roots {
+            root: [first, second, third, d],
+            len: 3,
+        };
+    }
+    let cd = d.value - c.value;
+    let third = polished_at(poly, c, float::min(bc, cd));
+    let fourth = polished_at(poly, d, float::min(cd, none));
+    Roots {
+        root: [first, second, third, fourth],
+        len: 4,
+    }
 }
 
 // Whether the next place is within the band of y.
-fn is_near(poly: scaled::Scaled, y: f64, next: f64, tol: f64) -> bool
+fn is_near(poly: Scaled, y: f64, next: f64, tol: f64) -> bool
     requires { ⌜ poly .d ≤ 4 ⌝ }
     ensures { λ r. ⌜ r ≡ isNearOf poly y next tol ⌝ }
 {
@@ -108,20 +158,20 @@ fn is_near(poly: scaled::Scaled, y: f64, next: f64, tol: f64) -> bool
 }
 
 // The mean of two places, weighted by their multiplicities.
-fn join(a: roots::RealRoot, b: roots::RealRoot) -> roots::RealRoot
+fn join(a: RealRoot, b: RealRoot) -> RealRoot
     requires { ⌜ a .multiplicity + b .multiplicity < 2 ^ 32 ⌝ }
     ensures { λ r. ⌜ r ≡ joinOf a b ⌝ }
 {
     let total = a.multiplicity + b.multiplicity;
     let sum = a.value * a.multiplicity as f64 + b.value * b.multiplicity as f64;
-    roots::RealRoot {
+    RealRoot {
         value: sum / total as f64,
         multiplicity: total,
     }
 }
 
 // The next place b joins the run, or ends it and begins the next one.
-fn next_run(poly: scaled::Scaled, run: Run, b: roots::RealRoot, tol: f64) -> Run
+fn next_run(poly: Scaled, run: Run, b: RealRoot, tol: f64) -> Run
     requires { ⌜ poly .d ≤ 4 ⌝ ∗ ⌜ run .at .multiplicity + b .multiplicity < 2 ^ 32 ⌝ }
     ensures { λ r. ⌜ r ≡ nextRun poly run b tol ⌝ }
 {
@@ -135,32 +185,41 @@ fn next_run(poly: scaled::Scaled, run: Run, b: roots::RealRoot, tol: f64) -> Run
     Run { out: more, at: b }
 }
 
-fn joined(poly: scaled::Scaled, p: roots::Roots, tol: f64) -> roots::Roots
-    requires { ⌜ poly .d ≤ 4 ⌝ ∗ ⌜ (p .len ≤ 4) × (multiplicities (listOf p) < 2 ^ 32) ⌝ }
-    ensures { λ r. ⌜ r ≡ rootsOf (joinedOf poly tol (listOf p)) ⌝ }
+// The last run ends.
+fn ended(run: Run) -> Roots
+    ensures { λ r. ⌜ r ≡ keptIn (run .out) (run .at) ⌝ }
 {
-    let none = roots::Roots::none();
-    if p.len == 0 {
-        return none;
-    }
-    let first = p.root[0];
-    let mut run = Run {
-        out: none,
-        at: first,
-    };
-    let mut k = 1;
-    while k < p.len {
-        let b = p.root[k];
-        run = next_run(poly, run, b, tol);
-        k += 1;
-    }
     let out = run.out;
     let last = run.at;
     out.keep(last.value, last.multiplicity)
 }
 
+fn joined(poly: Scaled, p: Roots, tol: f64) -> Roots
+    requires { ⌜ poly .d ≤ 4 ⌝ ∗ ⌜ (p .len ≤ 4) × (multiplicities (listOf p) < 2 ^ 32) ⌝ }
+    ensures { λ r. ⌜ r ≡ rootsOf (joinedOf poly tol (listOf p)) ⌝ }
+{
+    let none = Roots::none();
+    if p.len == 0 {
+        return none;
+    }
+    let at = p.root[0];
+    let first = Run { out: none, at };
+    if p.len == 1 {
+        return ended(first);
+    }
+    let second = next_run(poly, first, p.root[1], tol);
+    if p.len == 2 {
+        return ended(second);
+    }
+    let third = next_run(poly, second, p.root[2], tol);
+    if p.len == 3 {
+        return ended(third);
+    }
+    ended(next_run(poly, third, p.root[3], tol))
+}
+
 // The u32 sums do not overflow: what the candidates' multiplicities add up to is a u32.
-pub fn finish(poly: scaled::Scaled, c: roots::Roots, tol: f64) -> roots::Roots
+pub fn finish(poly: Scaled, c: Roots, tol: f64) -> Roots
     requires { ⌜ poly .d ≤ 4 ⌝ ∗ ⌜ (c .len ≤ 4) × (multiplicities (listOf c) < 2 ^ 32) ⌝ }
     ensures { λ r. ⌜ r ≡ rootsOf (finishOf poly (listOf c) tol) ⌝ }
 {

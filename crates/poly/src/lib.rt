@@ -115,13 +115,22 @@ fn with_lins(f: factors::Factors, start: roots::Roots) -> roots::Roots
     requires { ⌜ f .nlin ≤ 4 ⌝ }
     ensures { λ r. ⌜ r ≡ countUp (f .nlin) (withLinIn f) (f .nlin) start ⌝ }
 {
-    let mut out = start;
-    let mut i = 0;
-    while i < f.nlin {
-        out = out.keep(f.lin[i], 1);
-        i += 1;
+    if f.nlin == 0 {
+        return start;
     }
-    out
+    let one = start.keep(f.lin[0], 1);
+    if f.nlin == 1 {
+        return one;
+    }
+    let two = one.keep(f.lin[1], 1);
+    if f.nlin == 2 {
+        return two;
+    }
+    let three = two.keep(f.lin[2], 1);
+    if f.nlin == 3 {
+        return three;
+    }
+    three.keep(f.lin[3], 1)
 }
 
 // The same of the quadratic ones, and the pairs.
@@ -135,15 +144,18 @@ fn with_quads(
     ensures { λ s. ⌜ s ≡ countUp (r .f .nquad) (withQuadIn poly (r .f) tol) (r .f .nquad) start ⌝ }
 {
     let f = r.f;
-    let mut s = start;
-    let mut i = 0;
-    while i < f.nquad {
-        let q = f.quad[i];
-        let d = r.disc[i];
-        s = push::push_rooted(poly, q.al, q.be, d, tol, s.roots, s.pairs);
-        i += 1;
+    if f.nquad == 0 {
+        return start;
     }
-    s
+    let q = f.quad[0];
+    let d = r.disc[0];
+    let one = push::push_rooted(poly, q.al, q.be, d, tol, start.roots, start.pairs);
+    if f.nquad == 1 {
+        return one;
+    }
+    let p = f.quad[1];
+    let c = r.disc[1];
+    push::push_rooted(poly, p.al, p.be, c, tol, one.roots, one.pairs)
 }
 
 fn candidates(poly: scaled::Scaled, zeros: usize, tol: f64) -> push::Found
@@ -213,14 +225,27 @@ fn unscaled_all(s: roots::Roots, e: i32) -> roots::Roots
     requires { ⌜ s .len ≤ 4 ⌝ }
     ensures { λ r. ⌜ r ≡ rootsOf (unscaledAll e (listOf s)) ⌝ }
 {
-    let mut out = roots::Roots::none();
-    let mut i = 0;
-    while i < s.len {
-        let r = s.root[i];
-        out = out.keep(scale::ldexp(r.value, e), r.multiplicity);
-        i += 1;
+    let none = roots::Roots::none();
+    if s.len == 0 {
+        return none;
     }
-    out
+    let a = s.root[0];
+    let one = none.keep(scale::ldexp(a.value, e), a.multiplicity);
+    if s.len == 1 {
+        return one;
+    }
+    let b = s.root[1];
+    let two = one.keep(scale::ldexp(b.value, e), b.multiplicity);
+    if s.len == 2 {
+        return two;
+    }
+    let c = s.root[2];
+    let three = two.keep(scale::ldexp(c.value, e), c.multiplicity);
+    if s.len == 3 {
+        return three;
+    }
+    let d = s.root[3];
+    three.keep(scale::ldexp(d.value, e), d.multiplicity)
 }
 
 pub fn real_roots(coeffs: &[f64], tol: f64) -> Answer

@@ -2,14 +2,14 @@
 use mathlib.Core.Path.{_≡_, refl, sym, ap, _∙_}
 use mathlib.Core.Bool.{Bool, true, false, cond, _&&_}
 use mathlib.Core.List.{List, [], _∷_, _++_}
-use Prim.Native.Nat.{ℕ, _+_, _≤_, _<_}
+use Prim.Native.Nat.{ℕ, zero, suc, _+_, _≤_, _<_}
 use native.Mathlib.Omega.{arith}
-use borrow.Author.Tests.{ltb-true}
+use borrow.Author.Tests.{ltb-true, lt-ltb, le-ltb}
 use lib.Dec.{ltb}
 use lib.ListN.{length, drop, getD, set, length-set}
 use lib.Seq.{length-take-le, take-append-seam}
 use Rattle.facts.specs.Cond.{either-way}
-use Rattle.facts.specs.Lists.{length-snoc, left-cons, left-nil, take-pushed, length-padded, padded-push}
+use Rattle.facts.specs.Lists.{of-four, length-snoc, left-cons, left-nil, take-pushed, length-padded, padded-push}
 use Rattle.float.specs.Methods.{isFiniteOf}
 use Rattle.roots.specs.declared.RealRoot.{RealRoot}
 use Rattle.roots.specs.declared.Roots.{Roots}
@@ -29,6 +29,36 @@ pub length-list : (s : Roots) → Fits s → length (listOf s) ≡ s .len
 length-list s f = let e = f .0 in let l = f .1 in length-take-le (s .len) (s .root) (omega arith)
 
 -- ---- one root more
+-- by the places, as the code has it
+module _ (s : Roots) (r : RealRoot) (four : length (s .root) ≡ 4) where
+  by-places : (k : ℕ) (p : List RealRoot → List RealRoot) → ((a b c d : RealRoot) → p (a ∷ b ∷ c ∷ d ∷ []) ≡ set (a ∷ b ∷ c ∷ d ∷ []) k r) → k < 4 → s .len ≡ k → record { root = p (s .root); len = k + 1 } ≡ pushedOf s r
+  unfolding pushedOf
+  by-places k p is h e = rw (e, lt-ltb k 4 h) (ap (λ (l : List RealRoot). record { root = l; len = k + 1 }) (of-four (λ (l : List RealRoot). p l ≡ set l k r) is (s .root) four))
+
+  pub pushed-first : s .len ≡ 0 → record { root = r ∷ getD (s .root) 1 blank ∷ getD (s .root) 2 blank ∷ getD (s .root) 3 blank ∷ []; len = 1 } ≡ pushedOf s r
+  pushed-first e = by-places 0 (λ l. r ∷ getD l 1 blank ∷ getD l 2 blank ∷ getD l 3 blank ∷ []) (λ a b c d. refl) (omega arith) e
+
+  pub pushed-second : s .len ≡ 1 → record { root = getD (s .root) 0 blank ∷ r ∷ getD (s .root) 2 blank ∷ getD (s .root) 3 blank ∷ []; len = 2 } ≡ pushedOf s r
+  pushed-second e = by-places 1 (λ l. getD l 0 blank ∷ r ∷ getD l 2 blank ∷ getD l 3 blank ∷ []) (λ a b c d. refl) (omega arith) e
+
+  pub pushed-third : s .len ≡ 2 → record { root = getD (s .root) 0 blank ∷ getD (s .root) 1 blank ∷ r ∷ getD (s .root) 3 blank ∷ []; len = 3 } ≡ pushedOf s r
+  pushed-third e = by-places 2 (λ l. getD l 0 blank ∷ getD l 1 blank ∷ r ∷ getD l 3 blank ∷ []) (λ a b c d. refl) (omega arith) e
+
+  pub pushed-fourth : s .len ≡ 3 → record { root = getD (s .root) 0 blank ∷ getD (s .root) 1 blank ∷ getD (s .root) 2 blank ∷ r ∷ []; len = 4 } ≡ pushedOf s r
+  pushed-fourth e = by-places 3 (λ l. getD l 0 blank ∷ getD l 1 blank ∷ getD l 2 blank ∷ r ∷ []) (λ a b c d. refl) (omega arith) e
+
+-- no number below 4 is the count: there is no room
+four-or-more : (n : ℕ) → (n ≡ 0 → ⊥) → (n ≡ 1 → ⊥) → (n ≡ 2 → ⊥) → (n ≡ 3 → ⊥) → 4 ≤ n
+four-or-more zero a b c d = absurd (a refl)
+four-or-more (suc zero) a b c d = absurd (b refl)
+four-or-more (suc (suc zero)) a b c d = absurd (c refl)
+four-or-more (suc (suc (suc zero))) a b c d = absurd (d refl)
+four-or-more (suc (suc (suc (suc n)))) a b c d = omega arith
+
+pub pushed-not : (s : Roots) (r : RealRoot) → (s .len ≡ 0 → ⊥) → (s .len ≡ 1 → ⊥) → (s .len ≡ 2 → ⊥) → (s .len ≡ 3 → ⊥) → s ≡ pushedOf s r
+unfolding pushedOf
+pushed-not s r a b c d = rw (le-ltb (s .len) 4 (four-or-more (s .len) a b c d))
+
 pub pushed-fits : (s : Roots) (r : RealRoot) → Fits s → Fits (pushedOf s r)
 unfolding pushedOf
 pushed-fits s r f = go (ltb (s .len) 4) refl
@@ -81,6 +111,31 @@ pairs-nil s k f h = let e = f .0 in let l = f .1 in left-nil (s .pair) (s .len) 
 
 pub length-pairList : (s : Pairs) → PairsFit s → length (pairListOf s) ≡ s .len
 length-pairList s f = let e = f .0 in let l = f .1 in length-take-le (s .len) (s .pair) (omega arith)
+
+-- by the places, as the code has it
+of-two : (P : List Pair → Type 0) → ((a b : Pair) → P (a ∷ b ∷ [])) → (l : List Pair) → length l ≡ 2 → P l
+of-two P f (a ∷ b ∷ []) e = f a b
+of-two P f [] e = absurd (omega (arith, e))
+of-two P f (a ∷ []) e = absurd (omega (arith, e))
+of-two P f (a ∷ b ∷ x ∷ l) e = absurd (omega (arith, e))
+
+module _ (s : Pairs) (p : Pair) (two : length (s .pair) ≡ 2) (finite : isFiniteOf (p .centre) ≡ true) where
+  pub paired-first : s .len ≡ 0 → record { pair = p ∷ getD (s .pair) 1 blankPair ∷ []; len = 1 } ≡ pairedIn s p
+  unfolding pairedIn
+  paired-first e = rw (finite, e) (ap (λ (l : List Pair). record { pair = l; len = 1 }) (of-two (λ (l : List Pair). p ∷ getD l 1 blankPair ∷ [] ≡ set l 0 p) (λ a b. refl) (s .pair) two))
+
+  pub paired-second : s .len ≡ 1 → record { pair = getD (s .pair) 0 blankPair ∷ p ∷ []; len = 2 } ≡ pairedIn s p
+  unfolding pairedIn
+  paired-second e = rw (finite, e) (ap (λ (l : List Pair). record { pair = l; len = 2 }) (of-two (λ (l : List Pair). getD l 0 blankPair ∷ p ∷ [] ≡ set l 1 p) (λ a b. refl) (s .pair) two))
+
+  pub paired-not : (s .len ≡ 0 → ⊥) → (s .len ≡ 1 → ⊥) → s ≡ pairedIn s p
+  unfolding pairedIn
+  paired-not a b = rw (finite, le-ltb (s .len) 2 (two-or-more (s .len) a b))
+    where
+      two-or-more : (n : ℕ) → (n ≡ 0 → ⊥) → (n ≡ 1 → ⊥) → 2 ≤ n
+      two-or-more zero a b = absurd (a refl)
+      two-or-more (suc zero) a b = absurd (b refl)
+      two-or-more (suc (suc n)) a b = omega arith
 
 pub paired-fits : (s : Pairs) (p : Pair) → PairsFit s → PairsFit (pairedIn s p)
 unfolding pairedIn

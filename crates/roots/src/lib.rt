@@ -39,17 +39,34 @@ impl Roots {
         }
     }
 
+    // Each place by its number: the compiler then keeps the roots in registers, where a place that is counted would put them into memory.
     pub fn push(self, r: RealRoot) -> Roots
         ensures { λ s. ⌜ s ≡ pushedOf self r ⌝ }
     {
+        let a = self.root[0];
+        let b = self.root[1];
+        let c = self.root[2];
+        let d = self.root[3];
         let at = self.len;
-        if at < 4 {
-            let mut out = self;
-            out.root[at] = r;
-            out.len = at + 1;
-            return out;
+        match at {
+            0 => Roots {
+                root: [r, b, c, d],
+                len: 1,
+            },
+            1 => Roots {
+                root: [a, r, c, d],
+                len: 2,
+            },
+            2 => Roots {
+                root: [a, b, r, d],
+                len: 3,
+            },
+            3 => Roots {
+                root: [a, b, c, r],
+                len: 4,
+            },
+            _ => self,
         }
-        self
     }
 
     // Candidates::push: only finite places are kept.
@@ -84,16 +101,25 @@ impl Pairs {
     pub fn push(self, centre: f64, half: f64) -> Pairs
         ensures { λ s. ⌜ s ≡ pairedIn self (pair centre half) ⌝ }
     {
-        let at = self.len;
         if float::is_finite(centre) {
-            if at < 2 {
-                let mut out = self;
-                out.pair[at] = Pair {
-                    centre: centre,
-                    half: half,
+            let p = Pair {
+                centre: centre,
+                half: half,
+            };
+            let first = self.pair[0];
+            let second = self.pair[1];
+            let at = self.len;
+            if at == 0 {
+                return Pairs {
+                    pair: [p, second],
+                    len: 1,
                 };
-                out.len = at + 1;
-                return out;
+            }
+            if at == 1 {
+                return Pairs {
+                    pair: [first, p],
+                    len: 2,
+                };
             }
         }
         self

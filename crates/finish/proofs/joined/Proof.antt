@@ -1,69 +1,82 @@
--- `joined` is its definition: the places left, from the run at hand, give the result. Assumes nothing.
-use mathlib.Core.Path.{_≡_, sym, _∙_}
-use Prim.Native.Nat.{_+_, _-_, _^_, _≤_, _<_}
-use lib.ListN.{drop}
+use mathlib.Core.Path.{sym, _∙_}
+use native.Mathlib.Nat.{le-of-eq}
 use Rattle.facts.specs.Lists.{length-mapped}
-use Rattle.roots.specs.Roots.{listOf, rootsOf}
-use Rattle.roots.specs.Listed.{Fits, multiplicities}
-use Rattle.finish.specs.Finish.{joinedOf}
-use Rattle.finish.specs.Run.{runsOf}
-use Rattle.finish.proofs.Runs.{joined-none, joined-start, start-bound, runs-end, runs-turn, join-bound, turn-bound}
+use Rattle.roots.specs.Listed.{Fits}
+use Rattle.finish.proofs.Runs.{joined-none}
+use Rattle.finish.proofs.Places.{is-four, is-three, is-more, second-bound, third-bound, fourth-bound, joined-one, joined-two, joined-three, joined-four}
 use borrow.Author.Needs.{needs}
 use Rattle.finish.proofs.joined.Statement.{statement}
 use Rattle.finish.proofs.joined.Tie as tie
 
-abbrev Inv-loop : tie.InvT-loop
-Inv-loop poly tol p run₀ k₀ run k = (k ≤ p .len) × Fits p × (run .at .multiplicity + multiplicities (drop k (listOf p)) < 2 ^ 32) × (runsOf poly tol run (drop k (listOf p)) ≡ rootsOf (joinedOf poly tol (listOf p)))
+none-requires : tie.Need-none-requires
+none-requires c κs = search needs
 
-abbrev μ-loop : tie.MeasureT-loop
-μ-loop poly tol p run₀ k₀ run k = p .len - k
+returns : tie.Need-returns
+returns c = c .before .none .ensures ∙ joined-none (c .before .before .args .poly) (c .before .before .args .tol) (c .before .before .args .t2) (c .if1 .taken)
 
-returns : tie.Need-returns Inv-loop μ-loop
-returns c =
-    let a = c .before .before .args in
-    c .before .none .ensures ∙ joined-none (a .poly) (a .tol) (a .t2) (c .if1 .taken)
+element-copy-out-at : tie.Need-element-copy-out-at
+element-copy-out-at c = search needs
 
-loop-holds : tie.Need-loop-holds Inv-loop μ-loop
-loop-holds c =
-    let a = c .before .before .before .args in
-    let p = a .t2 in
-    let f : Fits p = (search (needs, length-mapped), search needs) in
-    (search needs, f, start-bound (a .poly) (a .tol) p f (search needs) (search needs), rw (c .before .before .none .ensures) (joined-start (a .poly) (a .tol) p f (search needs)))
+ended-requires : tie.Need-ended-requires
+ended-requires c κs = search needs
 
-next-run-requires : tie.Need-next-run-requires Inv-loop μ-loop
-next-run-requires c κs =
-    let a = c .before .before .before .before .before .before .args in
-    let l = c .before .before .loop in
-    (search needs, join-bound (a .poly) (a .tol) (a .t2) (l .inv .1) (l .run) (l .k) (c .before .loop-test .taken) (l .inv .2))
+returns-2 : tie.Need-returns-2
+returns-2 c = let a = c .before .before .before .before .before .args in let f : Fits (a .t2) = (let h = c .before .before .before .before .before .good .1 .0 in search (needs, length-mapped), c .before .before .before .before .before .pre .1 .0) in c .ended .ensures ∙ joined-one (a .poly) (a .tol) (a .t2) f (c .before .before .before .before .none .ensures) (c .before .if2 .taken)
 
-loop-again : tie.Need-loop-again Inv-loop μ-loop
-loop-again c =
-    let a = c .before .before .before .before .before .before .before .args in
-    let l = c .before .before .before .loop in
-    let p = a .t2 in
-    (search needs, l .inv .1, rw (c .next-run .ensures) (turn-bound (a .poly) (a .tol) p (l .inv .1) (l .run) (l .k) (c .before .before .loop-test .taken) (l .inv .2)), rw (c .next-run .ensures) (sym (runs-turn (a .poly) (a .tol) p (l .inv .1) (l .run) (l .k) (c .before .before .loop-test .taken)) ∙ l .inv .3))
+element-copy-out-next-run : tie.Need-element-copy-out-next-run
+element-copy-out-next-run c = search needs
 
-returns-2 : tie.Need-returns-2 Inv-loop μ-loop
-returns-2 c =
-    let a = c .before .before .before .before .before .before .before .before .args in
-    let l = c .before .before .before .before .loop in
-    c .keep .ensures ∙ sym (runs-end (a .poly) (a .tol) (a .t2) (l .inv .1) (l .run) (l .k) (c .before .before .before .loop-test .left)) ∙ l .inv .3
+next-run-requires : tie.Need-next-run-requires
+next-run-requires c κs = let a = c .before .before .before .before .before .args in let f : Fits (a .t2) = (let h = c .before .before .before .before .before .good .1 .0 in search (needs, length-mapped), c .before .before .before .before .before .pre .1 .0) in let more = is-more (a .t2 .len) (c .before .before .before .if1 .left) (c .before .if2 .left) in (c .before .before .before .before .before .pre .0, second-bound (a .poly) (a .tol) (a .t2) f (c .before .before .before .before .none .ensures) (c .before .before .before .before .before .pre .1 .1) more)
+
+ended-requires-2 : tie.Need-ended-requires-2
+ended-requires-2 c κs = search needs
+
+returns-3 : tie.Need-returns-3
+returns-3 c = let a = c .before .before .before .before .before .before .before .before .args in let f : Fits (a .t2) = (let h = c .before .before .before .before .before .before .before .before .good .1 .0 in search (needs, length-mapped), c .before .before .before .before .before .before .before .before .pre .1 .0) in c .ended2 .ensures ∙ joined-two (a .poly) (a .tol) (a .t2) f (c .before .before .before .before .before .before .before .none .ensures) (c .before .before .next-run .ensures) (c .before .if3 .taken)
+
+element-copy-out-next-run-2 : tie.Need-element-copy-out-next-run-2
+element-copy-out-next-run-2 c = search needs
+
+next-run-requires-2 : tie.Need-next-run-requires-2
+next-run-requires-2 c κs = let a = c .before .before .before .before .before .before .before .before .args in let f : Fits (a .t2) = (let h = c .before .before .before .before .before .before .before .before .good .1 .0 in search (needs, length-mapped), c .before .before .before .before .before .before .before .before .pre .1 .0) in let more = is-three (a .t2 .len) (is-more (a .t2 .len) (c .before .before .before .before .before .before .if1 .left) (c .before .before .before .before .if2 .left)) (c .before .if3 .left) in (c .before .before .before .before .before .before .before .before .pre .0, third-bound (a .poly) (a .tol) (a .t2) f (c .before .before .before .before .before .before .before .none .ensures) (c .before .before .before .before .before .before .before .before .pre .1 .1) (c .before .before .next-run .ensures) more)
+
+ended-requires-3 : tie.Need-ended-requires-3
+ended-requires-3 c κs = search needs
+
+returns-4 : tie.Need-returns-4
+returns-4 c = let a = c .before .before .before .before .before .before .before .before .before .before .before .args in let f : Fits (a .t2) = (let h = c .before .before .before .before .before .before .before .before .before .before .before .good .1 .0 in search (needs, length-mapped), c .before .before .before .before .before .before .before .before .before .before .before .pre .1 .0) in c .ended3 .ensures ∙ joined-three (a .poly) (a .tol) (a .t2) f (c .before .before .before .before .before .before .before .before .before .before .none .ensures) (c .before .before .before .before .before .next-run .ensures) (c .before .before .next-run2 .ensures) (c .before .if4 .taken)
+
+element-copy-out-next-run-3 : tie.Need-element-copy-out-next-run-3
+element-copy-out-next-run-3 c = search needs
+
+next-run-requires-3 : tie.Need-next-run-requires-3
+next-run-requires-3 c κs = let a = c .before .before .before .before .before .before .before .before .before .before .before .args in let f : Fits (a .t2) = (let h = c .before .before .before .before .before .before .before .before .before .before .before .good .1 .0 in search (needs, length-mapped), c .before .before .before .before .before .before .before .before .before .before .before .pre .1 .0) in let four = is-four (a .t2 .len) (c .before .before .before .before .before .before .before .before .before .before .before .pre .1 .0) (is-more (a .t2 .len) (c .before .before .before .before .before .before .before .before .before .if1 .left) (c .before .before .before .before .before .before .before .if2 .left)) (c .before .before .before .before .if3 .left) (c .before .if4 .left) in (c .before .before .before .before .before .before .before .before .before .before .before .pre .0, fourth-bound (a .poly) (a .tol) (a .t2) f (c .before .before .before .before .before .before .before .before .before .before .none .ensures) (c .before .before .before .before .before .before .before .before .before .before .before .pre .1 .1) (c .before .before .before .before .before .next-run .ensures) (c .before .before .next-run2 .ensures) (le-of-eq (sym four)))
+
+ended-requires-4 : tie.Need-ended-requires-4
+ended-requires-4 c κs = search needs
+
+returns-5 : tie.Need-returns-5
+returns-5 c = let a = c .before .before .before .before .before .before .before .before .before .before .before .before .before .args in let f : Fits (a .t2) = (let h = c .before .before .before .before .before .before .before .before .before .before .before .before .before .good .1 .0 in search (needs, length-mapped), c .before .before .before .before .before .before .before .before .before .before .before .before .before .pre .1 .0) in let four = is-four (a .t2 .len) (c .before .before .before .before .before .before .before .before .before .before .before .before .before .pre .1 .0) (is-more (a .t2 .len) (c .before .before .before .before .before .before .before .before .before .before .before .if1 .left) (c .before .before .before .before .before .before .before .before .before .if2 .left)) (c .before .before .before .before .before .before .if3 .left) (c .before .before .before .if4 .left) in c .ended4 .ensures ∙ joined-four (a .poly) (a .tol) (a .t2) f (c .before .before .before .before .before .before .before .before .before .before .before .before .none .ensures) (c .before .before .before .before .before .before .before .next-run .ensures) (c .before .before .before .before .next-run2 .ensures) (c .before .next-run3 .ensures) four
 
 pub joined-spec : {M : Type 1} → statement M
 joined-spec =
     tie.close
     (tie.spec
-    Inv-loop
-    μ-loop
-    (λ c κs. search needs)
+    none-requires
     returns
-    (λ c. search needs)
-    loop-holds
-    (λ c. search needs)
-    (λ c. search needs)
+    element-copy-out-at
+    ended-requires
+    returns-2
+    element-copy-out-next-run
     next-run-requires
-    (λ c. search needs)
-    (λ c. search needs)
-    loop-again
-    (λ c κs. search needs)
-    returns-2)
+    ended-requires-2
+    returns-3
+    element-copy-out-next-run-2
+    next-run-requires-2
+    ended-requires-3
+    returns-4
+    element-copy-out-next-run-3
+    next-run-requires-3
+    ended-requires-4
+    returns-5)

@@ -1,39 +1,63 @@
--- `poly::with_lins` meets its contract: each turn pushes one linear factor. Assumes nothing.
-use mathlib.Core.Path.{_≡_, sym, _∙_}
-use Prim.Native.Nat.{_-_, _≤_}
-use borrow.Author.Needs.{needs}
-use native.Mathlib.Nat.{sub-zero}
-use Rattle.facts.specs.Count.{countUp, up-turn, up-end}
+use native.Mathlib.Nat.{le-antisymm}
 use Rattle.poly.specs.Found.{withLinIn}
+use Rattle.poly.proofs.Few.{some, more, no-turn, one-turn, two-turns, three-turns, four-turns}
+use borrow.Author.Needs.{needs}
 use Rattle.poly.proofs.with_lins.Statement.{statement}
 use Rattle.poly.proofs.with_lins.Tie as tie
 
-abbrev Inv-loop : tie.InvT-loop
-Inv-loop f out₀ i₀ out i = (i ≤ f .nlin) × (countUp (f .nlin) (withLinIn f) (f .nlin - i) out ≡ countUp (f .nlin) (withLinIn f) (f .nlin) out₀)
+returns : tie.Need-returns
+returns c = no-turn (withLinIn (c .before .args .t1)) (c .if1 .taken)
 
-abbrev μ-loop : tie.MeasureT-loop
-μ-loop f out₀ i₀ out i = f .nlin - i
+element-copy-out-keep : tie.Need-element-copy-out-keep
+element-copy-out-keep c = search needs
 
-loop-holds : tie.Need-loop-holds Inv-loop μ-loop
-loop-holds c = (search needs, simp sub-zero)
+keep-requires : tie.Need-keep-requires
+keep-requires c κs = search needs
 
-loop-again : tie.Need-loop-again Inv-loop μ-loop
-loop-again c = (search needs, rw (c .keep .ensures) (sym (up-turn _ _ _ _ (search needs)) ∙ c .before .before .before .loop .inv .1))
+returns-2 : tie.Need-returns-2
+returns-2 c = one-turn (withLinIn (c .before .before .before .before .args .t1)) (c .before .keep .ensures) (c .if2 .taken)
 
-returns : tie.Need-returns Inv-loop μ-loop
-returns c = sym (up-end _ _ _ _ (search needs)) ∙ c .before .loop .inv .1
+element-copy-out-keep-2 : tie.Need-element-copy-out-keep-2
+element-copy-out-keep-2 c = search needs
+
+keep-requires-2 : tie.Need-keep-requires-2
+keep-requires-2 c κs = search needs
+
+returns-3 : tie.Need-returns-3
+returns-3 c = two-turns (withLinIn (c .before .before .before .before .before .before .before .args .t1)) (c .before .before .before .before .keep .ensures) (c .before .keep2 .ensures) (c .if3 .taken)
+
+element-copy-out-keep-3 : tie.Need-element-copy-out-keep-3
+element-copy-out-keep-3 c = search needs
+
+keep-requires-3 : tie.Need-keep-requires-3
+keep-requires-3 c κs = search needs
+
+returns-4 : tie.Need-returns-4
+returns-4 c = three-turns (withLinIn (c .before .before .before .before .before .before .before .before .before .before .args .t1)) (c .before .before .before .before .before .before .before .keep .ensures) (c .before .before .before .before .keep2 .ensures) (c .before .keep3 .ensures) (c .if4 .taken)
+
+element-copy-out-keep-4 : tie.Need-element-copy-out-keep-4
+element-copy-out-keep-4 c = search needs
+
+keep-requires-4 : tie.Need-keep-requires-4
+keep-requires-4 c κs = search needs
+
+returns-5 : tie.Need-returns-5
+returns-5 c = let n = c .before .before .before .before .before .before .before .before .before .before .before .before .args .t1 .nlin in four-turns (withLinIn (c .before .before .before .before .before .before .before .before .before .before .before .before .args .t1)) (c .before .before .before .before .before .before .before .before .before .keep .ensures) (c .before .before .before .before .before .before .keep2 .ensures) (c .before .before .before .keep3 .ensures) (c .keep4 .ensures) (le-antisymm (c .before .before .before .before .before .before .before .before .before .before .before .before .pre) (more n 3 (more n 2 (more n 1 (some n (c .before .before .before .before .before .before .before .before .before .before .before .if1 .left)) (c .before .before .before .before .before .before .before .before .if2 .left)) (c .before .before .before .before .before .if3 .left)) (c .before .before .if4 .left)))
 
 pub with-lins-spec : {M : Type 1} → statement M
 with-lins-spec =
     tie.close
     (tie.spec
-    Inv-loop
-    μ-loop
-    loop-holds
-    (λ c. search needs)
-    (λ c. search needs)
-    (λ c κs. search needs)
-    (λ c. search needs)
-    (λ c. search needs)
-    loop-again
-    returns)
+    returns
+    element-copy-out-keep
+    keep-requires
+    returns-2
+    element-copy-out-keep-2
+    keep-requires-2
+    returns-3
+    element-copy-out-keep-3
+    keep-requires-3
+    returns-4
+    element-copy-out-keep-4
+    keep-requires-4
+    returns-5)

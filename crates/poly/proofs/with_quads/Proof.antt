@@ -1,46 +1,50 @@
--- `poly::with_quads` meets its contract: each turn pushes one quadratic factor. Assumes nothing.
-use mathlib.Core.Path.{_≡_, sym, _∙_}
-use Prim.Native.Nat.{_-_, _≤_}
-use borrow.Author.Needs.{needs}
-use native.Mathlib.Nat.{sub-zero}
-use Rattle.facts.specs.Count.{countUp, up-turn, up-end}
+use mathlib.Core.Path.{_∙_}
+use native.Mathlib.Nat.{le-antisymm}
 use Rattle.push.proofs.Laws.{same-push}
 use Rattle.factorize.proofs.Discs.{disc-is}
 use Rattle.poly.specs.Found.{withQuadIn}
+use Rattle.poly.proofs.Few.{some, more, no-turn, one-turn, two-turns}
+use borrow.Author.Needs.{needs}
 use Rattle.poly.proofs.with_quads.Statement.{statement}
 use Rattle.poly.proofs.with_quads.Tie as tie
 
-abbrev Inv-loop : tie.InvT-loop
-Inv-loop poly tol r f s₀ i₀ s i = (i ≤ r .f .nquad) × (countUp (r .f .nquad) (withQuadIn poly (r .f) tol) (r .f .nquad - i) s ≡ countUp (r .f .nquad) (withQuadIn poly (r .f) tol) (r .f .nquad) s₀)
+returns : tie.Need-returns
+returns c = let a = c .before .before .args in no-turn (withQuadIn (a .poly) (a .t2 .f) (a .tol)) (c .if1 .taken)
 
-abbrev μ-loop : tie.MeasureT-loop
-μ-loop poly tol r f s₀ i₀ s i = r .f .nquad - i
+element-copy-out-q : tie.Need-element-copy-out-q
+element-copy-out-q c = search needs
 
-loop-holds : tie.Need-loop-holds Inv-loop μ-loop
-loop-holds c = (search needs, simp sub-zero)
+element-copy-out-d : tie.Need-element-copy-out-d
+element-copy-out-d c = search needs
 
-loop-again : tie.Need-loop-again Inv-loop μ-loop
-loop-again c =
-    let at-test = c .before .before .before in
-    let pre = at-test .before .before .before .pre .1 in
-    (search needs, rw (c .push-rooted .ensures ∙ same-push _ _ _ _ _ _ (disc-is (at-test .before .before .before .args .t2) _ (pre .1) (at-test .loop-test .taken) (pre .0))) (sym (up-turn _ _ _ _ (search needs)) ∙ at-test .before .loop .inv .1))
+push-rooted-requires : tie.Need-push-rooted-requires
+push-rooted-requires c κs = search needs
 
-returns : tie.Need-returns Inv-loop μ-loop
-returns c = sym (up-end _ _ _ _ (search needs)) ∙ c .before .loop .inv .1
+returns-2 : tie.Need-returns-2
+returns-2 c = let a = c .before .before .before .before .before .before .args in let n = a .t2 .f .nquad in let pre = c .before .before .before .before .before .before .pre .1 in one-turn (withQuadIn (a .poly) (a .t2 .f) (a .tol)) (c .before .push-rooted .ensures ∙ same-push _ _ _ _ _ _ (disc-is (a .t2) 0 (pre .1) (some n (c .before .before .before .before .if1 .left)) (pre .0))) (c .if2 .taken)
+
+element-copy-out-p : tie.Need-element-copy-out-p
+element-copy-out-p c = search needs
+
+element-copy-out-c : tie.Need-element-copy-out-c
+element-copy-out-c c = search needs
+
+push-rooted-requires-2 : tie.Need-push-rooted-requires-2
+push-rooted-requires-2 c κs = search needs
+
+returns-3 : tie.Need-returns-3
+returns-3 c = let a = c .before .before .before .before .before .before .before .before .before .args in let n = a .t2 .f .nquad in let pre = c .before .before .before .before .before .before .before .before .before .pre .1 in let two = more n 1 (some n (c .before .before .before .before .before .before .before .if1 .left)) (c .before .before .before .if2 .left) in two-turns (withQuadIn (a .poly) (a .t2 .f) (a .tol)) (c .before .before .before .before .push-rooted .ensures ∙ same-push _ _ _ _ _ _ (disc-is (a .t2) 0 (pre .1) (some n (c .before .before .before .before .before .before .before .if1 .left)) (pre .0))) (c .push-rooted2 .ensures ∙ same-push _ _ _ _ _ _ (disc-is (a .t2) 1 (pre .1) two (pre .0))) (le-antisymm (pre .0) two)
 
 pub with-quads-spec : {M : Type 1} → statement M
 with-quads-spec =
     tie.close
     (tie.spec
-    Inv-loop
-    μ-loop
-    loop-holds
-    (λ c. search needs)
-    (λ c. search needs)
-    (λ c. search needs)
-    (λ c. search needs)
-    (λ c κs. search needs)
-    (λ c. search needs)
-    (λ c. search needs)
-    loop-again
-    returns)
+    returns
+    element-copy-out-q
+    element-copy-out-d
+    push-rooted-requires
+    returns-2
+    element-copy-out-p
+    element-copy-out-c
+    push-rooted-requires-2
+    returns-3)
