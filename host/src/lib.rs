@@ -20,6 +20,7 @@ pub mod coverage;
 pub mod cranks;
 #[cfg(geomcore)]
 pub mod differ;
+pub mod documents;
 pub mod doubt;
 pub mod exact;
 #[cfg(geomcore)]

@@ -47,7 +47,7 @@ radiusOf t d budget = countUp (d + 1) (radiusStep t budget) (d + 1 - 2) inf64
 unfoldable pub noiseWithin : List Float → ℕ → Float → Float → Float
 noiseWithin f d y budget = let r = radiusOf (taylorOf f d y) d budget in cond (isFiniteOf r) r zero64
 
--- `noise`: how far rounding can move a multiple root at y
+-- `noise`, in its words the 'radius within which rounding [..] can move a multiple root at y'
 unfoldable pub noiseOf : Scaled → Float → Float
 noiseOf poly y = noiseWithin (poly .f) (poly .d) y (budgetOf (poly .f) (poly .d) y)
 

@@ -44,7 +44,7 @@ threeRootsOf shift p q =
       n = 3;
     }
 
--- the real roots of t^3 + p*t + q, moved by shift: one where disc > 0 or p >= 0, else three; a double root, where disc is 0 and p < 0, is among three
+-- what the formulas give as the real roots of t^3 + p*t + q, moved by shift: one where disc > 0 or p >= 0, else three, also where disc is 0
 unfoldable pub depressedRootsOf : Float → Float → Float → Float → CubicRoots
 depressedRootsOf shift p q disc = cond (lt zero64 disc || le zero64 p) (oneRootOf shift p q disc) (threeRootsOf shift p q)
 

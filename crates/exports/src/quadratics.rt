@@ -7,6 +7,7 @@ ghost use Rattle.equation.specs.Quadratic.{quadraticCentreOf, solveQuadraticOf,
 ghost use Rattle.front.specs.Crank.{crankFrontOf};
 ghost use Rattle.lent.specs.Bytes.{Answered, Stored};
 ghost use Rattle.exports.specs.Quadratics.{solutionOf, solutionNumbers, frontNumbers};
+ghost use Rattle.exports.specs.Inquiries.{replyAt};
 use lent::answer;
 use lent::store;
 use solution::QuadraticSolution;
@@ -83,19 +84,20 @@ pub extern "C" fn shifted(n: u32, x: f64, y: f64, t0: f64, out: &mut [u8]) -> u6
     store(out, &solution_numbers(s.shifted(t0)))
 }
 
+// The reply is a number, 0 for no.
 #[no_mangle]
 pub extern "C" fn touching_at(
     n: u32,
     x: f64,
     y: f64,
     vertex: f64,
-    touches: bool,
+    touches: u32,
     out: &mut [u8],
 ) -> u64
-    ensures { λ r. ⌜ Stored (solutionNumbers (touchingAtOf (solutionOf n x y) vertex touches)) (now (out .entry)) r (now (out .exit)) ⌝ }
+    ensures { λ r. ⌜ Stored (solutionNumbers (touchingAtOf (solutionOf n x y) vertex (replyAt touches))) (now (out .entry)) r (now (out .exit)) ⌝ }
 {
     let s = solution(n, x, y);
-    store(out, &solution_numbers(s.touching_at(vertex, touches)))
+    store(out, &solution_numbers(s.touching_at(vertex, touches != 0)))
 }
 
 // k, and the quartic's coefficients, ascending.

@@ -1,4 +1,4 @@
-// Evaluation: the exact product and the discriminant, a polynomial's value and slope by Horner's rule, plain and compensated, its derivatives and its
+// Evaluation: two_prod and the discriminant, a polynomial's value and slope by Horner's rule, plain and compensated, its derivatives and its
 // Taylor coefficients. Each function is the one of poly.rs of that name, on all bits. It rests on `float` and `facts`; refining, factoring, scaling and
 // polishing rest on it.
 ghost use mathlib.Core.Path.{_≡_};
@@ -12,7 +12,7 @@ pub struct ValueSlope {
     pub slope: f64,
 }
 
-// A product and its rounding error.
+// A product, and Dekker's formula for its rounding error.
 pub struct TwoProd {
     pub prod: f64,
     pub err: f64,

@@ -27,6 +27,6 @@ splitFrom lg at (suc k) =
     let rest = splitFrom lg at k in
     cond (lt eight64 (sub binary64 hi lo)) (record { found = true; small = getD at (k + 1) 0; threshold = exp2Of (mul binary64 half64 (add binary64 lo hi)) }) rest
 
--- magnitude_split: `small` roots lie below the gap, and its middle is about `threshold`
+-- magnitude_split: `small` is in its words 'the number of roots below' the gap, `threshold` the 'geometric middle of the gap'
 unfoldable pub magnitudeSplitOf : List Float → ℕ → Split
 magnitudeSplitOf lg d = let s = hullOf lg d in splitFrom lg (s .at) (s .h - 2)

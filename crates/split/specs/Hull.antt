@@ -1,4 +1,4 @@
--- The upper hull of the points (i, lg[i]), as magnitude_split of poly.rs builds it. Definitions only.
+-- The points (i, lg[i]) that magnitude_split of poly.rs keeps, in its words the 'upper hull'. Definitions only.
 -- A point of the hull is kept as its index i: its other coordinate, the Rust's hull[k].1, is lg[i].
 use mathlib.Core.Path.{_≡_}
 use mathlib.Core.Bool.{cond}

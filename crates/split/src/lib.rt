@@ -1,4 +1,4 @@
-// magnitude_split of poly.rs: the topmost gap of more than 8 bits between root sizes, read off the upper hull of the points (i, lg[i]).
+// magnitude_split of poly.rs: the topmost gap of more than 8 bits between root sizes, read off what it calls the upper hull of the points (i, lg[i]).
 // It rests on `float` and `scale`; factorize, which hands it the logarithms of a scaled polynomial, rests on it.
 ghost use mathlib.Core.Path.{_≡_};
 ghost use Prim.Native.Nat.{_≤_, _<_, _+_};
@@ -12,7 +12,7 @@ pub struct Hull {
     pub h: usize,
 }
 
-// Where `found` is set, `small` roots lie below the gap, and its middle is about `threshold`.
+// Where `found` is set, `small` counts the roots below the gap, and `threshold` is about its middle, as the hull has them.
 pub struct Split {
     pub found: bool,
     pub small: usize,

@@ -1,5 +1,6 @@
 //! The test host's program for people.
-use host::{bench, people, stored};
+use host::{bench, documents, people, stored};
+use std::io;
 use std::path::Path;
 use std::process::ExitCode;
 
@@ -21,6 +22,7 @@ hall causes COUNT SEED    which leaf makes the untouched Rust depart, over COUNT
                           feature `causes`
 hall stored leaves DIR    write inputs of the leaves to DIR/data/leaves, and the exact
                           answers to DIR/stdout: what the crate leafcases reads and prints
+hall documents            write the documents that are made from the repository's own text
 hall --help               this page
 ";
 
@@ -43,6 +45,7 @@ fn main() -> ExitCode {
     match words[..] {
         ["--help" | "-h" | "help"] => print!("{}{HELP}", people::HELP),
         ["bench"] => bench::run(),
+        ["documents"] => return written(documents::write()),
         [what, count, seed] if RUNS.iter().any(|run| run.0 == what) => {
             return compare(what, count, seed);
         }
@@ -103,6 +106,17 @@ fn long_run(what: &str, _: u64, _: u64) -> bool {
     true
 }
 
+/// Status 1 where a file cannot be read or written.
+fn written(outcome: io::Result<()>) -> ExitCode {
+    match outcome {
+        Ok(()) => ExitCode::SUCCESS,
+        Err(e) => {
+            eprintln!("hall: {e}");
+            ExitCode::FAILURE
+        }
+    }
+}
+
 fn store_leaves(dir: &Path) -> ExitCode {
     match stored::write_leaves(dir) {
         Ok(n) => {
@@ -125,7 +139,7 @@ fn refuse(words: &[&str]) -> ExitCode {
         words.iter().zip(form).take_while(same).count()
     };
     let runs = RUNS.map(|(run, number)| [run, number, "SEED"]);
-    let forms: [&[&str]; 2] = [&["bench"], &["stored", "leaves", "DIR"]];
+    let forms: [&[&str]; 3] = [&["bench"], &["documents"], &["stored", "leaves", "DIR"]];
     let forms = forms.into_iter().chain(runs.iter().map(|run| &run[..])).chain(people::FORMS);
     let understood = forms.map(fits).max().unwrap_or(0);
     match words.get(understood) {

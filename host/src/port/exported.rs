@@ -149,7 +149,7 @@ exported! {
         -> u64;
     fn quadratic_centre(a: f64, b: f64, angular: f64) -> f64;
     fn shifted(n: u32, x: f64, y: f64, t0: f64, out: &mut [u8]) -> u64;
-    fn touching_at(n: u32, x: f64, y: f64, vertex: f64, touches: bool, out: &mut [u8]) -> u64;
+    fn touching_at(n: u32, x: f64, y: f64, vertex: f64, touches: u32, out: &mut [u8]) -> u64;
     /// k and the quartic.
     fn crank_front(a2: f64, b2: f64, c1: f64, d1: f64, e: f64, out: &mut [u8]) -> u64;
 }

@@ -31,7 +31,7 @@ pub fn shifted((n, [x, y]): Solution, t0: f64) -> Solution {
 
 /// `touching_at`'s answer, with the reply.
 pub fn touching_at((n, [x, y]): Solution, vertex: f64, touches: bool) -> Solution {
-    solution(numbers(|out| exported::touching_at(n, x, y, vertex, touches, out)))
+    solution(numbers(|out| exported::touching_at(n, x, y, vertex, touches as u32, out)))
 }
 
 /// The refusal's number, 0 where there is none; k and the quartic, zeros where refused.
