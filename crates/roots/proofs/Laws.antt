@@ -1,13 +1,15 @@
--- Roots and pairs in arrays with a count stand for lists: a push on the one side is a push on the other, and a loop over the array reads the list. Assumes nothing.
+-- Roots and pairs in arrays with a count stand for lists: a push on the one side is a push on the other, and a loop over the array reads the list.
+-- Assumes nothing.
 use mathlib.Core.Path.{_≡_, refl, sym, ap, _∙_}
 use mathlib.Core.Bool.{Bool, true, false, cond, _&&_}
 use mathlib.Core.List.{List, [], _∷_, _++_}
 use Prim.Native.Nat.{ℕ, zero, suc, _+_, _≤_, _<_}
 use native.Mathlib.Omega.{arith}
 use borrow.Author.Tests.{ltb-true, lt-ltb, le-ltb}
-use lib.Dec.{ltb}
+use lib.Dec.{ltb, eqb}
 use lib.ListN.{length, drop, getD, set, length-set}
 use lib.Seq.{length-take-le, take-append-seam}
+use Rattle.facts.specs.Arrays.{fromFn}
 use Rattle.facts.specs.Cond.{either-way}
 use Rattle.facts.specs.Lists.{of-four, length-snoc, left-cons, left-nil, take-pushed, length-padded, padded-push}
 use Rattle.float.specs.Methods.{isFiniteOf}
@@ -29,35 +31,28 @@ pub length-list : (s : Roots) → Fits s → length (listOf s) ≡ s .len
 length-list s f = let e = f .0 in let l = f .1 in length-take-le (s .len) (s .root) (omega arith)
 
 -- ---- one root more
--- by the places, as the code has it
-module _ (s : Roots) (r : RealRoot) (four : length (s .root) ≡ 4) where
-  by-places : (k : ℕ) (p : List RealRoot → List RealRoot) → ((a b c d : RealRoot) → p (a ∷ b ∷ c ∷ d ∷ []) ≡ set (a ∷ b ∷ c ∷ d ∷ []) k r) → k < 4 → s .len ≡ k → record { root = p (s .root); len = k + 1 } ≡ pushedOf s r
+-- Each place of four by its number, as the code has it: r at place k, and the others as they are.
+abbrev fourWith : {A : Type 0} (l : List A) (d : A) (k : ℕ) (r : A) → List A
+fourWith l d k r = fromFn 4 (λ j. cond (eqb j k) r (getD l j d))
+
+four-set : {A : Type 0} (l : List A) (d : A) (k : ℕ) (r : A) → length l ≡ 4 → k < 4 → fourWith l d k r ≡ set l k r
+four-set {A} l d k r four h = of-four (λ (l : List A). fourWith l d k r ≡ set l k r) (go k h) l four
+  where
+    go : (k : ℕ) → k < 4 → (a b c e : A) → fourWith (a ∷ b ∷ c ∷ e ∷ []) d k r ≡ set (a ∷ b ∷ c ∷ e ∷ []) k r
+    go zero h a b c e = refl
+    go (suc zero) h a b c e = refl
+    go (suc (suc zero)) h a b c e = refl
+    go (suc (suc (suc zero))) h a b c e = refl
+    go (suc (suc (suc (suc k)))) h a b c e = absurd (omega arith)
+
+module _ (s : Roots) (r : RealRoot) where
+  pub pushed-at : (k : ℕ) → length (s .root) ≡ 4 → k < 4 → s .len ≡ k → record { root = fourWith (s .root) blank k r; len = k + 1 } ≡ pushedOf s r
   unfolding pushedOf
-  by-places k p is h e = rw (e, lt-ltb k 4 h) (ap (λ (l : List RealRoot). record { root = l; len = k + 1 }) (of-four (λ (l : List RealRoot). p l ≡ set l k r) is (s .root) four))
+  pushed-at k four h e = rw (e, lt-ltb k 4 h) (ap (λ (l : List RealRoot). record { root = l; len = k + 1 }) (four-set (s .root) blank k r four h))
 
-  pub pushed-first : s .len ≡ 0 → record { root = r ∷ getD (s .root) 1 blank ∷ getD (s .root) 2 blank ∷ getD (s .root) 3 blank ∷ []; len = 1 } ≡ pushedOf s r
-  pushed-first e = by-places 0 (λ l. r ∷ getD l 1 blank ∷ getD l 2 blank ∷ getD l 3 blank ∷ []) (λ a b c d. refl) (omega arith) e
-
-  pub pushed-second : s .len ≡ 1 → record { root = getD (s .root) 0 blank ∷ r ∷ getD (s .root) 2 blank ∷ getD (s .root) 3 blank ∷ []; len = 2 } ≡ pushedOf s r
-  pushed-second e = by-places 1 (λ l. getD l 0 blank ∷ r ∷ getD l 2 blank ∷ getD l 3 blank ∷ []) (λ a b c d. refl) (omega arith) e
-
-  pub pushed-third : s .len ≡ 2 → record { root = getD (s .root) 0 blank ∷ getD (s .root) 1 blank ∷ r ∷ getD (s .root) 3 blank ∷ []; len = 3 } ≡ pushedOf s r
-  pushed-third e = by-places 2 (λ l. getD l 0 blank ∷ getD l 1 blank ∷ r ∷ getD l 3 blank ∷ []) (λ a b c d. refl) (omega arith) e
-
-  pub pushed-fourth : s .len ≡ 3 → record { root = getD (s .root) 0 blank ∷ getD (s .root) 1 blank ∷ getD (s .root) 2 blank ∷ r ∷ []; len = 4 } ≡ pushedOf s r
-  pushed-fourth e = by-places 3 (λ l. getD l 0 blank ∷ getD l 1 blank ∷ getD l 2 blank ∷ r ∷ []) (λ a b c d. refl) (omega arith) e
-
--- no number below 4 is the count: there is no room
-four-or-more : (n : ℕ) → (n ≡ 0 → ⊥) → (n ≡ 1 → ⊥) → (n ≡ 2 → ⊥) → (n ≡ 3 → ⊥) → 4 ≤ n
-four-or-more zero a b c d = absurd (a refl)
-four-or-more (suc zero) a b c d = absurd (b refl)
-four-or-more (suc (suc zero)) a b c d = absurd (c refl)
-four-or-more (suc (suc (suc zero))) a b c d = absurd (d refl)
-four-or-more (suc (suc (suc (suc n)))) a b c d = omega arith
-
-pub pushed-not : (s : Roots) (r : RealRoot) → (s .len ≡ 0 → ⊥) → (s .len ≡ 1 → ⊥) → (s .len ≡ 2 → ⊥) → (s .len ≡ 3 → ⊥) → s ≡ pushedOf s r
-unfolding pushedOf
-pushed-not s r a b c d = rw (le-ltb (s .len) 4 (four-or-more (s .len) a b c d))
+  pub pushed-not : 4 ≤ s .len → s ≡ pushedOf s r
+  unfolding pushedOf
+  pushed-not h = rw (le-ltb (s .len) 4 h)
 
 pub pushed-fits : (s : Roots) (r : RealRoot) → Fits s → Fits (pushedOf s r)
 unfolding pushedOf
@@ -71,7 +66,8 @@ pub pushed-list : (s : Roots) (r : RealRoot) → Fits s → listOf (pushedOf s r
 unfolding pushedOf held
 pushed-list s r f = go (ltb (s .len) 4) refl ∙ ap (λ (k : ℕ). cond (ltb k 4) (listOf s ++ r ∷ []) (listOf s)) (sym (length-list s f))
   where
-    go : (b : Bool) → ltb (s .len) 4 ≡ b → listOf (cond b (record { root = set (s .root) (s .len) r; len = s .len + 1 }) s) ≡ cond b (listOf s ++ r ∷ []) (listOf s)
+    go : (b : Bool) → ltb (s .len) 4 ≡ b
+        → listOf (cond b (record { root = set (s .root) (s .len) r; len = s .len + 1 }) s) ≡ cond b (listOf s ++ r ∷ []) (listOf s)
     go true t = let h = ltb-true (s .len) 4 t in let e = f .0 in take-pushed (s .root) (s .len) r (omega arith)
     go false t = refl
 
@@ -90,7 +86,8 @@ pub pushed-roots : (l : List RealRoot) (r : RealRoot) → pushedOf (rootsOf l) r
 unfolding pushedOf held
 pushed-roots l r = go (ltb (length l) 4) refl
   where
-    go : (b : Bool) → ltb (length l) 4 ≡ b → cond b (record { root = set (rootsOf l .root) (length l) r; len = length l + 1 }) (rootsOf l) ≡ rootsOf (cond b (l ++ r ∷ []) l)
+    go : (b : Bool) → ltb (length l) 4 ≡ b
+        → cond b (record { root = set (rootsOf l .root) (length l) r; len = length l + 1 }) (rootsOf l) ≡ rootsOf (cond b (l ++ r ∷ []) l)
     go true t = λ i. record { root = padded-push 4 noRoot l r (ltb-true (length l) 4 t) i; len = sym (length-snoc l r) i }
     go false t = refl
 
@@ -113,29 +110,25 @@ pub length-pairList : (s : Pairs) → PairsFit s → length (pairListOf s) ≡ s
 length-pairList s f = let e = f .0 in let l = f .1 in length-take-le (s .len) (s .pair) (omega arith)
 
 -- by the places, as the code has it
-of-two : (P : List Pair → Type 0) → ((a b : Pair) → P (a ∷ b ∷ [])) → (l : List Pair) → length l ≡ 2 → P l
-of-two P f (a ∷ b ∷ []) e = f a b
-of-two P f [] e = absurd (omega (arith, e))
-of-two P f (a ∷ []) e = absurd (omega (arith, e))
-of-two P f (a ∷ b ∷ x ∷ l) e = absurd (omega (arith, e))
+abbrev twoWith : List Pair → ℕ → Pair → List Pair
+twoWith l k p = fromFn 2 (λ j. cond (eqb j k) p (getD l j blankPair))
 
-module _ (s : Pairs) (p : Pair) (two : length (s .pair) ≡ 2) (finite : isFiniteOf (p .centre) ≡ true) where
-  pub paired-first : s .len ≡ 0 → record { pair = p ∷ getD (s .pair) 1 blankPair ∷ []; len = 1 } ≡ pairedIn s p
-  unfolding pairedIn
-  paired-first e = rw (finite, e) (ap (λ (l : List Pair). record { pair = l; len = 1 }) (of-two (λ (l : List Pair). p ∷ getD l 1 blankPair ∷ [] ≡ set l 0 p) (λ a b. refl) (s .pair) two))
+two-set : (l : List Pair) (k : ℕ) (p : Pair) → length l ≡ 2 → k < 2 → twoWith l k p ≡ set l k p
+two-set (a ∷ b ∷ []) zero p e h = refl
+two-set (a ∷ b ∷ []) (suc zero) p e h = refl
+two-set (a ∷ b ∷ []) (suc (suc k)) p e h = absurd (omega arith)
+two-set [] k p e h = absurd (omega (arith, e))
+two-set (a ∷ []) k p e h = absurd (omega (arith, e))
+two-set (a ∷ b ∷ x ∷ l) k p e h = absurd (omega (arith, e))
 
-  pub paired-second : s .len ≡ 1 → record { pair = getD (s .pair) 0 blankPair ∷ p ∷ []; len = 2 } ≡ pairedIn s p
+module _ (s : Pairs) (p : Pair) (finite : isFiniteOf (p .centre) ≡ true) where
+  pub paired-at : (k : ℕ) → length (s .pair) ≡ 2 → k < 2 → s .len ≡ k → record { pair = twoWith (s .pair) k p; len = k + 1 } ≡ pairedIn s p
   unfolding pairedIn
-  paired-second e = rw (finite, e) (ap (λ (l : List Pair). record { pair = l; len = 2 }) (of-two (λ (l : List Pair). getD l 0 blankPair ∷ p ∷ [] ≡ set l 1 p) (λ a b. refl) (s .pair) two))
+  paired-at k two h e = rw (finite, e, lt-ltb k 2 h) (ap (λ (l : List Pair). record { pair = l; len = k + 1 }) (two-set (s .pair) k p two h))
 
-  pub paired-not : (s .len ≡ 0 → ⊥) → (s .len ≡ 1 → ⊥) → s ≡ pairedIn s p
+  pub paired-not : 2 ≤ s .len → s ≡ pairedIn s p
   unfolding pairedIn
-  paired-not a b = rw (finite, le-ltb (s .len) 2 (two-or-more (s .len) a b))
-    where
-      two-or-more : (n : ℕ) → (n ≡ 0 → ⊥) → (n ≡ 1 → ⊥) → 2 ≤ n
-      two-or-more zero a b = absurd (a refl)
-      two-or-more (suc zero) a b = absurd (b refl)
-      two-or-more (suc (suc n)) a b = omega arith
+  paired-not h = rw (finite, le-ltb (s .len) 2 h)
 
 pub paired-fits : (s : Pairs) (p : Pair) → PairsFit s → PairsFit (pairedIn s p)
 unfolding pairedIn

@@ -1,4 +1,5 @@
--- What is said of lists of roots and of their arrays: the sum of the multiplicities, that each root counts, and that the count is in the array. Definitions only.
+-- What is said of lists of roots and of their arrays: the sum of the multiplicities, that each root counts, and that the count is in the array.
+-- Definitions only.
 use mathlib.Core.Path.{_≡_}
 use mathlib.Core.Bool.{true}
 use mathlib.Core.List.{List}

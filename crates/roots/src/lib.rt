@@ -1,4 +1,5 @@
-// The roots of poly.rs on their way to the list: RealRoot, at most four of them (Candidates in the scaled variable, the answer in x), and at most two complex pairs.
+// The roots of poly.rs on their way to the list: RealRoot, at most four of them (Candidates in the scaled variable, the answer in x), and at most two
+// complex pairs.
 // It rests on `float`; push_quadratic, finish, the lists and the inquiry rest on it.
 ghost use mathlib.Core.Path.{_≡_};
 ghost use Rattle.roots.specs.Roots.{root, noRoots, pushedOf, keptIn, pair, noPairs, pairedIn};

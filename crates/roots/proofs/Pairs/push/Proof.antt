@@ -1,8 +1,9 @@
 -- `roots::Pairs::push` meets its contract: by whether the centre is finite, and by the place that is next. Assumes nothing.
 use mathlib.Core.Path.{sym, _∙_}
+use native.Mathlib.Omega.{arith}
 use Rattle.facts.specs.Lists.{length-mapped}
-use Rattle.roots.specs.Roots.{pair, pairedIn}
-use Rattle.roots.proofs.Laws.{paired-first, paired-second, paired-not}
+use Rattle.roots.specs.Roots.{pairedIn}
+use Rattle.roots.proofs.Laws.{paired-at, paired-not}
 use borrow.Author.Needs.{needs}
 use Rattle.roots.proofs.Pairs.push.Statement.{statement}
 use Rattle.roots.proofs.Pairs.push.Tie as tie
@@ -10,20 +11,19 @@ use Rattle.roots.proofs.Pairs.push.Tie as tie
 returns : tie.Need-returns
 returns c =
     let t = c .before .before .before in
-    let a = t .before .before .args in
-    paired-first (a .t1) (pair (a .centre) (a .half)) (search (needs, length-mapped)) (sym (t .before .is-finite .ensures) ∙ t .if1 .taken) (c .if2 .taken)
+    paired-at _ _ (sym (t .before .is-finite .ensures) ∙ t .if1 .taken) 0 (search (needs, length-mapped)) (omega arith) (c .if2 .taken)
 
 returns-2 : tie.Need-returns-2
 returns-2 c =
-    let t = c .before .before .before .before in
-    let a = t .before .before .args in
-    paired-second (a .t1) (pair (a .centre) (a .half)) (search (needs, length-mapped)) (sym (t .before .is-finite .ensures) ∙ t .if1 .taken) (c .if3 .taken)
+    let u = c .before in
+    let t = u .before .before .before in
+    paired-at _ _ (sym (t .before .is-finite .ensures) ∙ t .if1 .taken) 1 (search (needs, length-mapped)) (omega arith) (c .if3 .taken)
 
 returns-3 : tie.Need-returns-3
 returns-3 c =
-    let t = c .before .before .before .before in
-    let a = t .before .before .args in
-    paired-not (a .t1) (pair (a .centre) (a .half)) (search (needs, length-mapped)) (sym (t .before .is-finite .ensures) ∙ t .if1 .taken) (c .before .if2 .left) (c .if3 .left)
+    let u = c .before in
+    let t = u .before .before .before in
+    paired-not _ _ (sym (t .before .is-finite .ensures) ∙ t .if1 .taken) (omega arith)
 
 returns-4 : tie.Need-returns-4
 unfolding pairedIn
