@@ -34,7 +34,11 @@ entriesOf at i p = entryOf at i p 0 ∷ entryOf at i p 1 ∷ entryOf at i p 2 �
 
 -- i put in at its place among the first i is i inserted: by i, and by which of them stand before it
 module _ (before : Float → Float → Bool) (key : List Float) where
-  inserted-of : (i : ℕ) → i < 4 → (a b c d : ℕ) → let at = a ∷ b ∷ c ∷ d ∷ [] in entriesOf at i (placeOf before key at i) ≡ insertedBy (keysBefore before key) i (take i at) ++ drop (i + 1) at
+  -- (what is said of an array)
+  abbrev Inserts : ℕ → List ℕ → Type 0
+  Inserts i at = entriesOf at i (placeOf before key at i) ≡ insertedBy (keysBefore before key) i (take i at) ++ drop (i + 1) at
+
+  inserted-of : (i : ℕ) → i < 4 → (a b c d : ℕ) → Inserts i (a ∷ b ∷ c ∷ d ∷ [])
   unfolding placeOf firstFrom entryOf insertedBy
   inserted-of zero h a b c d = refl
   inserted-of (suc zero) h a b c d = go (keysBefore before key a 1)
@@ -60,8 +64,7 @@ module _ (before : Float → Float → Bool) (key : List Float) where
 
   pub inserted-entries : (at : List ℕ) (i : ℕ) → length at ≡ 4 → i < 4
       → entriesOf at i (placeOf before key at i) ≡ insertedBy (keysBefore before key) i (take i at) ++ drop (i + 1) at
-  inserted-entries at i e h =
-      of-four (λ (at : List ℕ). entriesOf at i (placeOf before key at i) ≡ insertedBy (keysBefore before key) i (take i at) ++ drop (i + 1) at) (inserted-of i h) at e
+  inserted-entries at i e h = of-four (Inserts i) (inserted-of i h) at e
 
 length-numbers : (i k : ℕ) → length (numbersFrom i k) ≡ k
 length-numbers i zero = refl
@@ -102,7 +105,8 @@ module _ (before : Float → Float → Bool) (key : List Float) where
   unfolding orderOf sortedBy insertedAll
   order-none = refl
 
-  pub order-turn : (i : ℕ) → i < 4 → insertedBy (keysBefore before key) i (take i (orderOf before key i)) ++ drop (i + 1) (orderOf before key i) ≡ orderOf before key (i + 1)
+  pub order-turn : (i : ℕ) → i < 4
+      → insertedBy (keysBefore before key) i (take i (orderOf before key i)) ++ drop (i + 1) (orderOf before key i) ≡ orderOf before key (i + 1)
   unfolding orderOf
   order-turn i h =
       let left : 4 - i ≡ suc (4 - (i + 1)) = omega arith in
@@ -128,11 +132,17 @@ pub read-sorted : {A : Type 0} (before : Float → Float → Bool) (key : A → 
     → ((i : ℕ) → i < n → getD keys i nan ≡ key (getD a i d))
     → map (λ (i : ℕ). getD a i d) (take n (orderOf before keys n)) ≡ sortedBy (λ x y. before (key x) (key y)) (take n a)
 read-sorted {A} before key keys a d n h k =
-    ap (map (λ (i : ℕ). getD a i d)) (take-order before keys n ∙ sorted-same (λ (j : ℕ). j < n) (keysBefore before keys) (λ i j. before (key (getD a i d)) (key (getD a j d))) same (numbersFrom 0 n) (all-numbers n 0 n (omega arith)))
+    ap (map (λ (i : ℕ). getD a i d)) (take-order before keys n ∙ sorted-same (λ (j : ℕ). j < n) (keysBefore before keys) read same (numbersFrom 0 n) all)
     ∙ map-sorted (λ (x y : A). before (key x) (key y)) (λ (i : ℕ). getD a i d) (numbersFrom 0 n)
     ∙ ap (sortedBy (λ (x y : A). before (key x) (key y))) (read-numbers a d 0 n (omega arith))
   where
-    same : (x y : ℕ) → x < n → y < n → keysBefore before keys x y ≡ before (key (getD a x d)) (key (getD a y d))
+    read : ℕ → ℕ → Bool
+    read i j = before (key (getD a i d)) (key (getD a j d))
+
+    all : AllOf (λ (j : ℕ). j < n) (numbersFrom 0 n)
+    all = all-numbers n 0 n (omega arith)
+
+    same : (x y : ℕ) → x < n → y < n → keysBefore before keys x y ≡ read x y
     same x y p q = rw (k x p, k y q)
 
 -- ---- a turn of a loop that reads so

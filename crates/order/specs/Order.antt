@@ -1,4 +1,4 @@
--- The order of at most four keys, as numbers of places: the sorts of poly.rs, in which ties stay in their earlier order. Definitions only.
+-- The order of at most four keys, as numbers of places: the sort of factorize in poly.rs, in which ties stay in their earlier order. Definitions only.
 use mathlib.Core.Bool.{Bool, cond}
 use mathlib.Core.List.{List, _++_}
 use Prim.Native.Nat.{ℕ, zero, suc, _+_, _-_, _<_}
@@ -22,18 +22,14 @@ module _ (before : Float → Float → Bool) (key : List Float) where
   unfoldable pub orderOf : ℕ → List ℕ
   orderOf n = sortedBy keysBefore (numbersFrom 0 n) ++ numbersFrom n (4 - n)
 
--- finish: `order[..n].sort_unstable_by(|&i, &j| c.value[i].total_cmp(&c.value[j]))`, where 'ties stay in their earlier order'
-unfoldable pub risingOf : List Float → ℕ → List ℕ
-risingOf key n = orderOf totalLeOf key n
-
--- factorize: `units[..nu].sort_unstable_by(|a, b| b.0.total_cmp(&a.0))`, likewise; NaN is first
+-- factorize: `units[..nu].sort_unstable_by(|a, b| b.0.total_cmp(&a.0))`, where ties stay in their earlier order; NaN is first
 unfoldable pub fallingOf : List Float → ℕ → List ℕ
 fallingOf key n = orderOf (λ a b. totalLeOf b a) key n
 
 -- ---- what the functions say of each other
 -- a stands before b, or level with it
-unfoldable pub beforeOf : Bool → Float → Float → Bool
-beforeOf falling a b = cond falling (totalLeOf b a) (totalLeOf a b)
+abbrev pub falls : Float → Float → Bool
+falls a b = totalLeOf b a
 
 -- the first number from p on, of k, at which the test fails
 unfoldable pub firstFrom : (ℕ → Bool) → ℕ → ℕ → ℕ

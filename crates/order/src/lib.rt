@@ -1,31 +1,21 @@
-// The order of at most four keys, as numbers of places: the sorts of finish and factorize, in which ties stay in their earlier order.
-// It rests on `float`; factorize, finish and the inquiry rest on it.
+// The order of at most four keys, the largest first, as numbers of places: the sort of factorize, in which ties stay in their earlier order.
+// It rests on `float`; the large factors, `large`, rest on it.
 ghost use mathlib.Core.Path.{_≡_};
 ghost use mathlib.Core.List.{_++_};
 ghost use Prim.Native.Nat.{_+_, _≤_, _<_};
 ghost use lib.ListN.{take, drop};
 ghost use Rattle.facts.specs.Sort.{insertedBy};
-ghost use Rattle.order.specs.Order.{keysBefore, orderOf, risingOf, fallingOf, beforeOf, placeOf, entryOf, Places};
-
-// Whether a stands before b, or level with it.
-fn is_before(falling: bool, a: f64, b: f64) -> bool
-    ensures { λ r. ⌜ r ≡ beforeOf falling a b ⌝ }
-{
-    if falling {
-        return float::total_le(b, a);
-    }
-    float::total_le(a, b)
-}
+ghost use Rattle.order.specs.Order.{keysBefore, fallingOf, falls, placeOf, entryOf, Places};
 
 // How many of the first i numbers stand before i, up to the first that does not.
-fn place(falling: bool, key: [f64; 4], at: [usize; 4], i: usize) -> usize
+fn place(key: [f64; 4], at: [usize; 4], i: usize) -> usize
     requires { ⌜ i < 4 ⌝ ∗ ⌜ Places at ⌝ }
-    ensures { λ r. ⌜ r ≡ placeOf (beforeOf falling) key at i ⌝ }
+    ensures { λ r. ⌜ r ≡ placeOf falls key at i ⌝ }
 {
     let mut p = 0;
     while p < i {
         let j = at[p];
-        if is_before(falling, key[j], key[i]) {
+        if float::total_le(key[i], key[j]) {
             p += 1;
         } else {
             return p;
@@ -52,11 +42,11 @@ fn entry(at: [usize; 4], i: usize, p: usize, k: usize) -> usize
 }
 
 // i goes to its place among the first i numbers.
-fn insert(falling: bool, key: [f64; 4], at: [usize; 4], i: usize) -> [usize; 4]
+fn insert(key: [f64; 4], at: [usize; 4], i: usize) -> [usize; 4]
     requires { ⌜ i < 4 ⌝ ∗ ⌜ Places at ⌝ }
-    ensures { λ r. ⌜ r ≡ insertedBy (keysBefore (beforeOf falling) key) i (take i at) ++ drop (i + 1) at ⌝ }
+    ensures { λ r. ⌜ r ≡ insertedBy (keysBefore falls key) i (take i at) ++ drop (i + 1) at ⌝ }
 {
-    let p = place(falling, key, at, i);
+    let p = place(key, at, i);
     [
         entry(at, i, p, 0),
         entry(at, i, p, 1),
@@ -65,32 +55,17 @@ fn insert(falling: bool, key: [f64; 4], at: [usize; 4], i: usize) -> [usize; 4]
     ]
 }
 
-fn order(falling: bool, key: [f64; 4], n: usize) -> [usize; 4]
-    requires { ⌜ n ≤ 4 ⌝ }
-    ensures { λ r. ⌜ (r ≡ orderOf (beforeOf falling) key n) × Places r ⌝ }
-{
-    let mut at = [0, 1, 2, 3];
-    let mut i = 0;
-    while i < n {
-        let next = insert(falling, key, at, i);
-        at = next;
-        i += 1;
-    }
-    at
-}
-
-// The numbers 0..n in the order of their keys, the least first.
-pub fn rising(key: [f64; 4], n: usize) -> [usize; 4]
-    requires { ⌜ n ≤ 4 ⌝ }
-    ensures { λ r. ⌜ (r ≡ risingOf key n) × Places r ⌝ }
-{
-    order(false, key, n)
-}
-
-// The same, the largest first.
+// The numbers 0..n in the order of their keys.
 pub fn falling(key: [f64; 4], n: usize) -> [usize; 4]
     requires { ⌜ n ≤ 4 ⌝ }
     ensures { λ r. ⌜ (r ≡ fallingOf key n) × Places r ⌝ }
 {
-    order(true, key, n)
+    let mut at = [0, 1, 2, 3];
+    let mut i = 0;
+    while i < n {
+        let next = insert(key, at, i);
+        at = next;
+        i += 1;
+    }
+    at
 }

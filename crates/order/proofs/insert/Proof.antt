@@ -5,7 +5,10 @@ use Rattle.order.proofs.insert.Statement.{statement}
 use Rattle.order.proofs.insert.Tie as tie
 
 returns : tie.Need-returns
-returns c = rw (c .entry4 .ensures, c .before .entry3 .ensures, c .before .before .entry2 .ensures, c .before .before .before .entry .ensures, c .before .before .before .before .place .ensures) (inserted-entries _ _ _ _ (search needs) (search needs))
+returns c =
+    let s = c .before .before .before in
+    rw (c .entry4 .ensures, c .before .entry3 .ensures, c .before .before .entry2 .ensures, s .entry .ensures, s .before .place .ensures)
+    (inserted-entries _ _ _ _ (search needs) (search needs))
 
 pub insert-spec : {M : Type 1} → statement M
 insert-spec =
