@@ -34,13 +34,14 @@ sum-polished n poly c =
     sum-placed n poly (sortedBy before c) 0 (length c) (omega (arith, length-sorted before c)) ∙ sum-sorted before (λ (r : RealRoot). r .multiplicity) c
 
 -- ---- the two steps together
-pub placed-list : (poly : Scaled) (c : Roots) (o p : List RealRoot) (n : ℕ) → Fits c → o ≡ byValue (listOf c) → n ≡ c .len → p ≡ polishedOf 4 poly (fromFn n (orderedAt o))
-    → p ≡ polishedOf 4 poly (orderedOf (listOf c))
+pub placed-list : (poly : Scaled) (c : Roots) (o p : List RealRoot) (n : ℕ) → Fits c → o ≡ byValue (listOf c) → n ≡ c .len
+    → p ≡ polishedOf 4 poly (fromFn n (orderedAt o)) → p ≡ polishedOf 4 poly (orderedOf (listOf c))
 unfolding orderedOf
 placed-list poly c o p n f a b e =
     e
     ∙ ap (λ (l : List RealRoot). polishedOf 4 poly (fromFn n (orderedAt l))) a
     ∙ ap (λ (k : ℕ). polishedOf 4 poly (fromFn k (orderedAt (byValue (listOf c))))) (b ∙ sym (length-list c f))
 
-pub placed-bound : (poly : Scaled) (c : Roots) (p : List RealRoot) (most : ℕ) → p ≡ polishedOf 4 poly (orderedOf (listOf c)) → multiplicities (listOf c) < most → multiplicities p < most
+pub placed-bound : (poly : Scaled) (c : Roots) (p : List RealRoot) (most : ℕ) → p ≡ polishedOf 4 poly (orderedOf (listOf c))
+    → multiplicities (listOf c) < most → multiplicities p < most
 placed-bound poly c p most e h = rw (e, sum-polished 4 poly (listOf c)) h

@@ -32,7 +32,8 @@ module _ (n : ℕ) (poly : Scaled) where
   -- The k-th ordered place and the k-th polished one, for every number of turns n and every list of candidates c.
   pub simple-polished : (c : List RealRoot) (k : ℕ) → poly .d ≤ 4 → AllAtMost two64 (poly .f) (poly .d)
       → (let first = getD (orderedOf c) k nowhere in let last = getD (polishedOf n poly (orderedOf c)) k blank in
-      first .multiplicity ≡ 1 → atMost four64 (first .value) ≡ true → atMost four64 (last .value) ≡ true → Polished (poly .f) (poly .d) (first .value) (last .value))
+      first .multiplicity ≡ 1 → atMost four64 (first .value) ≡ true → atMost four64 (last .value) ≡ true
+      → Polished (poly .f) (poly .d) (first .value) (last .value))
   simple-polished c k degree coefficients simple begin end =
       let e = at-place (orderedOf c) k in
       rw e (no-worse-at (getD (orderedOf c) k nowhere) degree coefficients simple begin (rw e at end))

@@ -1,15 +1,16 @@
 // Scaled::finish of poly.rs: the candidates in order, the simple ones polished, and runs of them within the band joined.
-// Each place is named by its number, so that the compiler keeps the roots in registers.
+// Each place is named by its number, and each function for a place does nothing where it does not count: the compiler then keeps the roots in registers.
 // It rests on `roots`, `polish` and `band`; the lists and the inquiry rest on it.
 ghost use mathlib.Core.Path.{_≡_};
 ghost use mathlib.Core.List.{[], _∷_};
 ghost use Prim.Native.Nat.{_+_, _^_, _≤_, _<_};
+ghost use lib.ListN.{take};
 ghost use Rattle.facts.specs.Arrays.{fromFn};
 ghost use Rattle.roots.specs.Roots.{listOf, rootsOf, keptIn};
 ghost use Rattle.roots.specs.Listed.{multiplicities};
-ghost use Rattle.finish.specs.Finish.{byValue, orderedAt, polishedAt, polishedOf, isNearOf, joinOf, joinedOf, finishOf};
-ghost use Rattle.finish.specs.Places.{inserted, placeOf};
-ghost use Rattle.finish.specs.Run.{nextRun};
+ghost use Rattle.finish.specs.Finish.{byValue, belowOf, aboveOf, orderedAt, polishedAt, polishedOf, isNearOf, joinOf, joinedOf, finishOf};
+ghost use Rattle.finish.specs.Places.{inserted, placeOf, polishedIn};
+ghost use Rattle.finish.specs.Run.{Adds, nextRun, runAt};
 use roots::RealRoot;
 use roots::Roots;
 use scaled::Scaled;
@@ -34,10 +35,8 @@ fn behind_two(a: RealRoot, b: RealRoot, x: RealRoot) -> [RealRoot; 3]
     ensures { λ r. ⌜ r ≡ inserted x (a ∷ b ∷ []) ⌝ }
 {
     if float::total_le(a.value, x.value) {
-        if float::total_le(b.value, x.value) {
-            return [a, b, x];
-        }
-        return [a, x, b];
+        let rest = behind_one(b, x);
+        return [a, rest[0], rest[1]];
     }
     [x, a, b]
 }
@@ -46,15 +45,31 @@ fn behind_three(a: RealRoot, b: RealRoot, c: RealRoot, x: RealRoot) -> [RealRoot
     ensures { λ r. ⌜ r ≡ inserted x (a ∷ b ∷ c ∷ []) ⌝ }
 {
     if float::total_le(a.value, x.value) {
-        if float::total_le(b.value, x.value) {
-            if float::total_le(c.value, x.value) {
-                return [a, b, c, x];
-            }
-            return [a, b, x, c];
-        }
-        return [a, x, b, c];
+        let rest = behind_two(b, c, x);
+        return [a, rest[0], rest[1], rest[2]];
     }
     [x, a, b, c]
+}
+
+// The first two places in order, the first three and the first four.
+fn first_two(c: Roots) -> [RealRoot; 2]
+    ensures { λ r. ⌜ r ≡ byValue (take 2 (c .root)) ⌝ }
+{
+    behind_one(c.root[0], c.root[1])
+}
+
+fn first_three(c: Roots) -> [RealRoot; 3]
+    ensures { λ r. ⌜ r ≡ byValue (take 3 (c .root)) ⌝ }
+{
+    let two = first_two(c);
+    behind_two(two[0], two[1], c.root[2])
+}
+
+fn first_four(c: Roots) -> [RealRoot; 4]
+    ensures { λ r. ⌜ r ≡ byValue (take 4 (c .root)) ⌝ }
+{
+    let three = first_three(c);
+    behind_three(three[0], three[1], three[2], c.root[3])
 }
 
 pub fn ordered(c: Roots) -> Roots
@@ -64,30 +79,54 @@ pub fn ordered(c: Roots) -> Roots
     if c.len < 2 {
         return c;
     }
-    let third = c.root[2];
-    let fourth = c.root[3];
-    let two = behind_one(c.root[0], c.root[1]);
-    if c.len == 2 {
+    if c.len < 3 {
+        let two = first_two(c);
         return Roots {
-            root: [two[0], two[1], third, fourth],
+            root: [two[0], two[1], c.root[2], c.root[3]],
             len: 2,
         };
     }
-    let three = behind_two(two[0], two[1], third);
-    if c.len == 3 {
+    if c.len < 4 {
+        let three = first_three(c);
         return Roots {
-            root: [three[0], three[1], three[2], fourth],
+            root: [three[0], three[1], three[2], c.root[3]],
             len: 3,
         };
     }
+    let four = first_four(c);
     Roots {
-        root: behind_three(three[0], three[1], three[2], fourth),
+        root: [four[0], four[1], four[2], four[3]],
         len: 4,
     }
 }
 
+// There is no neighbour below the first place and above the last.
+fn below(o: Roots, k: usize) -> f64
+    requires { ⌜ (o .len ≤ 4) × (k < o .len) ⌝ }
+    ensures { λ r. ⌜ r ≡ belowOf (listOf o) k ⌝ }
+{
+    if k > 0 {
+        let here = o.root[k];
+        let there = o.root[k - 1];
+        return here.value - there.value;
+    }
+    float::infinity()
+}
+
+fn above(o: Roots, k: usize) -> f64
+    requires { ⌜ (o .len ≤ 4) × (k < o .len) ⌝ }
+    ensures { λ r. ⌜ r ≡ aboveOf (listOf o) k ⌝ }
+{
+    if k + 1 < o.len {
+        let here = o.root[k];
+        let there = o.root[k + 1];
+        return there.value - here.value;
+    }
+    float::infinity()
+}
+
 // A root at this gap from its nearest neighbour, polished where it is simple.
-fn polished_at(poly: Scaled, r: RealRoot, gap: f64) -> RealRoot
+fn polished_by(poly: Scaled, r: RealRoot, gap: f64) -> RealRoot
     requires { ⌜ poly .d ≤ 4 ⌝ }
     ensures { λ s. ⌜ s ≡ polishedAt 4 poly (placeOf r gap) ⌝ }
 {
@@ -102,51 +141,29 @@ fn polished_at(poly: Scaled, r: RealRoot, gap: f64) -> RealRoot
     }
 }
 
-// There is no neighbour below the first and above the last.
+// Place k, polished where it counts.
+fn polished_at(poly: Scaled, o: Roots, k: usize) -> RealRoot
+    requires { ⌜ poly .d ≤ 4 ⌝ ∗ ⌜ (o .len ≤ 4) × (k < 4) ⌝ }
+    ensures { λ r. ⌜ r ≡ polishedIn poly o k ⌝ }
+{
+    let r = o.root[k];
+    if k < o.len {
+        return polished_by(poly, r, float::min(below(o, k), above(o, k)));
+    }
+    r
+}
+
 fn polished(poly: Scaled, o: Roots) -> Roots
     requires { ⌜ poly .d ≤ 4 ⌝ ∗ ⌜ o .len ≤ 4 ⌝ }
     ensures { λ r. ⌜ (listOf r ≡ polishedOf 4 poly (fromFn (o .len) (orderedAt (listOf o)))) × (r .len ≡ o .len) ⌝ }
 {
-    if o.len == 0 {
-        return o;
-    }
-    let none = float::infinity();
-    let a = o.root[0];
-    let b = o.root[1];
-    let c = o.root[2];
-    let d = o.root[3];
-    if o.len == 1 {
-        let first = polished_at(poly, a, float::min(none, none));
-        return Roots {
-            root: [first, b, c, d],
-            len: 1,
-        };
-    }
-    let ab = b.value - a.value;
-    let first = polished_at(poly, a, float::min(none, ab));
-    if o.len == 2 {
-        let second = polished_at(poly, b, float::min(ab, none));
-        return Roots {
-            root: [first, second, c, d],
-            len: 2,
-        };
-    }
-    let bc = c.value - b.value;
-    let second = polished_at(poly, b, float::min(ab, bc));
-    if o.len == 3 {
-        let third = polished_at(poly, c, float::min(bc, none));
-        return Roots {
-            root: [first, second, third, d],
-            len: 3,
-        };
-    }
-    let cd = d.value - c.value;
-    let third = polished_at(poly, c, float::min(bc, cd));
-    let fourth = polished_at(poly, d, float::min(cd, none));
-    Roots {
-        root: [first, second, third, fourth],
-        len: 4,
-    }
+    let root = [
+        polished_at(poly, o, 0),
+        polished_at(poly, o, 1),
+        polished_at(poly, o, 2),
+        polished_at(poly, o, 3),
+    ];
+    Roots { root, len: o.len }
 }
 
 // Whether the next place is within the band of y.
@@ -185,6 +202,17 @@ fn next_run(poly: Scaled, run: Run, b: RealRoot, tol: f64) -> Run
     Run { out: more, at: b }
 }
 
+// Place k comes next, where it counts.
+fn run_at(poly: Scaled, run: Run, p: Roots, k: usize, tol: f64) -> Run
+    requires { ⌜ poly .d ≤ 4 ⌝ ∗ ⌜ (p .len ≤ 4) × Adds p k run ⌝ }
+    ensures { λ r. ⌜ (r ≡ runAt poly run p k tol) × Adds p (k + 1) r ⌝ }
+{
+    if k < p.len {
+        return next_run(poly, run, p.root[k], tol);
+    }
+    run
+}
+
 // The last run ends.
 fn ended(run: Run) -> Roots
     ensures { λ r. ⌜ r ≡ keptIn (run .out) (run .at) ⌝ }
@@ -204,18 +232,9 @@ fn joined(poly: Scaled, p: Roots, tol: f64) -> Roots
     }
     let at = p.root[0];
     let first = Run { out: none, at };
-    if p.len == 1 {
-        return ended(first);
-    }
-    let second = next_run(poly, first, p.root[1], tol);
-    if p.len == 2 {
-        return ended(second);
-    }
-    let third = next_run(poly, second, p.root[2], tol);
-    if p.len == 3 {
-        return ended(third);
-    }
-    ended(next_run(poly, third, p.root[3], tol))
+    let second = run_at(poly, first, p, 1, tol);
+    let third = run_at(poly, second, p, 2, tol);
+    ended(run_at(poly, third, p, 3, tol))
 }
 
 // The u32 sums do not overflow: what the candidates' multiplicities add up to is a u32.

@@ -23,7 +23,9 @@ unfolding finishOf
 returns c =
     let a = c .before .before .before .args in
     let f : Fits (a .c) = (search (needs, length-mapped), search needs) in
-    c .joined .ensures ∙ ap (λ (l : List RealRoot). rootsOf (joinedOf (a .poly) (a .tol) l)) (placed-list (a .poly) (a .c) _ _ _ f (c .before .before .ordered .ensures .0) (c .before .before .ordered .ensures .1) (c .before .polished .ensures .0))
+    let o = c .before .before in
+    let placed = placed-list (a .poly) (a .c) _ _ _ f (o .ordered .ensures .0) (o .ordered .ensures .1) (c .before .polished .ensures .0) in
+    c .joined .ensures ∙ ap (λ (l : List RealRoot). rootsOf (joinedOf (a .poly) (a .tol) l)) placed
 
 pub finish-spec : {M : Type 1} → statement M
 finish-spec = tie.close (tie.spec (λ c κs. search needs) (λ c κs. search needs) joined-requires returns)

@@ -7,13 +7,15 @@ use Rattle.finish.proofs.next_run.Tie as tie
 
 returns : tie.Need-returns
 returns c =
-    let a = c .before .before .before .before .before .args in
-    next-joined (a .poly) (a .tol) (a .run) (a .b) _ (sym (c .before .before .is-near .ensures) ∙ c .before .if1 .taken) (c .join .ensures)
+    let s = c .before .before in
+    let a = s .before .before .before .args in
+    next-joined (a .poly) (a .tol) (a .run) (a .b) _ (sym (s .is-near .ensures) ∙ c .before .if1 .taken) (c .join .ensures)
 
 returns-2 : tie.Need-returns-2
 returns-2 c =
-    let a = c .before .before .before .before .before .args in
-    next-ended (a .poly) (a .tol) (a .run) (a .b) _ (sym (c .before .before .is-near .ensures) ∙ c .before .if1 .left) (c .keep .ensures)
+    let s = c .before .before in
+    let a = s .before .before .before .args in
+    next-ended (a .poly) (a .tol) (a .run) (a .b) _ (sym (s .is-near .ensures) ∙ c .before .if1 .left) (c .keep .ensures)
 
 pub next-run-spec : {M : Type 1} → statement M
 next-run-spec = tie.close (tie.spec (λ c κs. search needs) (λ c κs. search needs) returns (λ c κs. search needs) returns-2)

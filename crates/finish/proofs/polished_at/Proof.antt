@@ -1,19 +1,28 @@
-use borrow.Author.Tests.{ne-eqb}
-use Rattle.finish.specs.Finish.{polishedAt}
+-- `polished_at` is its definition, by its test.
+use Rattle.finish.proofs.Places.{polished-past, polished-here}
 use borrow.Author.Needs.{needs}
 use Rattle.finish.proofs.polished_at.Statement.{statement}
 use Rattle.finish.proofs.polished_at.Tie as tie
 
 returns : tie.Need-returns
-unfolding polishedAt
-returns c = rw (ne-eqb _ _ (c .if1 .taken))
-
-polish-requires : tie.Need-polish-requires
-polish-requires c κs = search needs
+returns c =
+    let b = c .before .before .before in
+    let a = b .before .before .before .args in
+    polished-here (a .poly) (a .t2) (a .k) _ _ (b .before .if1 .taken) (b .below .ensures) (c .before .before .above .ensures)
+    (rw (c .before .min .ensures) at (c .polished-by .ensures))
 
 returns-2 : tie.Need-returns-2
-unfolding polishedAt
-returns-2 c = rw (c .before .before .if1 .left, c .polish .ensures)
+returns-2 c = polished-past _ _ _ (c .if1 .left)
 
 pub polished-at-spec : {M : Type 1} → statement M
-polished-at-spec = tie.close (tie.spec returns polish-requires returns-2)
+polished-at-spec =
+    tie.close
+    (tie.spec
+    (λ c. search needs)
+    (λ c. search needs)
+    (λ c κs. search needs)
+    (λ c κs. search needs)
+    (λ c κs. search needs)
+    (λ c κs. search needs)
+    returns
+    returns-2)
