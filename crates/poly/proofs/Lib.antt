@@ -1,6 +1,6 @@
 pub mod Coefficients
 pub mod Arrays
-pub mod Few
+pub mod Turns
 pub mod Joined
 pub mod Sums
 pub mod Steps

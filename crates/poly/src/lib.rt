@@ -10,7 +10,7 @@ ghost use Rattle.roots.specs.Roots.{rootsOf, listOf};
 ghost use Rattle.push.specs.Quadratic.{foundOf};
 ghost use Rattle.poly.specs.Coefficients.{trimmedOf, zerosOf, refusalBy, middleAt, middleOf};
 ghost use Rattle.poly.specs.Solve.{zeroRootsOf, candidatesOf, finishedOf, refusedBy, solveOf};
-ghost use Rattle.poly.specs.Found.{withLinIn, withQuadIn};
+ghost use Rattle.poly.specs.Found.{turnAt, withLinIn, withQuadIn, unscaledIn};
 ghost use Rattle.poly.specs.RealRoots.{unscaledAll, realRootsOf};
 
 // What Scaled::solve and finish give: the scaled polynomial, the tolerance, its finished roots and its complex pairs. On a refusal the number alone, and zeros.
@@ -110,30 +110,48 @@ fn zero_roots(zeros: usize) -> roots::Roots
     none
 }
 
+// The root of the linear factor k, where it counts.
+fn with_lin(f: factors::Factors, k: usize, s: roots::Roots) -> roots::Roots
+    requires { ⌜ k < 4 ⌝ }
+    ensures { λ r. ⌜ r ≡ turnAt (f .nlin) (withLinIn f) k s ⌝ }
+{
+    if k < f.nlin {
+        return s.keep(f.lin[k], 1);
+    }
+    s
+}
+
 // The candidates with the roots of the linear factors.
 fn with_lins(f: factors::Factors, start: roots::Roots) -> roots::Roots
     requires { ⌜ f .nlin ≤ 4 ⌝ }
     ensures { λ r. ⌜ r ≡ countUp (f .nlin) (withLinIn f) (f .nlin) start ⌝ }
 {
-    if f.nlin == 0 {
-        return start;
-    }
-    let one = start.keep(f.lin[0], 1);
-    if f.nlin == 1 {
-        return one;
-    }
-    let two = one.keep(f.lin[1], 1);
-    if f.nlin == 2 {
-        return two;
-    }
-    let three = two.keep(f.lin[2], 1);
-    if f.nlin == 3 {
-        return three;
-    }
-    three.keep(f.lin[3], 1)
+    let one = with_lin(f, 0, start);
+    let two = with_lin(f, 1, one);
+    let three = with_lin(f, 2, two);
+    with_lin(f, 3, three)
 }
 
-// The same of the quadratic ones, and the pairs.
+// The roots of the quadratic factor k or its pair, where it counts.
+fn with_quad(
+    poly: scaled::Scaled,
+    r: factorize::Rooted,
+    tol: f64,
+    k: usize,
+    s: push::Found,
+) -> push::Found
+    requires { ⌜ poly .d ≤ 4 ⌝ ∗ ⌜ (r .f .nquad ≤ 2) × (r ≡ rootedOf (r .f)) ⌝ }
+    ensures { λ t. ⌜ t ≡ turnAt (r .f .nquad) (withQuadIn poly (r .f) tol) k s ⌝ }
+{
+    let f = r.f;
+    if k < f.nquad {
+        let q = f.quad[k];
+        let d = r.disc[k];
+        return push::push_rooted(poly, q.al, q.be, d, tol, s.roots, s.pairs);
+    }
+    s
+}
+
 fn with_quads(
     poly: scaled::Scaled,
     r: factorize::Rooted,
@@ -143,19 +161,8 @@ fn with_quads(
     requires { ⌜ poly .d ≤ 4 ⌝ ∗ ⌜ (r .f .nquad ≤ 2) × (r ≡ rootedOf (r .f)) ⌝ }
     ensures { λ s. ⌜ s ≡ countUp (r .f .nquad) (withQuadIn poly (r .f) tol) (r .f .nquad) start ⌝ }
 {
-    let f = r.f;
-    if f.nquad == 0 {
-        return start;
-    }
-    let q = f.quad[0];
-    let d = r.disc[0];
-    let one = push::push_rooted(poly, q.al, q.be, d, tol, start.roots, start.pairs);
-    if f.nquad == 1 {
-        return one;
-    }
-    let p = f.quad[1];
-    let c = r.disc[1];
-    push::push_rooted(poly, p.al, p.be, c, tol, one.roots, one.pairs)
+    let one = with_quad(poly, r, tol, 0, start);
+    with_quad(poly, r, tol, 1, one)
 }
 
 fn candidates(poly: scaled::Scaled, zeros: usize, tol: f64) -> push::Found
@@ -220,32 +227,27 @@ pub fn solve(coeffs: &[f64], tol: f64) -> Solved
     finished(poly, zeros, float::max(tol, 0.0))
 }
 
-// The roots in x = y * 2^e, where they are finite.
+// Root k in x = y * 2^e, where it counts and is finite.
+fn unscaled_at(s: roots::Roots, e: i32, k: usize, out: roots::Roots) -> roots::Roots
+    requires { ⌜ k < 4 ⌝ }
+    ensures { λ r. ⌜ r ≡ turnAt (s .len) (unscaledIn e s) k out ⌝ }
+{
+    if k < s.len {
+        let r = s.root[k];
+        return out.keep(scale::ldexp(r.value, e), r.multiplicity);
+    }
+    out
+}
+
 fn unscaled_all(s: roots::Roots, e: i32) -> roots::Roots
     requires { ⌜ s .len ≤ 4 ⌝ }
     ensures { λ r. ⌜ r ≡ rootsOf (unscaledAll e (listOf s)) ⌝ }
 {
     let none = roots::Roots::none();
-    if s.len == 0 {
-        return none;
-    }
-    let a = s.root[0];
-    let one = none.keep(scale::ldexp(a.value, e), a.multiplicity);
-    if s.len == 1 {
-        return one;
-    }
-    let b = s.root[1];
-    let two = one.keep(scale::ldexp(b.value, e), b.multiplicity);
-    if s.len == 2 {
-        return two;
-    }
-    let c = s.root[2];
-    let three = two.keep(scale::ldexp(c.value, e), c.multiplicity);
-    if s.len == 3 {
-        return three;
-    }
-    let d = s.root[3];
-    three.keep(scale::ldexp(d.value, e), d.multiplicity)
+    let one = unscaled_at(s, e, 0, none);
+    let two = unscaled_at(s, e, 1, one);
+    let three = unscaled_at(s, e, 2, two);
+    unscaled_at(s, e, 3, three)
 }
 
 pub fn real_roots(coeffs: &[f64], tol: f64) -> Answer
