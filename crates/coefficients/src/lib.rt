@@ -9,7 +9,7 @@ use float::f64_at;
 use float::is_finite;
 
 // The coefficient i, 0 where there are fewer.
-pub fn coefficient_at(s: &[u8], i: usize) -> f64
+fn coefficient_at(s: &[u8], i: usize) -> f64
     ensures { λ r. ⌜ r ≡ getD (coefficientsAt (now (s .entry))) i zero64 ⌝ }
 {
     if i < s.len() / 8 {
@@ -32,7 +32,7 @@ fn rest_with(rest: f64, x: f64) -> f64
 }
 
 // One number for those behind the fifth.
-pub fn rest_at(s: &[u8]) -> f64
+fn rest_at(s: &[u8]) -> f64
     ensures { λ r. ⌜ r ≡ restOf (drop 5 (coefficientsAt (now (s .entry)))) ⌝ }
 {
     let n = s.len() / 8;

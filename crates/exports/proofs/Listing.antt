@@ -2,13 +2,9 @@
 -- Assumes nothing.
 use mathlib.Core.Path.{_≡_}
 use mathlib.Core.Bool.{Bool, true, false}
-use mathlib.Core.List.{List, [], _∷_}
+use mathlib.Core.List.{List, []}
 use Prim.Native.Nat.{ℕ}
-use lib.ListN.{getD, drop}
 use lib.Ieee.{Float}
-use Rattle.float.specs.Literals.{zero64}
-use Rattle.poly.specs.Short.{restOf, shortOf}
-use Rattle.coefficients.proofs.Reading.{short-is}
 use Rattle.lent.specs.Bytes.{unless, Answered}
 use Rattle.lent.proofs.Whole.{nothing, answered-as, is-other, is-given}
 
@@ -19,8 +15,3 @@ module _ (k : ℕ) (ys : List Float) (l : List ℕ) {p b : Bool} (e : b ≡ p) w
 
   pub of-doubles : {n r : ℕ} {xs : List Float} {m : List ℕ} → b ≡ false → n ≡ k → xs ≡ ys → Answered n xs l r m → Answered (unless 0 p k) (unless [] p ys) l r m
   of-doubles t h g w = answered-as (is-given 0 k e t h) (is-given [] ys e t g) w
-
--- ---- the six numbers that stand for any number of coefficients, one by one
-pub six-are : (l : List Float) {a b c d e r : Float} → a ≡ getD l 0 zero64 → b ≡ getD l 1 zero64 → c ≡ getD l 2 zero64 → d ≡ getD l 3 zero64 → e ≡ getD l 4 zero64 → r ≡ restOf (drop 5 l)
-    → a ∷ b ∷ c ∷ d ∷ e ∷ r ∷ [] ≡ shortOf l
-six-are l p q s t u v = rw (p, q, s, t, u, v) (short-is l)

@@ -5,8 +5,7 @@ ghost use mathlib.Core.Path.{_≡_};
 ghost use Rattle.lent.specs.Bytes.{Answered};
 ghost use Rattle.exports.specs.Lists.{notDoubles, listRefusal, listNumbers};
 use clusters::root_numbers;
-use coefficients::coefficient_at;
-use coefficients::rest_at;
+use coefficients::short_at;
 use lent::answer;
 
 // The bytes are no whole doubles.
@@ -23,15 +22,6 @@ pub extern "C" fn real_roots(coeffs: &[u8], tol: f64, out: &mut [u8]) -> u64
     if not_doubles(coeffs) {
         return 0;
     }
-    // As `short_at` has them, without the copy of an array that a call returns.
-    let short = [
-        coefficient_at(coeffs, 0),
-        coefficient_at(coeffs, 1),
-        coefficient_at(coeffs, 2),
-        coefficient_at(coeffs, 3),
-        coefficient_at(coeffs, 4),
-        rest_at(coeffs),
-    ];
-    let a = poly::real_roots(&short, tol);
+    let a = poly::real_roots(&short_at(coeffs), tol);
     answer(out, a.number, &root_numbers(a.roots))
 }
