@@ -5,6 +5,7 @@ pub mod Roots
 pub mod Cosine
 pub mod Digits
 pub mod Unfolded
+pub mod Quadratics
 pub mod Entries
 pub mod Example
 pub mod Proved

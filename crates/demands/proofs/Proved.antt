@@ -35,6 +35,7 @@ use Rattle.demands.proofs.Roots.{square-nearest, cube-nearest, rest-nea
 use Rattle.demands.proofs.Cosine.{cosine, cosine-range, sin-is}
 use Rattle.demands.proofs.Digits.{exponent-between, grid-between, grid-ratio}
 use Rattle.demands.proofs.Scale.{scale}
+use Rattle.demands.proofs.Quadratics.{quadratics}
 use Rattle.hall.proofs.Bound.{listing-fits}
 use Rattle.demands.proofs.Example.{example, empty, too-long}
 use Rattle.demands.proofs.Entries.{given, stated, all-rows, agree}
@@ -121,6 +122,7 @@ demands = record {
   factor-degrees = factor-degrees;
   lists = lists;
   inquiries = record { refusal = start-number; fed = start-fed; questions = start-most; roots = start-list };
+  quadratics = quadratics;
   crank-equations = record { every = cranks };
   polishing = record { run = polishing };
   simple-roots = simple-roots;

@@ -3,7 +3,7 @@
 use mathlib.Core.Path.{_≡_}
 use mathlib.Core.Logic.{_⊎_}
 use mathlib.Core.Bool.{Bool, true, false, cond}
-use mathlib.Core.List.{List, [], List·Memᴰ}
+use mathlib.Core.List.{List, [], _∷_, List·Memᴰ}
 use Prim.Native.Nat.{ℕ, suc, _+_, _-_, _*_, _^_, _≤_, _<_}
 use lib.IntN.{ℤ, pos, negsuc, _*ℤ_}
 use lib.Signed.{_≤ℤ_}
@@ -32,6 +32,9 @@ use Rattle.poly.specs.Coefficients.{trimmedOf, zerosOf, refusalOf, degreeLeft, 
 use Rattle.poly.specs.Solve.{candidatesOf, solveOf}
 use Rattle.poly.specs.RealRoots.{realRootsOf}
 use Rattle.poly.specs.Conditions.{Trimmed, AllDoubles, AllFinite, SomeNotFinite, Exactly}
+use Rattle.solution.specs.declared.QuadraticSolution.{QuadraticSolution}
+use Rattle.solution.specs.Solution.{numberOf, valuesOf}
+use Rattle.equation.specs.Quadratic.{solveQuadraticOf, quadraticOf}
 use Rattle.inquiry.specs.Start.{realRootsTouchingOf, placesTouchingOf, startOf}
 use Rattle.inquiry.specs.Claims.{Fed}
 use Rattle.crank.specs.Claims.{Cranks}
@@ -185,6 +188,28 @@ pub record Inquiries : Type 0 where
   pub questions : (touches : Float → Bool) (coeffs : List Float) (tol : Float) → length (placesTouchingOf touches coeffs tol) ≤ degreeLeft coeffs - 1
   pub roots : (touches : Float → Bool) (coeffs : List Float) (tol : Float) → Within (degreeLeft coeffs) (realRootsTouchingOf touches coeffs tol)
 
+-- ---- 'Quadratics'
+
+-- 'Quadratic: 1, one of a, b, c not finite; 5, a number in the Rust's answer is not finite', each exactly there, and 0 where it is answered. 'Nothing else is
+-- refused.'
+pub record QuadraticNumbers (number : ℕ) (handed answer : List Float) : Type 0 where
+  pub zero : Exactly (number ≡ 0) (AllFinite handed × AllFinite answer)
+  pub one : Exactly (number ≡ 1) (SomeNotFinite handed)
+  pub five : Exactly (number ≡ 5) (AllFinite handed × SomeNotFinite answer)
+  pub nothing-else : (number ≡ 0) ⊎ (number ≡ 1) ⊎ (number ≡ 5)
+
+-- 'An answer is two places, one, a linear place, degenerate, or empty': `numberOf` is its word, 0 to 4 in this order, and `valuesOf` its places, which are
+-- finite. It is the Rust's, and a refusal has no place.
+pub record Quadratics : Type 0 where
+  pub numbers : (a b c confusion angular : Float)
+      → QuadraticNumbers (quadraticOf a b c confusion angular .number) (a ∷ b ∷ c ∷ []) (valuesOf (solveQuadraticOf a b c confusion angular))
+  pub answer : (a b c confusion angular : Float) → quadraticOf a b c confusion angular .number ≡ 0
+      → quadraticOf a b c confusion angular .solution ≡ solveQuadraticOf a b c confusion angular
+  pub places : (a b c confusion angular : Float) → AllFinite (valuesOf (quadraticOf a b c confusion angular .solution))
+  pub refused : (a b c confusion angular : Float) → 0 < quadraticOf a b c confusion angular .number
+      → valuesOf (quadraticOf a b c confusion angular .solution) ≡ []
+  pub words : (s : QuadraticSolution) → (numberOf s ≤ 4) × (length (valuesOf s) ≡ getD (2 ∷ 1 ∷ 1 ∷ 0 ∷ 0 ∷ []) (numberOf s) 0)
+
 -- ---- 'Crank equations'
 
 -- `Cranks`: each refusal stands exactly for its condition, k is 0 to 7, and what holds of inquiries about lists holds of those about a crank's quartic, whose
@@ -248,6 +273,7 @@ pub record Demands : Type 0 where
   pub factor-degrees : FactorDegrees
   pub lists : Lists
   pub inquiries : Inquiries
+  pub quadratics : Quadratics
   pub crank-equations : CrankEquations
   pub polishing : Polishing
   pub simple-roots : SimpleRoots

@@ -22,7 +22,7 @@ use Rattle.poly.specs.Conditions.{Trimmed, AllFinite, SomeNotFinite, Exa
 use Rattle.poly.proofs.Coefficients.{last-left, trimmed-most}
 
 -- ---- finite, or not
-some-not : (s : List Float) → allFiniteOf s ≡ false → SomeNotFinite s
+pub some-not : (s : List Float) → allFiniteOf s ≡ false → SomeNotFinite s
 some-not [] e = absurd (true≢false e)
 some-not (c ∷ s) e = go (isFiniteOf c) refl e (some-not s)
   where
@@ -30,14 +30,14 @@ some-not (c ∷ s) e = go (isFiniteOf c) refl e (some-not s)
     go true t e rest = let r = rest e in (suc (r .0), omega (arith, r .1), r .2)
     go false t e rest = (0, omega arith, t)
 
-finite-all : (s : List Float) → AllFinite s → allFiniteOf s ≡ true
+pub finite-all : (s : List Float) → AllFinite s → allFiniteOf s ≡ true
 finite-all s f = go (allFiniteOf s) refl
   where
     go : (b : Bool) → allFiniteOf s ≡ b → allFiniteOf s ≡ true
     go true e = e
     go false e = let r = some-not s e in absurd (true≢false (sym (f (r .0) (r .1)) ∙ r .2))
 
-not-all : (s : List Float) → SomeNotFinite s → allFiniteOf s ≡ false
+pub not-all : (s : List Float) → SomeNotFinite s → allFiniteOf s ≡ false
 not-all s r = go (allFiniteOf s) refl
   where
     go : (b : Bool) → allFiniteOf s ≡ b → allFiniteOf s ≡ false
