@@ -68,6 +68,8 @@ withinBandOf poly half y tol =
     let near = le half (add binary64 base (noiseOf poly y)) in
     cond (le half base) true (cond (lt (budgetOf (poly .f) (poly .d) y) crude) false near)
 
--- a polynomial of which f, d and unit alone are at hand: the band and critical points look at no more
+-- `within` and `double_at` take f, d and unit by themselves, since the code has no more of a polynomial at hand; their contracts name the definitions over a
+-- whole one all the same, of which this makes one out of the three. What stands for g, lg and e is never looked at: `within_band` of a poly is `within` of its
+-- three (`same-within`).
 abbrev pub bare : List Float → ℕ → Float → Scaled
 bare f d unit = record { f = f; g = []; lg = []; d = d; e = pos 0; unit = unit }

@@ -1,7 +1,10 @@
 // solve_trig of equation.rs up to its list, as an inquiry: k in eighths of a turn, and roots u, where t = k*PI/4 + 2*atan(u).
 // It rests on `front` (k, and the quartic in u) and on `inquiry`, which asks and lists as for any list; the programs rest on it.
 ghost use mathlib.Core.Path.{_≡_};
-ghost use Rattle.crank.specs.Crank.{crankStartOf, crankAskedOf, crankRepliedOf, crankOf};
+ghost use Rattle.roots.specs.Roots.{listOf};
+ghost use Rattle.roots.specs.Listed.{Within};
+ghost use Rattle.poly.specs.Coefficients.{degreeLeft};
+ghost use Rattle.crank.specs.Crank.{trigQuarticOf, crankStartOf, crankAskedOf, crankRepliedOf, crankOf};
 
 // k, and the inquiry about the quartic in u.
 pub struct CrankInquiry {
@@ -90,8 +93,9 @@ impl CrankInquiry {
 }
 
 // Every question replied no: at most three are asked, so four replies at hand answer them all.
+// Demand 1 holds of the answer: at most four finite roots, each counting at least once, together at most the degree left.
 pub fn crank(confusion: f64, a2: f64, b2: f64, c1: f64, d1: f64, e: f64) -> CrankAnswer
-    ensures { λ r. ⌜ r ≡ crankOf confusion a2 b2 c1 d1 e ⌝ }
+    ensures { λ r. ⌜ (r ≡ crankOf confusion a2 b2 c1 d1 e) × Within (degreeLeft (trigQuarticOf a2 b2 c1 d1 e)) (listOf (r .roots)) ⌝ }
 {
     let s = start(confusion, a2, b2, c1, d1, e);
     if s.number == 0 {

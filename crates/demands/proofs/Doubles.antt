@@ -1,18 +1,24 @@
 -- A finite double is its sign and its units. Assumes nothing.
 use mathlib.Core.Path.{_≡_, refl, sym, ap, ap₂, _∙_}
-use mathlib.Core.Bool.{Bool, true, cond, true≢false}
-use Prim.Native.Nat.{ℕ, _+_, _-_, _*_, _/_, _^_, _<_}
-use native.Mathlib.Nat.{mul-assoc}
-use lib.Pow.{pow-pos}
-use lib.Ieee.{Float, nan, inf, fin, binary64, up, down, size, round, toBits, ofBits}
+use mathlib.Core.Logic.{_⊎_, inl, inr, ⊎-elim}
+use mathlib.Core.Bool.{Bool, true, false, cond, true≢false}
+use Prim.Native.Nat.{ℕ, _+_, _-_, _*_, _/_, _^_, _≤_, _<_}
+use native.Mathlib.Nat.{mul-assoc, mul-one, one-mul, mul-le-mul-right, le-of-mul-le-mul-right, le-trans, le-of-eq, le-of-suc-le-suc, sub-add-cancel}
+use native.Mathlib.Omega.{arith}
+use borrow.Author.Tests.{leb-true, leb-false, le-ltb}
+use lib.Dec.{leb, lit<, lit≤}
+use lib.Pow.{pow-add, pow-pos, pow-mono}
+use lib.Ieee.{Float, nan, inf, fin, binary64, up, down, size, units, round, toBits, ofBits}
 use lib.Ieee.Bits.{is-true, ofBits-toBits}
 use lib.Ieee.Exact.{HasValue, round-exact}
-use lib.Ieee.Fits.{round-fits}
+use lib.Ieee.Fits.{round-is, round-fits}
+use lib.Ieee.Order.{drop, kept}
 use Rattle.float.specs.Methods.{isFiniteOf, isSignNegativeOf}
 use Rattle.float.specs.Units.{unitsOf, Finite}
 use Rattle.float.proofs.Bits.{of-true}
 use Rattle.decode.proofs.Fields.{shape}
 use Rattle.rounding.specs.Units.{oneUnits}
+use Rattle.rounding.specs.Rounded.{Rounded, rounded, same-fraction}
 use Rattle.rounding.proofs.Value.{exponent, fits-says}
 use Rattle.nearest.proofs.Best.{units-of}
 use Rattle.scaled.proofs.Digits.{units-under}
@@ -73,3 +79,46 @@ itself x f =
     let v = double-value s n (held x f) in
     let g = has-sign (doubleOf s n) s n (2 ^ 1074) v in
     only-one x (doubleOf s n) f (record { held = is-true _ (round-fits binary64 s n (2 ^ 1074)); finite = g .0 }) (sym (g .1)) (sym (units-of (doubleOf s n) s n v))
+
+pub less-or : (a b : ℕ) → (a < b) ⊎ (b ≤ a)
+less-or a b = go (leb b a) refl
+  where
+    go : (t : Bool) → leb b a ≡ t → (a < b) ⊎ (b ≤ a)
+    go true e = inr (leb-true b a e)
+    go false e = inl (leb-false b a e)
+
+-- ---- from 2 ^ 2098 units on it is an infinity
+
+past-top : (n r : ℕ) → 2 ^ 2098 ≤ n → Rounded n 1 r → 2 ^ 2098 ≤ r
+past-top n r h R = ⊎-elim low high (less-or (R .k) 2099)
+  where
+    K : ℕ
+    K = 2 ^ R .k
+
+    cut : (c q : ℕ) → c * K ≤ n → n ≤ q * K + K → 2 * n ≤ 2 * (q * K) + K → c ≤ q
+    cut c q a b d = let e : 2 * c ≤ 2 * q + 1 = le-of-mul-le-mul-right {k = K} (omega arith) (pow-pos (R .k)) in omega arith
+
+    low : R .k < 2099 → 2 ^ 2098 ≤ r
+    low g =
+        let c = 2 ^ (2098 - R .k) in
+        let e : c * K ≡ 2 ^ 2098 = sym (pow-add 2 (2098 - R .k) (R .k)) ∙ ap (λ (j : ℕ). 2 ^ j) (sub-add-cancel (le-of-suc-le-suc g)) in
+        let m : 2 * n ≤ 2 * (R .q * K) + K = rw (R .is, one-mul K) at (rw (mul-one r) at (R .hi)) in
+        le-trans (le-of-eq (sym e)) (le-trans (mul-le-mul-right K (cut c (R .q) (le-trans (le-of-eq e) h) (omega arith) m)) (le-of-eq (sym (R .is))))
+
+    high : 2099 ≤ R .k → 2 ^ 2098 ≤ r
+    high g = elim (R .least) [
+      | inl o ↦ absurd (omega (arith, g, o))
+      | inr o ↦ le-trans (pow-mono {i = 2098} (le-trans (lit≤ tt) g)) (far r n K (rw (mul-one r, one-mul K) at (R .hi)) (rw (one-mul K) at o))
+    ]
+      where
+        far : (r n M : ℕ) → 2 * n ≤ 2 * r + M → 2 ^ 52 * M ≤ n → M ≤ r
+        far r n M a b = omega arith
+
+pub beyond : (s : Bool) (n : ℕ) → 2 ^ 2098 ≤ n → doubleOf s n ≡ inf s
+unfolding doubleOf units
+beyond s n h =
+    let U = 2 ^ 1074 in
+    let q = kept 53 (n * U) U in
+    let k = drop 53 (n * U) U in
+    round-is binary64 s n U
+    ∙ rw (le-ltb (q * 2 ^ k) (2 ^ 2098) (past-top n (q * 2 ^ k) h (same-fraction n 1 (pow-pos 1074) (lit< tt) (mul-one (n * U)) (rounded (n * U) U (pow-pos 1074)))))

@@ -1,6 +1,11 @@
 pub mod Nearest
 pub mod Doubles
 pub mod Scale
+pub mod Below
+pub mod Powers
+pub mod Total
+pub mod Sorts
+pub mod Loops
 pub mod Roots
 pub mod Cosine
 pub mod Digits

@@ -4,8 +4,10 @@ use mathlib.Core.Logic.{⊎-elim}
 use Prim.Native.Nat.{_-_, _≤_}
 use native.Mathlib.Omega.{arith}
 use lib.Dec.{lit≤}
-use lib.Ieee.{ofBits}
+use lib.Ieee.{nan, lt, eq, isNan, ofBits}
+use Rattle.float.specs.Methods.{isSignNegativeOf, totalLeOf}
 use Rattle.float.specs.Units.{unitsOf}
+use Rattle.order.specs.Order.{risingOf, fallingOf}
 use Rattle.decode.proofs.Class.{negative-view, regular-units}
 use Rattle.sqrt.specs.Root.{sqrtOf}
 use Rattle.cbrt.proofs.Cases.{root-special}
@@ -14,10 +16,12 @@ use Rattle.log2.specs.Log.{gridOf, log2GridOf}
 use Rattle.scaled.specs.Scaled.{scaledOf}
 use Rattle.scaled.proofs.Smallest.{exponent-holds, exponent-least, exponent-of-constant}
 use Rattle.scaled.proofs.Promise.{f-finite, f-held, f-leading}
+use Rattle.large.specs.Large.{unitOf, factorUnitsOf, noSmaller}
 use Rattle.factorize.specs.Factorize.{factorizeOf}
 use Rattle.factorize.proofs.Degree.{degrees-add}
 use Rattle.polishing.proofs.Polishing.{polishing}
-use Rattle.finish.specs.Finish.{finishOf}
+use Rattle.roots.specs.Listed.{blank}
+use Rattle.finish.specs.Finish.{byValue, finishOf}
 use Rattle.finish.proofs.Simple.{simple-polished}
 use Rattle.poly.specs.Coefficients.{zerosOf}
 use Rattle.poly.specs.Solve.{candidatesOf, finishedOf, solveOf}
@@ -28,13 +32,17 @@ use Rattle.inquiry.proofs.Fresh.{start-number}
 use Rattle.inquiry.proofs.Theorem.{start-fed, start-most, start-list}
 use Rattle.crank.proofs.Theorem.{cranks}
 use Rattle.demands.specs.Table.{table}
-use Rattle.demands.specs.Demands.{Demands, SquareRoot, CubeRoot, Third, Logarithm, ScaledCoefficients, FactorDegrees, Lists, SimpleRoots}
+use Rattle.demands.specs.Demands.{Demands, SquareRoot, CubeRoot, Third, Logarithm, ScaledCoefficients, FactorDegrees, TotalOrder, Sorts, Lists, SimpleRoots}
 use Rattle.demands.proofs.Nearest.{signed, positive-units}
 use Rattle.demands.proofs.Doubles.{units-exact, only-one}
 use Rattle.demands.proofs.Roots.{square-nearest, cube-nearest, rest-nearest, scaled-most, scaled-least, sqrt-is, cbrt-is}
 use Rattle.demands.proofs.Cosine.{cosine, cosine-range, sin-is}
 use Rattle.demands.proofs.Digits.{exponent-between, grid-between, grid-ratio}
 use Rattle.demands.proofs.Scale.{scale}
+use Rattle.demands.proofs.Powers as powers
+use Rattle.demands.proofs.Total as total
+use Rattle.demands.proofs.Sorts.{sorted-whole, sorted-keys}
+use Rattle.demands.proofs.Loops.{runs, chains}
 use Rattle.demands.proofs.Quadratics.{quadratics}
 use Rattle.hall.proofs.Bound.{listing-fits}
 use Rattle.demands.proofs.Example.{example, empty, too-long}
@@ -85,6 +93,26 @@ factor-degrees : FactorDegrees
 unfolding factorizeOf
 factor-degrees = record { sum = λ sc h depth. degrees-add (3 - depth) sc h }
 
+total-order : TotalOrder
+unfolding totalLeOf isNan isSignNegativeOf lt eq
+total-order = record {
+  either = total.either;
+  onward = total.onward;
+  same = total.level-one;
+  smaller = total.smaller;
+  zeros = refl;
+  last = λ x. refl;
+}
+
+sorts : Sorts
+unfolding byValue risingOf fallingOf
+sorts = record {
+  places = λ c. sorted-whole (λ a b. totalLeOf (a .value) (b .value)) (λ a b. total.either (a .value) (b .value)) (λ a b c. total.onward (a .value) (b .value) (c .value)) c blank;
+  units = λ f. sorted-whole noSmaller (λ a b. total.either (b .m) (a .m)) (λ a b c h g. total.onward (c .m) (b .m) (a .m) g h) (factorUnitsOf f) (unitOf nan nan nan);
+  rising = sorted-keys totalLeOf total.either total.onward;
+  falling = sorted-keys (λ a b. totalLeOf b a) (λ a b. total.either b a) (λ a b c h g. total.onward c b a g h);
+}
+
 lists : Lists
 lists = record {
   trimmed = trimmed-is;
@@ -117,9 +145,12 @@ demands = record {
   third = third;
   logarithm = logarithm;
   exponent = record { exact = exponent-between };
-  scale = record { exact = scale };
+  scale = record { exact = scale; normal = powers.normal; infinite = powers.infinite; near = powers.near; others = powers.others };
   scaled-coefficients = scaled-coefficients;
   factor-degrees = factor-degrees;
+  total-order = total-order;
+  sorts = sorts;
+  loops = record { runs = runs; chains = chains };
   lists = lists;
   inquiries = record { refusal = start-number; fed = start-fed; questions = start-most; roots = start-list };
   quadratics = quadratics;

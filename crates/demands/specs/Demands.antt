@@ -3,17 +3,19 @@
 use mathlib.Core.Path.{_≡_}
 use mathlib.Core.Logic.{_⊎_}
 use mathlib.Core.Bool.{Bool, true, false, cond}
-use mathlib.Core.List.{List, [], _∷_, List·Memᴰ}
+use mathlib.Core.List.{List, [], _∷_, map, List·Memᴰ}
 use Prim.Native.Nat.{ℕ, suc, _+_, _-_, _*_, _^_, _≤_, _<_}
 use lib.IntN.{ℤ, pos, negsuc, _*ℤ_}
 use lib.Signed.{_≤ℤ_}
-use lib.ListN.{length, getD}
-use lib.Ieee.{Float, nan, inf, fin, up, down, lt}
+use lib.ListN.{length, take, getD}
+use lib.Ieee.{Float, nan, inf, fin, binary64, up, down, lt, fits}
 use lib.Ieee.Exact.{HasValue}
 use lib.Ieee.Positive.{positive}
+use Rattle.facts.specs.Sort.{sortedBy}
 use Rattle.float.specs.Literals.{zero64, two64, four64}
-use Rattle.float.specs.Methods.{isSignNegativeOf}
+use Rattle.float.specs.Methods.{isFiniteOf, isSignNegativeOf, totalLeOf}
 use Rattle.float.specs.Units.{unitsOf, Finite}
+use Rattle.order.specs.Order.{risingOf, fallingOf}
 use Rattle.decode.specs.Exponent.{exponentOf, regularOf}
 use Rattle.scale.specs.Scale.{ldexpOf}
 use Rattle.sqrt.specs.Root.{sqrtOf}
@@ -22,12 +24,15 @@ use Rattle.angle.specs.Third.{thirdAngleOf}
 use Rattle.log2.specs.Log.{log2GridOf}
 use Rattle.scaled.specs.declared.Scaled.{Scaled}
 use Rattle.scaled.specs.Scaled.{scaledOf}
+use Rattle.factors.specs.declared.Factors.{Factors}
+use Rattle.large.specs.Large.{unitOf, factorUnitsOf, noSmaller}
 use Rattle.factorize.specs.Factorize.{factorizeOf}
+use Rattle.roots.specs.declared.RealRoot.{RealRoot}
 use Rattle.roots.specs.Roots.{listOf, rootsOf, noRoots}
 use Rattle.roots.specs.Listed.{Fits, Within, blank}
 use Rattle.polish.specs.Polish.{polishOf}
 use Rattle.polishing.specs.Claims.{atMost, AllAtMost, Polished}
-use Rattle.finish.specs.Finish.{Ordered, nowhere, orderedOf, polishedOf, joinedOf}
+use Rattle.finish.specs.Finish.{byValue, Ordered, nowhere, orderedOf, polishedOf, joinedOf}
 use Rattle.poly.specs.Coefficients.{trimmedOf, zerosOf, refusalOf, degreeLeft, polyOf}
 use Rattle.poly.specs.Solve.{candidatesOf, solveOf}
 use Rattle.poly.specs.RealRoots.{realRootsOf}
@@ -35,14 +40,18 @@ use Rattle.poly.specs.Conditions.{Trimmed, AllDoubles, AllFinite, SomeNotFinite
 use Rattle.solution.specs.declared.QuadraticSolution.{QuadraticSolution}
 use Rattle.solution.specs.Solution.{numberOf, valuesOf}
 use Rattle.equation.specs.Quadratic.{solveQuadraticOf, quadraticOf}
+use Rattle.touching.specs.Touching.{chained}
 use Rattle.inquiry.specs.Start.{realRootsTouchingOf, placesTouchingOf, startOf}
 use Rattle.inquiry.specs.Claims.{Fed}
 use Rattle.crank.specs.Claims.{Cranks}
 use Rattle.hall.specs.File.{listing}
+use Rattle.demands.specs.Loops.{runsFrom, chainsFrom}
 use Rattle.demands.specs.Table.{Row, table, answerOf}
 use Rattle.demands.specs.Example.{ascii, file, lines}
 
 -- ---- words
+
+-- `-` is that of whole numbers from 0 on and stops at 0: the degree left of a list of zeros, 0 - 1, is 0.
 
 -- No double is nearer than r to a number of y units with the sign s, where `under h` says h / 2 ≤ y, and `over h` y ≤ h / 2: the middle of r and a smaller
 -- double is not above y, and the middle of r and a larger one is not below y. Sizes are enough: of two doubles that differ in the sign alone, the one with
@@ -53,14 +62,15 @@ pub record Nearest (s : Bool) (under over : ℕ → Type 0) (r : Float) : Type 0
   pub smaller : (d : Float) → Finite d → unitsOf d < unitsOf r → under (unitsOf r + unitsOf d)
   pub larger : (d : Float) → Finite d → unitsOf r < unitsOf d → over (unitsOf r + unitsOf d)
 
--- For y = h / 2 units and a v of n units, below 0 where s is true: 4y³ and 3y + v, both times 2^3223, the size of a v below 0 being added to the other side.
+-- The two sides of 4y³ ≤ 3y + v, as whole numbers. y is h / 2 units and |v| is n units, of 2^-1074. Counted in 2^-3223, which is 4·(2^-1075)³, 4y³ is h³, 3y is
+-- 3h·2^2148 and |v| is 2n·2^2148. Where v is below 0, s is true, 3y + v is 3y − |v|, and the |v| is moved to the other side: 4y³ + |v| ≤ 3y.
 abbrev pub cubeSide : Bool → ℕ → ℕ → ℕ
 cubeSide s n h = h * h * h + cond s (2 * n * 2 ^ 2148) 0
 
 abbrev pub lineSide : Bool → ℕ → ℕ → ℕ
 lineSide s n h = 3 * h * 2 ^ 2148 + cond s 0 (2 * n * 2 ^ 2148)
 
--- y is at most, or at least, the greatest solution of 4y³ − 3y = v, for v in [−1, 1]: it lies from 1/2 to 1, and from 1/2 on 4y³ − 3y grows.
+-- y is at most, or at least, the greatest solution of 4y³ − 3y = v, for v in [−1, 1]: it lies from 1/2 to 1, and from 1/2 on 4y³ − 3y grows. 1/2 is h = 2^1074.
 abbrev pub AtMostSolution : Bool → ℕ → ℕ → Type 0
 AtMostSolution s n h = (h ≤ 2 ^ 1074) ⊎ (cubeSide s n h ≤ lineSide s n h)
 
@@ -79,6 +89,13 @@ pub record TimesPower (x : Float) (k : ℤ) (y : Float) : Type 0 where
   pub sign : isSignNegativeOf x ≡ isSignNegativeOf y
   pub amount : unitsOf y * down k ≡ unitsOf x * up k
 
+-- y has x's sign, and is x · 2^k but for at most 3/4 of a unit of 2^-1074
+pub record NearPower (x : Float) (k : ℤ) (y : Float) : Type 0 where
+  pub to : Finite y
+  pub sign : isSignNegativeOf y ≡ isSignNegativeOf x
+  pub over : 4 * (unitsOf y * down k) ≤ 4 * (unitsOf x * up k) + 3 * down k
+  pub under : 4 * (unitsOf x * up k) ≤ 4 * (unitsOf y * down k) + 3 * down k
+
 -- x is exactly z / d (`HasValue x s a d`: x is finite, has the sign s, and is a / d in size)
 abbrev pub Ratio : Float → ℤ → ℕ → Type 0
 Ratio x (pos a) d = HasValue x false a d
@@ -94,6 +111,15 @@ pub record Coefficients (a : List Float) (d : ℕ) : Type 0 where
 -- |a_i| ≤ |a_d|·2^(e(d−i)) for all i < d
 abbrev pub Bounds : List Float → ℕ → ℤ → Type 0
 Bounds a d e = (i : ℕ) → i < d → let z = e *ℤ pos (d - i) in unitsOf (getD a i nan) * down z ≤ unitsOf (getD a d nan) * up z
+
+-- s is l sorted, where `before` says of two that the first goes before the second or is level with it. What stands at k in s stood at `place k` in l, and no place
+-- is taken twice; what is in s rises; and of two that are level the earlier stays first. `none` is read outside a list.
+pub record Sorted {A : Type 0} (before : A → A → Bool) (none : A) (place : ℕ → ℕ) (l s : List A) : Type 0 where
+  pub long : length s ≡ length l
+  pub from : (k : ℕ) → k < length l → (place k < length l) × (getD s k none ≡ getD l (place k) none)
+  pub once : (i j : ℕ) → i < j → j < length l → place i ≡ place j → ⊥
+  pub rises : (i j : ℕ) → i < j → j < length l → before (getD s i none) (getD s j none) ≡ true
+  pub ties : (i j : ℕ) → i < j → j < length l → before (getD s j none) (getD s i none) ≡ true → place i < place j
 
 -- ---- 'whole numbers over a power of two, as every finite double is': so nobody has to believe how a definition rounds
 
@@ -138,9 +164,15 @@ pub record Logarithm : Type 0 where
 pub record Exponent : Type 0 where
   pub exact : (x : Float) → Finite x → regularOf x ≡ true → Between (exponentOf x) (unitsOf x) (2 ^ 1074)
 
--- Power-of-two scale: where x · 2^k is a double, `ldexp` gives it, although it is a 'chain of products with powers of two, each rounded once'.
+-- Power-of-two scale, 'the Rust's chain of products with powers of two, each rounded once, so a result below 2^-1022 may be rounded twice'. For every x and k:
+-- where x · 2^k is a double, `ldexp` gives it, and so from 2^-1022, which is 2^52 units, to below 2^1024, which is 2^2098; from there on an infinity; below, no more
+-- than 3/4 of a unit off, 1/2 for the last rounding and half of 1/2 for one before it; and what is not finite stays.
 pub record Scale : Type 0 where
   pub exact : (x : Float) (k : ℤ) (y : Float) → TimesPower x k y → ldexpOf x k ≡ y
+  pub normal : (x : Float) (k : ℤ) → Finite x → 2 ^ 52 * down k ≤ unitsOf x * up k → unitsOf x * up k < 2 ^ 2098 * down k → TimesPower x k (ldexpOf x k)
+  pub infinite : (x : Float) (k : ℤ) → Finite x → 2 ^ 2098 * down k ≤ unitsOf x * up k → ldexpOf x k ≡ inf (isSignNegativeOf x)
+  pub near : (x : Float) (k : ℤ) → Finite x → unitsOf x * up k < 2 ^ 2098 * down k → NearPower x k (ldexpOf x k)
+  pub others : (x : Float) (k : ℤ) → isFiniteOf x ≡ false → ldexpOf x k ≡ x
 
 -- 'e is the smallest whole number with |a_i| ≤ |a_d|·2^(e(d−i)) for all i < d; e = 0 where d = 0. Scaled coefficients are at most the leading one in size,
 -- which lies in [1, 2).' 1 has 2^1074 units.
@@ -158,6 +190,37 @@ pub record ScaledCoefficients : Type 0 where
 -- so that no factor is ever dropped for want of room.
 pub record FactorDegrees : Type 0 where
   pub sum : (sc : Scaled) → sc .d ≤ 4 → (depth : ℕ) → let f = factorizeOf sc depth in f .nlin + 2 * f .nquad ≡ sc .d
+
+-- ---- 'sorts: ties stay in their earlier order'
+
+-- The order is the Rust's `total_cmp`, all NaNs being one. Of two values one is not above the other, and what is not above the next is not above the one after it;
+-- doubles that are not above each other are the same. A smaller number goes first, −0 before +0, and NaN last.
+pub record TotalOrder : Type 0 where
+  pub either : (x y : Float) → (totalLeOf x y ≡ true) ⊎ (totalLeOf y x ≡ true)
+  pub onward : (x y z : Float) → totalLeOf x y ≡ true → totalLeOf y z ≡ true → totalLeOf x z ≡ true
+  pub same : (x y : Float) → fits binary64 x ≡ true → fits binary64 y ≡ true → totalLeOf x y ≡ true → totalLeOf y x ≡ true → x ≡ y
+  pub smaller : (x y : Float) → lt x y ≡ true → totalLeOf x y ≡ true
+  pub zeros : totalLeOf (fin true 0 (pos 0)) (fin false 0 (pos 0)) ≡ true
+  pub last : (x : Float) → totalLeOf x nan ≡ true
+
+-- What is sorted: the candidates of `finish` and the items of an inquiry, by their places; the units of `factorize`, the largest first; and what the code's own
+-- sorts of n keys answer, the numbers of the keys' places.
+pub record Sorts : Type 0 where
+  pub places : (c : List RealRoot) → (place : ℕ → ℕ) × Sorted (λ a b. totalLeOf (a .value) (b .value)) blank place c (byValue c)
+  pub units : (f : Factors) → (place : ℕ → ℕ) × Sorted noSmaller (unitOf nan nan nan) place (factorUnitsOf f) (sortedBy noSmaller (factorUnitsOf f))
+  pub rising : (key : List Float) (n : ℕ) → n ≤ length key
+      → let at = risingOf key n in Sorted totalLeOf nan (λ k. getD at k 0) (take n key) (map (λ i. getD key i nan) (take n at))
+  pub falling : (key : List Float) (n : ℕ) → n ≤ length key
+      → let at = fallingOf key n in Sorted (λ a b. totalLeOf b a) nan (λ k. getD at k 0) (take n key) (map (λ i. getD key i nan) (take n at))
+
+-- ---- the Rust's loops in loops
+
+-- Joining in `finish`, and chains in real_roots_touching, written with the two loops that the Rust has, are the definitions, which have one each: whatever the
+-- number of turns that both loops are allowed, if only it is not below the number of places.
+pub record Loops : Type 0 where
+  pub runs : (poly : Scaled) (tol : Float) (v : List RealRoot) (turns : ℕ) → length v ≤ turns → runsFrom poly tol v turns turns 0 [] ≡ joinedOf poly tol v
+  pub chains : (poly : Scaled) (tol : Float) (items : List RealRoot) (turns : ℕ) → length items ≤ turns
+      → chainsFrom poly tol items turns turns 0 [] ≡ chained poly tol items
 
 -- ---- demand 1, for a list of any length, bits and tolerance
 
@@ -271,6 +334,9 @@ pub record Demands : Type 0 where
   pub scale : Scale
   pub scaled-coefficients : ScaledCoefficients
   pub factor-degrees : FactorDegrees
+  pub total-order : TotalOrder
+  pub sorts : Sorts
+  pub loops : Loops
   pub lists : Lists
   pub inquiries : Inquiries
   pub quadratics : Quadratics

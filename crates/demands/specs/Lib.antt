@@ -1,3 +1,4 @@
 pub mod Demands
 pub mod Table
+pub mod Loops
 pub mod Example

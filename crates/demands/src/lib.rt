@@ -6,5 +6,4 @@ ghost use Rattle.demands.specs.Demands.{Demands};
 // All of it holds: nothing is computed, and the contract is the promise itself, so that the check counts it as proved.
 pub fn promised()
     ensures { λ r. ⌜ Demands ⌝ }
-{
-}
+{}

@@ -52,7 +52,7 @@ module _ {A : Type 0} (before : A → A → Bool) where
   unfolding sortedBy
   sum-sorted size l = sum-all size [] l ∙ omega arith
 
-  all-inserted : (P : A → Type 0) (x : A) (l : List A) → P x → AllOf P l → AllOf P (insertedBy before x l)
+  pub all-inserted : (P : A → Type 0) (x : A) (l : List A) → P x → AllOf P l → AllOf P (insertedBy before x l)
   unfolding insertedBy
   all-inserted P x [] p h = (p, tt)
   all-inserted P x (y ∷ l) p h = either-way (AllOf P) (before y x) (h .0, all-inserted P x l p (h .1)) (p, h)

@@ -66,23 +66,23 @@ module _ (before : Float → Float → Bool) (key : List Float) where
       → entriesOf at i (placeOf before key at i) ≡ insertedBy (keysBefore before key) i (take i at) ++ drop (i + 1) at
   inserted-entries at i e h = of-four (Inserts i) (inserted-of i h) at e
 
-length-numbers : (i k : ℕ) → length (numbersFrom i k) ≡ k
+pub length-numbers : (i k : ℕ) → length (numbersFrom i k) ≡ k
 length-numbers i zero = refl
 length-numbers i (suc k) = ap suc (length-numbers (i + 1) k)
 
-all-numbers : (n i k : ℕ) → i + k ≤ n → AllOf (λ (j : ℕ). j < n) (numbersFrom i k)
+pub all-numbers : (n i k : ℕ) → i + k ≤ n → AllOf (λ (j : ℕ). j < n) (numbersFrom i k)
 all-numbers n i zero h = tt
 all-numbers n i (suc k) h = (omega arith, all-numbers n (i + 1) k (omega arith))
 
 module _ (before : Float → Float → Bool) (key : List Float) where
-  abbrev sortedNumbers : ℕ → List ℕ
+  abbrev pub sortedNumbers : ℕ → List ℕ
   sortedNumbers n = sortedBy (keysBefore before key) (numbersFrom 0 n)
 
   length-sortedNumbers : (n : ℕ) → length (sortedNumbers n) ≡ n
   length-sortedNumbers n = length-sorted (keysBefore before key) (numbersFrom 0 n) ∙ length-numbers 0 n
 
   -- the first n are sorted
-  take-order : (n : ℕ) → take n (orderOf before key n) ≡ sortedNumbers n
+  pub take-order : (n : ℕ) → take n (orderOf before key n) ≡ sortedNumbers n
   unfolding orderOf
   take-order n = take-at (sortedNumbers n) (numbersFrom n (4 - n)) n (length-sortedNumbers n)
 
@@ -123,7 +123,7 @@ module _ (before : Float → Float → Bool) (key : List Float) where
 
 -- ---- reading through the order
 module _ {A : Type 0} (a : List A) (d : A) where
-  read-numbers : (i k : ℕ) → i + k ≤ length a → map (λ (j : ℕ). getD a j d) (numbersFrom i k) ≡ take k (drop i a)
+  pub read-numbers : (i k : ℕ) → i + k ≤ length a → map (λ (j : ℕ). getD a j d) (numbersFrom i k) ≡ take k (drop i a)
   read-numbers i zero h = refl
   read-numbers i (suc k) h = rw (drop-cons a i d (omega arith), sym (add-one i)) (ap (λ (l : List A). getD a i d ∷ l) (read-numbers (i + 1) k (omega arith)))
 
