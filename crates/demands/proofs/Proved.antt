@@ -7,7 +7,7 @@ use lib.Dec.{lit≤}
 use lib.Ieee.{nan, lt, eq, isNan, ofBits}
 use Rattle.float.specs.Methods.{isSignNegativeOf, totalLeOf}
 use Rattle.float.specs.Units.{unitsOf}
-use Rattle.order.specs.Order.{risingOf, fallingOf}
+use Rattle.order.specs.Order.{fallingOf}
 use Rattle.decode.proofs.Class.{negative-view, regular-units}
 use Rattle.sqrt.specs.Root.{sqrtOf}
 use Rattle.cbrt.proofs.Cases.{root-special}
@@ -105,11 +105,10 @@ total-order = record {
 }
 
 sorts : Sorts
-unfolding byValue risingOf fallingOf
+unfolding byValue fallingOf
 sorts = record {
   places = λ c. sorted-whole (λ a b. totalLeOf (a .value) (b .value)) (λ a b. total.either (a .value) (b .value)) (λ a b c. total.onward (a .value) (b .value) (c .value)) c blank;
   units = λ f. sorted-whole noSmaller (λ a b. total.either (b .m) (a .m)) (λ a b c h g. total.onward (c .m) (b .m) (a .m) g h) (factorUnitsOf f) (unitOf nan nan nan);
-  rising = sorted-keys totalLeOf total.either total.onward;
   falling = sorted-keys (λ a b. totalLeOf b a) (λ a b. total.either b a) (λ a b c h g. total.onward c b a g h);
 }
 

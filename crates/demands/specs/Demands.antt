@@ -15,7 +15,7 @@ use Rattle.facts.specs.Sort.{sortedBy}
 use Rattle.float.specs.Literals.{zero64, two64, four64}
 use Rattle.float.specs.Methods.{isFiniteOf, isSignNegativeOf, totalLeOf}
 use Rattle.float.specs.Units.{unitsOf, Finite}
-use Rattle.order.specs.Order.{risingOf, fallingOf}
+use Rattle.order.specs.Order.{fallingOf}
 use Rattle.decode.specs.Exponent.{exponentOf, regularOf}
 use Rattle.scale.specs.Scale.{ldexpOf}
 use Rattle.sqrt.specs.Root.{sqrtOf}
@@ -204,12 +204,10 @@ pub record TotalOrder : Type 0 where
   pub last : (x : Float) → totalLeOf x nan ≡ true
 
 -- What is sorted: the candidates of `finish` and the items of an inquiry, by their places; the units of `factorize`, the largest first; and what the code's own
--- sorts of n keys answer, the numbers of the keys' places.
+-- sort of n keys answers, the numbers of the keys' places.
 pub record Sorts : Type 0 where
   pub places : (c : List RealRoot) → (place : ℕ → ℕ) × Sorted (λ a b. totalLeOf (a .value) (b .value)) blank place c (byValue c)
   pub units : (f : Factors) → (place : ℕ → ℕ) × Sorted noSmaller (unitOf nan nan nan) place (factorUnitsOf f) (sortedBy noSmaller (factorUnitsOf f))
-  pub rising : (key : List Float) (n : ℕ) → n ≤ length key
-      → let at = risingOf key n in Sorted totalLeOf nan (λ k. getD at k 0) (take n key) (map (λ i. getD key i nan) (take n at))
   pub falling : (key : List Float) (n : ℕ) → n ≤ length key
       → let at = fallingOf key n in Sorted (λ a b. totalLeOf b a) nan (λ k. getD at k 0) (take n key) (map (λ i. getD key i nan) (take n at))
 
