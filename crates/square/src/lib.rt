@@ -3,7 +3,7 @@
 ghost use mathlib.Core.Path.{_≡_};
 ghost use Prim.Native.Nat.{_<_, _≤_};
 ghost use lib.ListN.{length};
-ghost use Rattle.square.specs.Square.{sizesOf, leastOf, largerOf, lines, swapPivotOf, loseOf, reduceOf, restOf, substituteOf, solveSquareOf};
+ghost use Rattle.square.specs.Square.{sizesOf, leastOf, largerOf, pivotOf, lines, loseOf, restOf, substituteOf, solveSquareOf};
 ghost use Rattle.square.specs.Step.{step3, step4};
 
 // 2^-1022
@@ -66,10 +66,17 @@ fn least3(m: [[f64; 3]; 3], tol: f64) -> f64
     tol * float::max(s3, MIN_POSITIVE)
 }
 
-// The pivot's row comes up to row col.
-fn swap_pivot3(m: &mut [[f64; 3]; 3], b: &mut [f64; 3], col: usize)
+// `lose` for rows of 3.
+fn lose3(row: &mut [f64; 3], factor: f64, p: &[f64; 3], col: usize)
+    ensures { λ _. ⌜ now (row .exit) ≡ loseOf factor (now (p .entry)) col (now (row .entry)) ⌝ }
+{
+    lose(row, factor, p, col);
+}
+
+// The row of the pivot in column col.
+fn pivot3(m: [[f64; 3]; 3], col: usize) -> usize
     requires { ⌜ col < 3 ⌝ }
-    ensures { λ _. ⌜ lines (now (m .exit)) (now (b .exit)) ≡ swapPivotOf 3 col (lines (now (m .entry)) (now (b .entry))) ⌝ }
+    ensures { λ r. ⌜ (r ≡ pivotOf 3 m col) × (r < 3) ⌝ }
 {
     let mut pivot = col;
     let mut row = col + 1;
@@ -77,27 +84,7 @@ fn swap_pivot3(m: &mut [[f64; 3]; 3], b: &mut [f64; 3], col: usize)
         pivot = larger(row, m[row][col], pivot, m[pivot][col]);
         row += 1;
     }
-    let up = m[pivot];
-    let down = m[col];
-    m[col] = up;
-    m[pivot] = down;
-    let side = b[col];
-    b[col] = b[pivot];
-    b[pivot] = side;
-}
-
-// The rows below col lose their share of the pivot row p.
-fn reduce3(m: &mut [[f64; 3]; 3], b: &mut [f64; 3], p: &[f64; 3], col: usize)
-    requires { ⌜ col < 3 ⌝ }
-    ensures { λ _. ⌜ lines (now (m .exit)) (now (b .exit)) ≡ reduceOf 3 col (now (p .entry)) (lines (now (m .entry)) (now (b .entry))) ⌝ }
-{
-    let mut row = col + 1;
-    while row < 3 {
-        let factor = m[row][col] / p[col];
-        lose(&mut m[row], factor, p, col);
-        b[row] = b[row] - factor * b[col];
-        row += 1;
-    }
+    pivot
 }
 
 fn substitute3(m: [[f64; 3]; 3], b: [f64; 3]) -> [f64; 3]
@@ -126,15 +113,27 @@ pub fn solve_square3(m: [[f64; 3]; 3], b: [f64; 3], tol: f64) -> Step3
     let mut s = b;
     let mut col = 0;
     while col < 3 {
-        swap_pivot3(&mut a, &mut s, col);
-        let p = a[col];
-        if float::abs(p[col]) <= least {
+        let pivot = pivot3(a, col);
+        let up = a[pivot];
+        let down = a[col];
+        a[col] = up;
+        a[pivot] = down;
+        let side = s[col];
+        s[col] = s[pivot];
+        s[pivot] = side;
+        if float::abs(up[col]) <= least {
             return Step3 {
                 ok: false,
                 x: [0.0; 3],
             };
         }
-        reduce3(&mut a, &mut s, &p, col);
+        let mut row = col + 1;
+        while row < 3 {
+            let factor = a[row][col] / up[col];
+            lose3(&mut a[row], factor, &up, col);
+            s[row] = s[row] - factor * s[col];
+            row += 1;
+        }
         col += 1;
     }
     Step3 {
@@ -155,10 +154,17 @@ fn least4(m: [[f64; 4]; 4], tol: f64) -> f64
     tol * float::max(s4, MIN_POSITIVE)
 }
 
-// The pivot's row comes up to row col.
-fn swap_pivot4(m: &mut [[f64; 4]; 4], b: &mut [f64; 4], col: usize)
+// `lose` for rows of 4.
+fn lose4(row: &mut [f64; 4], factor: f64, p: &[f64; 4], col: usize)
+    ensures { λ _. ⌜ now (row .exit) ≡ loseOf factor (now (p .entry)) col (now (row .entry)) ⌝ }
+{
+    lose(row, factor, p, col);
+}
+
+// The row of the pivot in column col.
+fn pivot4(m: [[f64; 4]; 4], col: usize) -> usize
     requires { ⌜ col < 4 ⌝ }
-    ensures { λ _. ⌜ lines (now (m .exit)) (now (b .exit)) ≡ swapPivotOf 4 col (lines (now (m .entry)) (now (b .entry))) ⌝ }
+    ensures { λ r. ⌜ (r ≡ pivotOf 4 m col) × (r < 4) ⌝ }
 {
     let mut pivot = col;
     let mut row = col + 1;
@@ -166,27 +172,7 @@ fn swap_pivot4(m: &mut [[f64; 4]; 4], b: &mut [f64; 4], col: usize)
         pivot = larger(row, m[row][col], pivot, m[pivot][col]);
         row += 1;
     }
-    let up = m[pivot];
-    let down = m[col];
-    m[col] = up;
-    m[pivot] = down;
-    let side = b[col];
-    b[col] = b[pivot];
-    b[pivot] = side;
-}
-
-// The rows below col lose their share of the pivot row p.
-fn reduce4(m: &mut [[f64; 4]; 4], b: &mut [f64; 4], p: &[f64; 4], col: usize)
-    requires { ⌜ col < 4 ⌝ }
-    ensures { λ _. ⌜ lines (now (m .exit)) (now (b .exit)) ≡ reduceOf 4 col (now (p .entry)) (lines (now (m .entry)) (now (b .entry))) ⌝ }
-{
-    let mut row = col + 1;
-    while row < 4 {
-        let factor = m[row][col] / p[col];
-        lose(&mut m[row], factor, p, col);
-        b[row] = b[row] - factor * b[col];
-        row += 1;
-    }
+    pivot
 }
 
 fn substitute4(m: [[f64; 4]; 4], b: [f64; 4]) -> [f64; 4]
@@ -215,15 +201,27 @@ pub fn solve_square4(m: [[f64; 4]; 4], b: [f64; 4], tol: f64) -> Step4
     let mut s = b;
     let mut col = 0;
     while col < 4 {
-        swap_pivot4(&mut a, &mut s, col);
-        let p = a[col];
-        if float::abs(p[col]) <= least {
+        let pivot = pivot4(a, col);
+        let up = a[pivot];
+        let down = a[col];
+        a[col] = up;
+        a[pivot] = down;
+        let side = s[col];
+        s[col] = s[pivot];
+        s[pivot] = side;
+        if float::abs(up[col]) <= least {
             return Step4 {
                 ok: false,
                 x: [0.0; 4],
             };
         }
-        reduce4(&mut a, &mut s, &p, col);
+        let mut row = col + 1;
+        while row < 4 {
+            let factor = a[row][col] / up[col];
+            lose4(&mut a[row], factor, &up, col);
+            s[row] = s[row] - factor * s[col];
+            row += 1;
+        }
         col += 1;
     }
     Step4 {
