@@ -17,6 +17,7 @@ use Rattle.isolated.specs.declared.LoneRoot.the-variants.{At, None}
 use Rattle.isolated.specs.Isolated.{rootPairOf, isolatedRootOf}
 use Rattle.scaled.specs.Scaled.{scaledOf}
 use Rattle.split.specs.Hull.{hullAt, hullOf}
+use Rattle.split.specs.declared.Split.the-variants.{Gap}
 use Rattle.split.specs.Gap.{magnitudeSplitOf}
 use Rattle.factors.specs.Factors.{quadOf}
 use Rattle.large.specs.Large.{largeOf}
@@ -66,7 +67,7 @@ pub record Splitting : Type 0 where
   pub on-an-edge : hullOf (zero64 ∷ one64 ∷ two64 ∷ replicate 2 minusInf) 2 ≡ hullAt (0 ∷ 2 ∷ 0 ∷ 0 ∷ 0 ∷ []) 2
   -- Document 01: '`ldexp(1.0, k)`, k the middle rounded down', of a gap from -10 to -1; not exact exp2 (2^-5.5), not the middle rounded up (2^-5), not the
   -- gap's lower end (2^-10)
-  pub middle-down : magnitudeSplitOf (neg (11 /2^ 0) ∷ neg one64 ∷ zero64 ∷ replicate 2 minusInf) 2 ≡ record { found = true; small = 1; threshold = 1 /2^ 6 }
+  pub middle-down : magnitudeSplitOf (neg (11 /2^ 0) ∷ neg one64 ∷ zero64 ∷ replicate 2 minusInf) 2 ≡ Gap 1 (1 /2^ 6)
 
 pub record Factors : Type 0 where
   -- 567, `m < threshold * f64::EPSILON`; not: a unit at the threshold is small

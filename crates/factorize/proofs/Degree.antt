@@ -1,28 +1,31 @@
 -- The degrees of the factors add to that of the polynomial, at every depth: nlin + 2 nquad is d. Assumes nothing.
 use mathlib.Core.Path.{_≡_, refl, _∙_}
-use mathlib.Core.Bool.{Bool, true, false, cond, _&&_}
+use mathlib.Core.Bool.{Bool, true, false, cond, false≢true}
 use mathlib.Core.List.{List}
 use Prim.Native.Nat.{ℕ, zero, suc, _-_, _≤_}
+use native.Mathlib.Nat.{le-refl}
 use native.Mathlib.Omega.{arith}
 use borrow.Author.Tests.{eqb-true}
 use lib.Dec.{leb, eqb}
 use lib.Ieee.{Float}
-use Rattle.facts.specs.Cond.{first-holds, second-holds}
+use Rattle.facts.specs.Cond.{first-holds}
 use Rattle.quartic.specs.declared.QuarticFactor.{QuarticFactor}
 use Rattle.isolated.specs.declared.LoneRoot.{LoneRoot}
-use Rattle.isolated.specs.declared.LoneRoot.the-variants.{At, None}
+use Rattle.isolated.specs.declared.LoneRoot.the-variants as lone
 use Rattle.quartic.specs.Quartic.{quarticFactorOf}
 use Rattle.isolated.specs.Isolated.{isolatedRootOf}
 use Rattle.scaled.specs.declared.Scaled.{Scaled}
 use Rattle.scaled.specs.Scaled.{scaledOf}
-use Rattle.split.specs.Gap.{magnitudeSplitOf}
+use Rattle.split.specs.declared.Split.{Split}
+use Rattle.split.specs.declared.Split.the-variants.{Gap, None}
+use Rattle.split.specs.Gap.{Inside, magnitudeSplitOf}
 use Rattle.split.proofs.Gaps.{split-inside}
 use Rattle.factors.specs.declared.Factors.{Factors}
 use Rattle.factors.specs.Factors.{pushLinOf, pushQuadOf, degreeOf}
 use Rattle.large.specs.Large.{largeOf}
 use Rattle.quotient.specs.Quotient.{productOf, quotientOf, usableOf, mergedOf}
 use Rattle.quotient.proofs.Counts.{merged-degree}
-use Rattle.factorize.specs.Factorize.{cubicFactorsOf, pairedOf, quarticFactorsOf, outOf, Second, secondOf, factorsFrom}
+use Rattle.factorize.specs.Factorize.{cubicFactorsOf, pairedOf, quarticFactorsOf, outOf, Second, secondAt, secondOf, factorsFrom}
 
 -- ---- at one scale
 cubic-degree : (b c d : Float) → degreeOf (cubicFactorsOf b c d) ≡ 3
@@ -31,8 +34,8 @@ cubic-degree b c d = refl
 
 paired-degree : (b c d e : Float) (quads : QuarticFactor) (far : LoneRoot) → degreeOf (pairedOf b c d e quads far) ≡ 4
 unfolding pairedOf pushLinOf pushQuadOf
-paired-degree b c d e quads (At r) = refl
-paired-degree b c d e quads None = refl
+paired-degree b c d e quads (lone.At r) = refl
+paired-degree b c d e quads lone.None = refl
 
 quartic-degree : (b c d e : Float) → degreeOf (quarticFactorsOf b c d e) ≡ 4
 unfolding quarticFactorsOf
@@ -52,16 +55,20 @@ pub record Parted (d : ℕ) (second : Second) : Type 0 where
   pub most : second .sub .d ≤ d
   pub rest : second .found ≡ true → degreeOf (second .large) ≡ d - second .sub .d
 
-pub parted : (sc : Scaled) (out : Factors) → sc .d ≤ 4 → Parted (sc .d) (secondOf sc out)
-unfolding secondOf scaledOf
-parted sc out D =
-    let gap = magnitudeSplitOf (sc .lg) (sc .d) in
-    let large = largeOf out (sc .d - gap .small) (gap .threshold) in
-    let s = quotientOf (sc .g) (productOf large) (gap .small) in
+parted-at : (sc : Scaled) (out : Factors) (gap : Split) → Inside (sc .d) gap → Parted (sc .d) (secondAt sc out gap)
+unfolding scaledOf
+parted-at sc out (Gap small threshold) I =
+    let large = largeOf out (sc .d - small) threshold in
+    let fine = usableOf (quotientOf (sc .g) (productOf large) small) small in
     record {
-      most = split-inside (sc .lg) (sc .d) D .most;
-      rest = λ h. eqb-true (degreeOf large) (sc .d - gap .small) (first-holds (eqb (degreeOf large) (sc .d - gap .small)) (usableOf s (gap .small)) (second-holds (gap .found) (eqb (degreeOf large) (sc .d - gap .small) && usableOf s (gap .small)) h));
+      most = omega (arith, I .1);
+      rest = λ h. eqb-true (degreeOf large) (sc .d - small) (first-holds (eqb (degreeOf large) (sc .d - small)) fine h);
     }
+parted-at sc out None I = record { most = le-refl (sc .d); rest = λ h. absurd (false≢true h) }
+
+pub parted : (sc : Scaled) (out : Factors) → sc .d ≤ 4 → Parted (sc .d) (secondOf sc out)
+unfolding secondOf
+parted sc out D = parted-at sc out (magnitudeSplitOf (sc .lg) (sc .d)) (split-inside (sc .lg) (sc .d) D)
 
 -- ---- at every depth
 pub degrees-add : (left : ℕ) (sc : Scaled) → sc .d ≤ 4 → degreeOf (factorsFrom left sc) ≡ sc .d

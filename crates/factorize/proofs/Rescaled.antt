@@ -1,7 +1,7 @@
 -- The scaling theorem holds of a second scaling: its coefficients are at most the leading one in size, which lies in [1, 2), and so at most 2. For where there
 -- is one, `usable` has said of the quotient what the theorem asks. Assumes nothing.
 use mathlib.Core.Path.{_≡_}
-use mathlib.Core.Bool.{true, _&&_}
+use mathlib.Core.Bool.{true, _&&_, false≢true}
 use mathlib.Core.List.{List}
 use Prim.Native.Nat.{ℕ, _-_, _^_, _≤_, _<_}
 use native.Mathlib.Omega.{arith}
@@ -15,7 +15,9 @@ use Rattle.float.specs.Units.{unitsOf}
 use Rattle.scaled.specs.declared.Scaled.{Scaled}
 use Rattle.scaled.specs.Scaled.{scaledOf}
 use Rattle.scaled.proofs.Promise.{f-held, f-leading, f-small}
-use Rattle.split.specs.Gap.{magnitudeSplitOf}
+use Rattle.split.specs.declared.Split.{Split}
+use Rattle.split.specs.declared.Split.the-variants.{Gap, None}
+use Rattle.split.specs.Gap.{Inside, magnitudeSplitOf}
 use Rattle.split.proofs.Gaps.{split-inside}
 use Rattle.factors.specs.declared.Factors.{Factors}
 use Rattle.factors.specs.Factors.{degreeOf}
@@ -23,7 +25,7 @@ use Rattle.large.specs.Large.{largeOf}
 use Rattle.quotient.specs.declared.Monic.{Monic}
 use Rattle.quotient.specs.Quotient.{productOf, quotientOf, usableOf}
 use Rattle.quotient.proofs.Checked.{usable-finite, usable-last}
-use Rattle.factorize.specs.Factorize.{secondOf}
+use Rattle.factorize.specs.Factorize.{secondAt, secondOf}
 
 -- what the theorem says of a scaled polynomial, sizes in units of 2^-1074
 pub record Promised (sc : Scaled) : Type 0 where
@@ -39,11 +41,14 @@ promised g p small D U =
     let P = usable-last g p small D U in
     record { held = f-held s small D F P; leading = f-leading s small D F P; small = f-small s small D F P }
 
+promised-at : (sc : Scaled) (out : Factors) (gap : Split) → sc .d ≤ 4 → Inside (sc .d) gap → secondAt sc out gap .found ≡ true → Promised (secondAt sc out gap .sub)
+promised-at sc out (Gap small threshold) D I h =
+    let large = largeOf out (sc .d - small) threshold in
+    let apart = eqb (degreeOf large) (sc .d - small) in
+    let fine = usableOf (quotientOf (sc .g) (productOf large) small) small in
+    promised (sc .g) (productOf large) small (omega (arith, D, I .1)) (second-holds apart fine h)
+promised-at sc out None D I h = absurd (false≢true h)
+
 pub second-promised : (sc : Scaled) (out : Factors) → sc .d ≤ 4 → secondOf sc out .found ≡ true → Promised (secondOf sc out .sub)
 unfolding secondOf
-second-promised sc out D h =
-    let gap = magnitudeSplitOf (sc .lg) (sc .d) in
-    let large = largeOf out (sc .d - gap .small) (gap .threshold) in
-    let apart = eqb (degreeOf large) (sc .d - gap .small) in
-    let fine = usableOf (quotientOf (sc .g) (productOf large) (gap .small)) (gap .small) in
-    promised (sc .g) (productOf large) (gap .small) (omega (arith, split-inside (sc .lg) (sc .d) D .most)) (second-holds apart fine (second-holds (gap .found) (apart && fine) h))
+second-promised sc out D h = promised-at sc out (magnitudeSplitOf (sc .lg) (sc .d)) D (split-inside (sc .lg) (sc .d) D) h

@@ -1,7 +1,7 @@
 -- What each call in factorize asks of the counts, degrees and exponents that earlier calls gave. Assumes nothing.
-use mathlib.Core.Path.{_≡_, sym, ap, subst}
+use mathlib.Core.Path.{_≡_, sym, ap, _∙_, subst}
 use mathlib.Core.List.{List}
-use Prim.Native.Nat.{ℕ, _-_, _^_, _≤_}
+use Prim.Native.Nat.{ℕ, _-_, _^_, _≤_, _<_}
 use native.Mathlib.Omega.{arith}
 use lib.IntN.{ℤ, natAbs}
 use lib.Ieee.{Float}
@@ -13,7 +13,8 @@ use Rattle.scaled.specs.Scaled.{scaledOf}
 use Rattle.scaled.proofs.Best.{exponent-bounded}
 use Rattle.scaled.proofs.Signed.{small-fits}
 use Rattle.split.specs.declared.Split.{Split}
-use Rattle.split.specs.Gap.{magnitudeSplitOf}
+use Rattle.split.specs.declared.Split.the-variants.{Gap}
+use Rattle.split.specs.Gap.{Inside, magnitudeSplitOf}
 use Rattle.split.proofs.Gaps.{split-inside}
 use Rattle.factors.specs.declared.Factors.{Factors}
 use Rattle.factors.specs.Factors.{degreeOf, Sized}
@@ -25,8 +26,8 @@ use Rattle.factorize.proofs.Degree.{out-degree, degrees-add}
 pub out-fits : (g : List Float) (d : ℕ) (out : Factors) → out ≡ outOf g d → d ≤ 4 → degreeOf out ≤ 4
 out-fits g d out e D = omega (arith, ap degreeOf e, out-degree g d D)
 
-pub gap-inside : (lg : List Float) (d : ℕ) (gap : Split) → gap ≡ magnitudeSplitOf lg d → d ≤ 4 → gap .small ≤ d
-gap-inside lg d gap e D = subst (λ (x : Split). x .small ≤ d) (sym e) (split-inside lg d D .most)
+pub gap-inside : (lg : List Float) (d : ℕ) (gap : Split) (small : ℕ) (threshold : Float) → gap ≡ magnitudeSplitOf lg d → gap ≡ Gap small threshold → d ≤ 4 → small < d
+gap-inside lg d gap small threshold e f D = subst (Inside d) (sym e ∙ f) (split-inside lg d D) .1
 
 pub sized : (f : Factors) (want : ℕ) (threshold : Float) (large : Factors) → large ≡ largeOf f want threshold → Sized large
 sized f want threshold large e = subst Sized (sym e) (large-sized f want threshold)

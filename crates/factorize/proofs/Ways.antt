@@ -10,7 +10,7 @@ use lib.Ieee.{Float}
 use Rattle.cubic.specs.declared.CubicFactor.{CubicFactor}
 use Rattle.quartic.specs.declared.QuarticFactor.{QuarticFactor}
 use Rattle.isolated.specs.declared.LoneRoot.{LoneRoot}
-use Rattle.isolated.specs.declared.LoneRoot.the-variants.{At, None}
+use Rattle.isolated.specs.declared.LoneRoot.the-variants as lone
 use Rattle.isolated.specs.declared.Peeled.{Peeled}
 use Rattle.cubic.specs.Cubic.{cubicFactorOf}
 use Rattle.quartic.specs.Quartic.{quarticFactorOf}
@@ -18,6 +18,7 @@ use Rattle.isolated.specs.Isolated.{isolatedRootOf, peelRootOf}
 use Rattle.scaled.specs.declared.Scaled.{Scaled}
 use Rattle.scaled.specs.Scaled.{scaledOf}
 use Rattle.split.specs.declared.Split.{Split}
+use Rattle.split.specs.declared.Split.the-variants.{Gap, None}
 use Rattle.split.specs.Gap.{magnitudeSplitOf}
 use Rattle.factors.specs.declared.Factors.{Factors}
 use Rattle.factors.specs.Factors.{noFactors, pushLinOf, pushQuadOf, degreeOf}
@@ -28,12 +29,12 @@ use Rattle.factorize.specs.Factorize.{pairedOf, quarticFactorsOf, outOf,
 
 -- ---- a quartic
 module _ (b c d e : Float) (quads : QuarticFactor) (far : LoneRoot) (Q : quads ≡ quarticFactorOf b c d e) (I : far ≡ isolatedRootOf quads) (n : Factors) (N : n ≡ noFactors) where
-  pub peeled : (r : Float) (p : Peeled) (k : CubicFactor) (m o f : Factors) → far ≡ At r → p ≡ peelRootOf b c d e r → k ≡ cubicFactorOf (p .h2) (p .h1) (p .h0) → m ≡ pushLinOf n (p .r)
+  pub peeled : (r : Float) (p : Peeled) (k : CubicFactor) (m o f : Factors) → far ≡ lone.At r → p ≡ peelRootOf b c d e r → k ≡ cubicFactorOf (p .h2) (p .h1) (p .h0) → m ≡ pushLinOf n (p .r)
       → o ≡ pushLinOf m (k .r) → f ≡ pushQuadOf o (k .e) (k .f) → f ≡ quarticFactorsOf b c d e
   unfolding quarticFactorsOf pairedOf
   peeled r p k m o f A P K M O F = rw (sym Q, sym I ∙ A) (rw (F, O, M, N, K, P))
 
-  pub in-pairs : (m f : Factors) → far ≡ None → m ≡ pushQuadOf n (quads .al) (quads .be) → f ≡ pushQuadOf m (quads .ga) (quads .de) → f ≡ quarticFactorsOf b c d e
+  pub in-pairs : (m f : Factors) → far ≡ lone.None → m ≡ pushQuadOf n (quads .al) (quads .be) → f ≡ pushQuadOf m (quads .ga) (quads .de) → f ≡ quarticFactorsOf b c d e
   unfolding quarticFactorsOf pairedOf
   in-pairs m f A M F = rw (sym Q, sym I ∙ A) (rw (F, M, N))
 
@@ -58,22 +59,24 @@ module _ (depth : ℕ) (sc : Scaled) (out : Factors) (O : out ≡ outOf (sc .g) 
       unsplit f = rw (left-is, lt-leb (sc .d) 2 l, rw O at f) O
 
       module _ (gap : Split) (G : gap ≡ magnitudeSplitOf (sc .lg) (sc .d)) where
-        pub without-gap : gap .found ≡ false → out ≡ factorizeOf sc depth
+        pub without-gap : gap ≡ None → out ≡ factorizeOf sc depth
         unfolding secondOf
-        without-gap f = unsplit (rw (rw G at f))
+        without-gap f = unsplit (rw (sym G ∙ f))
 
-        module _ (f : gap .found ≡ true) (large : Factors) (L : large ≡ largeOf out (sc .d - gap .small) (gap .threshold)) (n : ℕ) (N : n ≡ degreeOf large) where
-          pub other-degree : (n ≡ sc .d - gap .small → ⊥) → out ≡ factorizeOf sc depth
+        module _ (small : ℕ) (threshold : Float) (f : gap ≡ Gap small threshold) (large : Factors) (L : large ≡ largeOf out (sc .d - small) threshold) (n : ℕ)
+            (N : n ≡ degreeOf large) where
+          pub other-degree : (n ≡ sc .d - small → ⊥) → out ≡ factorizeOf sc depth
           unfolding secondOf
-          other-degree q = unsplit (rw (rw G at f, rw (N, L, G) at (ne-eqb n (sc .d - gap .small) q)))
+          other-degree q = unsplit (rw (sym G ∙ f, rw (N, L) at (ne-eqb n (sc .d - small) q)))
 
-          module _ (q : n ≡ sc .d - gap .small) (p : Monic) (P : p ≡ productOf large) (s : List Float) (S : s ≡ quotientOf (sc .g) p (gap .small)) (u : Bool) (U : u ≡ usableOf s (gap .small)) where
+          module _ (q : n ≡ sc .d - small) (p : Monic) (P : p ≡ productOf large) (s : List Float) (S : s ≡ quotientOf (sc .g) p small) (u : Bool)
+              (U : u ≡ usableOf s small) where
             pub unusable : u ≡ false → out ≡ factorizeOf sc depth
             unfolding secondOf
-            unusable k = unsplit (rw (rw G at f, rw (N, L, G) at (eq-eqb n (sc .d - gap .small) q), rw (S, P, L, G) at (sym U ∙ k)))
+            unusable k = unsplit (rw (sym G ∙ f, rw (N, L) at (eq-eqb n (sc .d - small) q), rw (S, P, L) at (sym U ∙ k)))
 
-            pub split-up : (sub : Scaled) (inner r : Factors) (e : ℤ) → u ≡ true → sub ≡ scaledOf s (gap .small) → inner ≡ factorizeOf sub (depth + 1) → e ≡ sub .e → r ≡ mergedOf large inner e → r ≡ factorizeOf sc depth
+            pub split-up : (sub : Scaled) (inner r : Factors) (e : ℤ) → u ≡ true → sub ≡ scaledOf s small → inner ≡ factorizeOf sub (depth + 1) → e ≡ sub .e
+                → r ≡ mergedOf large inner e → r ≡ factorizeOf sc depth
             unfolding secondOf factorsFrom factorizeOf
             split-up sub inner r e k B I Z R =
-                rw (left-is, lt-leb (sc .d) 2 l, sym O, rw G at f, rw (N, L, G) at (eq-eqb n (sc .d - gap .small) q), rw (S, P, L, G) at (sym U ∙ k))
-                (R ∙ rw (Z, I, B, S, P, L, G))
+                rw (left-is, lt-leb (sc .d) 2 l, sym O, sym G ∙ f, rw (N, L) at (eq-eqb n (sc .d - small) q), rw (S, P, L) at (sym U ∙ k)) (R ∙ rw (Z, I, B, S, P, L))

@@ -1,6 +1,6 @@
 -- factorize of poly.rs: 'Degree 3 splits into a line and a quadratic, degree 4 into two quadratics, or line and cubic where three roots are tight. [..] A gap
 -- strictly above 8 bits between root sizes starts a second scaling, the topmost gap first; never at depth 3 or degree 2 and below.' Definitions only.
-use mathlib.Core.Bool.{Bool, cond, _&&_}
+use mathlib.Core.Bool.{Bool, false, cond, _&&_}
 use mathlib.Core.List.{List}
 use Prim.Native.Nat.{ℕ, zero, suc, _-_}
 use lib.Dec.{leb, eqb}
@@ -8,12 +8,14 @@ use lib.ListN.{getD}
 use lib.Ieee.{Float, nan, neg}
 use Rattle.quartic.specs.declared.QuarticFactor.{QuarticFactor}
 use Rattle.isolated.specs.declared.LoneRoot.{LoneRoot}
-use Rattle.isolated.specs.declared.LoneRoot.the-variants.{At, None}
+use Rattle.isolated.specs.declared.LoneRoot.the-variants as lone
 use Rattle.cubic.specs.Cubic.{cubicFactorOf}
 use Rattle.quartic.specs.Quartic.{quarticFactorOf}
 use Rattle.isolated.specs.Isolated.{isolatedRootOf, peelRootOf}
 use Rattle.scaled.specs.declared.Scaled.{Scaled}
 use Rattle.scaled.specs.Scaled.{scaledOf}
+use Rattle.split.specs.declared.Split.{Split}
+use Rattle.split.specs.declared.Split.the-variants.{Gap, None}
 use Rattle.split.specs.Gap.{magnitudeSplitOf}
 use Rattle.factors.specs.declared.Factors.{Factors}
 use Rattle.factors.specs.Factors.{noFactors, pushLinOf, pushQuadOf, degreeOf}
@@ -26,11 +28,11 @@ cubicFactorsOf b c d = let k = cubicFactorOf b c d in pushQuadOf (pushLinOf noFa
 
 -- the arm `_`: 'A tight cluster of three roots cannot sit in one quadratic: peel off the far root, solve the cluster as a cubic.'
 unfoldable pub pairedOf : Float → Float → Float → Float → QuarticFactor → LoneRoot → Factors
-pairedOf b c d e quads (At r) =
+pairedOf b c d e quads (lone.At r) =
     let p = peelRootOf b c d e r in
     let k = cubicFactorOf (p .h2) (p .h1) (p .h0) in
     pushQuadOf (pushLinOf (pushLinOf noFactors (p .r)) (k .r)) (k .e) (k .f)
-pairedOf b c d e quads None = pushQuadOf (pushQuadOf noFactors (quads .al) (quads .be)) (quads .ga) (quads .de)
+pairedOf b c d e quads lone.None = pushQuadOf (pushQuadOf noFactors (quads .al) (quads .be)) (quads .ga) (quads .de)
 
 -- the same, from the quartic's two quadratics and its lone root
 unfoldable pub quarticFactorsOf : Float → Float → Float → Float → Factors
@@ -55,13 +57,15 @@ pub record Second : Type 0 where
   pub sub : Scaled
 
 -- There is none without a gap, nor where the large factors have another degree than d - small, nor where the quotient is not finite or has a zero at an end.
-unfoldable pub secondOf : Scaled → Factors → Second
-secondOf sc out =
-    let gap = magnitudeSplitOf (sc .lg) (sc .d) in
-    let small = gap .small in
-    let large = largeOf out (sc .d - small) (gap .threshold) in
+abbrev pub secondAt : Scaled → Factors → Split → Second
+secondAt sc out (Gap small threshold) =
+    let large = largeOf out (sc .d - small) threshold in
     let s = quotientOf (sc .g) (productOf large) small in
-    record { found = gap .found && (eqb (degreeOf large) (sc .d - small) && usableOf s small); large = large; sub = scaledOf s small }
+    record { found = eqb (degreeOf large) (sc .d - small) && usableOf s small; large = large; sub = scaledOf s small }
+secondAt sc out None = record { found = false; large = noFactors; sub = sc }
+
+unfoldable pub secondOf : Scaled → Factors → Second
+secondOf sc out = secondAt sc out (magnitudeSplitOf (sc .lg) (sc .d))
 
 -- with `left` more scalings: `depth >= 3 || sc.d <= 2` has none
 unfoldable pub factorsFrom : ℕ → Scaled → Factors

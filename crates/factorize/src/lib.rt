@@ -99,11 +99,10 @@ pub fn factorize_rooted(sc: scaled::Scaled, depth: u32) -> Rooted
     }
     let lg = sc.lg;
     let gap = split::magnitude_split(lg, d);
-    if !gap.found {
+    let split::Split::Gap(small, threshold) = gap else {
         return out;
-    }
-    let small = gap.small;
-    let large = large::large(out.f, d - small, gap.threshold);
+    };
+    let large = large::large(out.f, d - small, threshold);
     if large.degree() != d - small {
         return out;
     }

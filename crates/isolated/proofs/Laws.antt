@@ -13,10 +13,10 @@ use Rattle.cubic.specs.Cubic.{overOr}
 use Rattle.quartic.specs.declared.QuarticFactor.{QuarticFactor}
 use Rattle.isolated.specs.declared.RootPair.{RootPair}
 use Rattle.isolated.specs.declared.Best.{Best}
+use Rattle.isolated.specs.declared.Best.the-variants.{NoRoot}
 use Rattle.isolated.specs.declared.Disc.{Disc}
 use Rattle.isolated.specs.declared.LoneRoot.{LoneRoot}
-use Rattle.isolated.specs.declared.LoneRoot.the-variants.{At, None}
-use Rattle.isolated.specs.Isolated.{discOf, farBy, farRootOf, rootPairOf, distOf, leastOf, greatestOf, judgedOf, bestRootOf, isolatedOf, isolatedRootOf}
+use Rattle.isolated.specs.Isolated.{discOf, farBy, farRootOf, rootPairOf, distOf, leastOf, greatestOf, judgedOf, bestRootOf, loneOf, isolatedOf, isolatedRootOf}
 
 -- ---- the isolated root
 
@@ -28,7 +28,7 @@ module _ (quads : QuarticFactor) (z y : RootPair) (d01 d02 d03 d12 d13 d23 : Flo
     (ey : y ≡ rootPairOf (quads .ga) (quads .de)) (e01 : d01 ≡ distOf (z .re0) (z .im0) (z .re1) (z .im1)) (e02 : d02 ≡ distOf (z .re0) (z .im0) (y .re0) (y .im0))
     (e03 : d03 ≡ distOf (z .re0) (z .im0) (y .re1) (y .im1)) (e12 : d12 ≡ distOf (z .re1) (z .im1) (y .re0) (y .im0))
     (e13 : d13 ≡ distOf (z .re1) (z .im1) (y .re1) (y .im1)) (e23 : d23 ≡ distOf (y .re0) (y .im0) (y .re1) (y .im1))
-    (f0 : b0 ≡ judgedBy (record { found = false; iso = zero64; r = zero64 }) (z .re0) (z .im0) d01 d02 d03 d12 d13 d23)
+    (f0 : b0 ≡ judgedBy NoRoot (z .re0) (z .im0) d01 d02 d03 d12 d13 d23)
     (f1 : b1 ≡ judgedBy b0 (z .re1) (z .im1) d01 d12 d13 d02 d03 d23) (f2 : b2 ≡ judgedBy b1 (y .re0) (y .im0) d02 d12 d23 d01 d03 d13)
     (f3 : b3 ≡ judgedBy b2 (y .re1) (y .im1) d03 d13 d23 d01 d02 d12) where
   pub in-turn : b3 ≡ bestRootOf quads
@@ -63,6 +63,6 @@ module _ (al be : Float) {s : Disc} (is : s ≡ discOf al be) where
 
 module _ (quads : QuarticFactor) {first second : Disc} {best : Best} (is-first : first ≡ discOf (quads .al) (quads .be)) (is-second : second ≡ discOf (quads .ga) (quads .de))
     (is-best : best ≡ bestRootOf quads) where
-  pub is-lone : {far : LoneRoot} → far ≡ cond (best .found) (At (best .r)) None → record { far = far; first = first; second = second } ≡ isolatedOf quads
+  pub is-lone : {far : LoneRoot} → far ≡ loneOf best → record { far = far; first = first; second = second } ≡ isolatedOf quads
   unfolding isolatedOf isolatedRootOf
   is-lone is-far = rw (is-far, is-best, is-first, is-second)

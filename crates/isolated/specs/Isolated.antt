@@ -1,6 +1,6 @@
 -- `isolated_root`: a real root of two quadratics that is far from the other three while those lie close together, a near-triple root that no pairing in quadratics
 -- resolves. `peel_root`: the monic quartic y^4 + b*y^3 + c*y^2 + d*y + e as (y - r) * (y^3 + h2*y^2 + h1*y + h0), from such a root. Definitions only.
-use mathlib.Core.Bool.{Bool, true, false, cond, not, _&&_, _||_}
+use mathlib.Core.Bool.{Bool, true, cond, _&&_}
 use mathlib.Core.List.{List, [], _∷_}
 use Prim.Native.Nat.{ℕ, _+_, _-_}
 use lib.Dec.{eqb, ltb}
@@ -16,6 +16,7 @@ use Rattle.refine.specs.Systems.{peelSystem}
 use Rattle.quartic.specs.declared.QuarticFactor.{QuarticFactor}
 use Rattle.isolated.specs.declared.RootPair.{RootPair}
 use Rattle.isolated.specs.declared.Best.{Best}
+use Rattle.isolated.specs.declared.Best.the-variants.{Root, NoRoot}
 use Rattle.isolated.specs.declared.LoneRoot.{LoneRoot}
 use Rattle.isolated.specs.declared.LoneRoot.the-variants.{At, None}
 use Rattle.isolated.specs.declared.Disc.{Disc}
@@ -72,13 +73,18 @@ leastOf a b c = minOf (minOf (minOf inf64 a) b) c
 abbrev pub greatestOf : Float → Float → Float → Float
 greatestOf a b c = maxOf (maxOf (maxOf zero64 a) b) c
 
--- A spread under a quarter of the distance, 16 in squares; and iso is greater than that of the best so far, if there is one. So the first of equals stays.
+-- iso is greater than that of the best so far, if there is one. So the first of equals stays.
+abbrev pub beats : Float → Best → Bool
+beats iso (Root far r) = lt far iso
+beats iso NoRoot = true
+
+-- A spread under a quarter of the distance, 16 in squares, and that.
 unfoldable pub isBetterOf : Best → Float → Float → Bool
-isBetterOf best iso spread = lt (mul binary64 sixteen64 spread) iso && (not (best .found) || lt (best .iso) iso)
+isBetterOf best iso spread = lt (mul binary64 sixteen64 spread) iso && beats iso best
 
 -- the best so far once one more root was looked at: only a real one may take its place
 unfoldable pub judgedOf : Best → Float → Float → Float → Float → Best
-judgedOf best re im iso spread = cond (ne im zero64) best (cond (isBetterOf best iso spread) (record { found = true; iso = iso; r = re }) best)
+judgedOf best re im iso spread = cond (ne im zero64) best (cond (isBetterOf best iso spread) (Root iso re) best)
 
 -- `best` after the four roots
 unfoldable pub bestRootOf : QuarticFactor → Best
@@ -87,11 +93,16 @@ bestRootOf quads =
     let y = rootPairOf (quads .ga) (quads .de) in
     let re = z .re0 ∷ z .re1 ∷ y .re0 ∷ y .re1 ∷ [] in
     let im = z .im0 ∷ z .im1 ∷ y .im0 ∷ y .im1 ∷ [] in
-    countUp 4 (λ i best. judgedOf best (getD re i nan) (getD im i nan) (isoOf re im i) (spreadOf re im i)) 4 (record { found = false; iso = zero64; r = zero64 })
+    countUp 4 (λ i best. judgedOf best (getD re i nan) (getD im i nan) (isoOf re im i) (spreadOf re im i)) 4 NoRoot
+
+-- `best.map(|(_, r)| r)`
+abbrev pub loneOf : Best → LoneRoot
+loneOf (Root far r) = At r
+loneOf NoRoot = None
 
 -- `isolated_root`
 unfoldable pub isolatedRootOf : QuarticFactor → LoneRoot
-isolatedRootOf quads = let best = bestRootOf quads in cond (best .found) (At (best .r)) None
+isolatedRootOf quads = loneOf (bestRootOf quads)
 
 -- the same, and the discriminants of the two quadratics
 unfoldable pub isolatedOf : QuarticFactor → Pairing

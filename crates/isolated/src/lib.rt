@@ -1,7 +1,7 @@
 // The roots of two quadratics, `isolated_root` of poly.rs, on all bits: their discriminants, and a real root that is far from the others; and `peel_root`, a quartic
 // divided by such a root. It rests on the leaves, `horner`, `refine`, `cubic` and `quartic`; `large`, `factorize` and `push` rest on it.
 ghost use mathlib.Core.Path.{_≡_};
-ghost use Rattle.isolated.specs.Isolated.{discOf, farBy, farRootOf, rootPairOf, distOf, leastOf, greatestOf, isBetterOf, judgedOf, bestRootOf, isolatedOf, isolatedRootOf, peelRootOf};
+ghost use Rattle.isolated.specs.Isolated.{discOf, farBy, farRootOf, rootPairOf, distOf, leastOf, greatestOf, isBetterOf, judgedOf, bestRootOf, loneOf, isolatedOf, isolatedRootOf, peelRootOf};
 
 // Two roots as (re, im).
 struct RootPair {
@@ -11,11 +11,10 @@ struct RootPair {
     im1: f64,
 }
 
-// The best root so far, if one was found: the squared distance of the nearest other, and the root.
-struct Best {
-    found: bool,
-    iso: f64,
-    r: f64,
+// The best root so far, the Rust's Option: the squared distance of the nearest other, and the root.
+enum Best {
+    Root(f64, f64),
+    NoRoot,
 }
 
 // The Rust's Option.
@@ -103,10 +102,14 @@ fn is_better(best: Best, iso: f64, spread: f64) -> bool
     ensures { λ r. ⌜ r ≡ isBetterOf best iso spread ⌝ }
 {
     if 16.0 * spread < iso {
-        if best.found {
-            return iso > best.iso;
+        match best {
+            Best::Root(far, _) => {
+                return iso > far;
+            }
+            Best::NoRoot => {
+                return true;
+            }
         }
-        return true;
     }
     false
 }
@@ -121,11 +124,7 @@ fn judge(best: Best, re: f64, im: f64, a: f64, b: f64, c: f64, ab: f64, ac: f64,
     let iso = least(a, b, c);
     let spread = greatest(ab, ac, bc);
     if is_better(best, iso, spread) {
-        return Best {
-            found: true,
-            iso,
-            r: re,
-        };
+        return Best::Root(iso, re);
     }
     best
 }
@@ -142,15 +141,19 @@ fn best_root(quads: quartic::QuarticFactor, first: Disc, second: Disc) -> Best
     let d12 = dist(z.re1, z.im1, y.re0, y.im0);
     let d13 = dist(z.re1, z.im1, y.re1, y.im1);
     let d23 = dist(y.re0, y.im0, y.re1, y.im1);
-    let none = Best {
-        found: false,
-        iso: 0.0,
-        r: 0.0,
-    };
-    let b0 = judge(none, z.re0, z.im0, d01, d02, d03, d12, d13, d23);
+    let b0 = judge(Best::NoRoot, z.re0, z.im0, d01, d02, d03, d12, d13, d23);
     let b1 = judge(b0, z.re1, z.im1, d01, d12, d13, d02, d03, d23);
     let b2 = judge(b1, y.re0, y.im0, d02, d12, d23, d01, d03, d13);
     judge(b2, y.re1, y.im1, d03, d13, d23, d01, d02, d12)
+}
+
+fn lone(best: Best) -> LoneRoot
+    ensures { λ r. ⌜ r ≡ loneOf best ⌝ }
+{
+    match best {
+        Best::Root(_, r) => LoneRoot::At(r),
+        Best::NoRoot => LoneRoot::None,
+    }
 }
 
 // Of two quadratics: an isolated root, if there is one, and their discriminants.
@@ -165,19 +168,8 @@ pub fn isolated(quads: quartic::QuarticFactor) -> Pairing
 {
     let first = disc_of(quads.al, quads.be);
     let second = disc_of(quads.ga, quads.de);
-    let best = best_root(quads, first, second);
-    if best.found {
-        return Pairing {
-            far: LoneRoot::At(best.r),
-            first,
-            second,
-        };
-    }
-    Pairing {
-        far: LoneRoot::None,
-        first,
-        second,
-    }
+    let far = lone(best_root(quads, first, second));
+    Pairing { far, first, second }
 }
 
 pub fn isolated_root(quads: quartic::QuarticFactor) -> LoneRoot

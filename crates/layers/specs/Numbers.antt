@@ -17,6 +17,8 @@ use Rattle.isolated.specs.declared.LoneRoot.the-variants.{At, None}
 use Rattle.isolated.specs.declared.Peeled.{Peeled}
 use Rattle.scaled.specs.declared.Scaled.{Scaled}
 use Rattle.split.specs.declared.Split.{Split}
+use Rattle.split.specs.declared.Split.the-variants.{Gap}
+use Rattle.split.specs.declared.Split.the-variants as split
 use Rattle.factors.specs.declared.Factors.{Factors}
 use Rattle.factors.specs.Factors.{linAt, quadAt}
 use Rattle.lent.specs.Bytes.{f64sAt}
@@ -71,9 +73,10 @@ peeledNumbers x = x .r ∷ x .h2 ∷ x .h1 ∷ x .h0 ∷ []
 unfoldable pub scaledNumbers : Scaled → List Float
 scaledNumbers s = five (s .f) ++ (five (s .g) ++ (five (s .lg) ++ (number (s .d) ∷ ofInt binary64 (s .e) ∷ s .unit ∷ [])))
 
--- found, as 1 or 0, small, threshold
+-- 1, small and threshold, or zeros where there is no gap
 unfoldable pub splitNumbers : Split → List Float
-splitNumbers s = flagOf (s .found) ∷ number (s .small) ∷ s .threshold ∷ []
+splitNumbers (Gap small threshold) = one64 ∷ number small ∷ threshold ∷ []
+splitNumbers split.None = zero64 ∷ zero64 ∷ zero64 ∷ []
 
 -- nlin, lin, nquad, al and be of both quad
 unfoldable pub factorNumbers : Factors → List Float

@@ -4,13 +4,12 @@ ghost use mathlib.Core.Path.{_≡_};
 ghost use mathlib.Core.List.{[]};
 ghost use Prim.Native.Nat.{_≤_};
 ghost use Rattle.scaled.specs.Scaled.{scaledOf};
-ghost use Rattle.split.specs.Gap.{magnitudeSplitOf};
+ghost use Rattle.split.specs.Gap.{Inside, magnitudeSplitOf};
 ghost use Rattle.factors.specs.Factors.{Sized};
 ghost use Rattle.factorize.specs.Factorize.{factorizeOf};
 ghost use Rattle.lent.specs.Bytes.{fiveAt, lacksFive, unless, Stored};
 ghost use Rattle.layers.specs.Numbers.{scaledNumbers, splitNumbers, factorNumbers};
 use lent::five_at;
-use lent::flag;
 use lent::lacks_five;
 use lent::store;
 
@@ -56,14 +55,16 @@ pub extern "C" fn scaled_new(a: &[u8], d: u64, out: &mut [u8]) -> u64
 }
 
 fn split_numbers(s: split::Split) -> [f64; 3]
-    requires { ⌜ s .small ≤ 4 ⌝ }
+    requires { ⌜ Inside 4 s ⌝ }
     ensures { λ r. ⌜ r ≡ splitNumbers s ⌝ }
 {
-    let found = flag(s.found);
-    [found, s.small as f64, s.threshold]
+    match s {
+        split::Split::Gap(small, threshold) => [1.0, small as f64, threshold],
+        split::Split::None => [0.0, 0.0, 0.0],
+    }
 }
 
-// found, small and threshold for the logarithms lg and the degree d.
+// 1, small and threshold for the logarithms lg and the degree d, or three zeros where there is no gap.
 #[no_mangle]
 pub extern "C" fn magnitude_split(lg: &[u8], d: u64, out: &mut [u8]) -> u64
     ensures { λ r. ⌜ Stored (unless [] (lacksFive (now (lg .entry)) d) (splitNumbers (magnitudeSplitOf (fiveAt (now (lg .entry))) d))) (now (out .entry)) r (now (out .exit)) ⌝ }

@@ -1,32 +1,34 @@
 -- The topmost gap: magnitude_split of poly.rs, in the reference build. Definitions only.
-use mathlib.Core.Bool.{true, false, cond}
+use mathlib.Core.Bool.{cond}
 use mathlib.Core.List.{List}
-use Prim.Native.Nat.{ℕ, zero, suc, _+_, _-_}
+use Prim.Native.Nat.{ℕ, zero, suc, _+_, _-_, _<_}
 use lib.ListN.{getD}
 use lib.Ieee.{Float, binary64, add, sub, mul, lt, minus}
-use Rattle.float.specs.Literals.{zero64, half64, one64, eight64}
+use Rattle.float.specs.Literals.{half64, one64, eight64}
 use Rattle.float.specs.Floor.{floorOf}
 use Rattle.scale.specs.Scale.{ldexpOf}
 use Rattle.split.specs.Hull.{magOf, hullOf}
 use Rattle.split.specs.declared.Split.{Split}
+use Rattle.split.specs.declared.Split.the-variants.{Gap, None}
 
 -- '`exp2` of the gap's middle: `ldexp(1.0, k)`, k the middle rounded down.' (floorOf is that k, and 8192.)
 unfoldable pub exp2Of : Float → Float
 exp2Of x = ldexpOf one64 (minus (floorOf x) 8192)
 
--- None
-abbrev pub noSplit : Split
-noSplit = record { found = false; small = 0; threshold = zero64 }
+-- some of d roots lie below the gap, and not all
+abbrev pub Inside : ℕ → Split → Type 0
+Inside d (Gap small threshold) = (0 < small) × (small < d)
+Inside d None = Unit {0}
 
 -- `(0..n).rev().find_map(..)`: the first k from n - 1 down with mag(k + 1) - mag(k) > SPLIT_BITS, which is 8
 unfoldable pub splitFrom : List Float → List ℕ → ℕ → Split
-splitFrom lg at zero = noSplit
+splitFrom lg at zero = None
 splitFrom lg at (suc k) =
     let lo = magOf lg at k in
     let hi = magOf lg at (k + 1) in
     let rest = splitFrom lg at k in
-    cond (lt eight64 (sub binary64 hi lo)) (record { found = true; small = getD at (k + 1) 0; threshold = exp2Of (mul binary64 half64 (add binary64 lo hi)) }) rest
+    cond (lt eight64 (sub binary64 hi lo)) (Gap (getD at (k + 1) 0) (exp2Of (mul binary64 half64 (add binary64 lo hi)))) rest
 
--- magnitude_split: `small` is in its words 'the number of roots below' the gap, `threshold` the 'geometric middle of the gap'
+-- magnitude_split: in its words 'the number of roots below' the gap, and the 'geometric middle of the gap'
 unfoldable pub magnitudeSplitOf : List Float → ℕ → Split
 magnitudeSplitOf lg d = let s = hullOf lg d in splitFrom lg (s .at) (s .h - 2)

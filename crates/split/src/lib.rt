@@ -12,11 +12,10 @@ pub struct Hull {
     pub h: usize,
 }
 
-// Where `found` is set, `small` counts the roots below the gap, and `threshold` is about its middle, as the hull has them.
-pub struct Split {
-    pub found: bool,
-    pub small: usize,
-    pub threshold: f64,
+// The Rust's Option: in its words the number of roots below the gap, and the geometric middle of the gap.
+pub enum Split {
+    Gap(usize, f64),
+    None,
 }
 
 // b - a, from a table: a `match` on constants is compiled to read-only data.
@@ -106,16 +105,8 @@ pub fn magnitude_split(lg: [f64; 5], d: usize) -> Split
         let lo = mag(&lg, &at, k - 2);
         let hi = mag(&lg, &at, k - 1);
         if hi - lo > 8.0 {
-            return Split {
-                found: true,
-                small: at[k - 1],
-                threshold: exp2(0.5 * (lo + hi)),
-            };
+            return Split::Gap(at[k - 1], exp2(0.5 * (lo + hi)));
         }
     }
-    Split {
-        found: false,
-        small: 0,
-        threshold: 0.0,
-    }
+    Split::None
 }

@@ -84,98 +84,127 @@ module _ (t : ℕ) where
       let at-if2 = at-magnitude-split .before .before in
       let at-if1 = at-if2 .before in
       let at-out-of = at-if1 .before in
-      handed-on _ (at-out-of .out-of .ensures) (without-gap _ _ _ (the-factors (at-out-of .out-of .ensures)) (at-if1 .if1 .left) (at-if2 .if2 .left) _ (at-magnitude-split .magnitude-split .ensures) (not-true _ (c .if3 .taken)))
+      let factors = the-factors (at-out-of .out-of .ensures) in
+      let split = at-magnitude-split .magnitude-split .ensures in
+      handed-on _ (at-out-of .out-of .ensures) (without-gap _ _ _ factors (at-if1 .if1 .left) (at-if2 .if2 .left) _ split (c .enum-told .given .1))
 
   sub-large : lts.Need-sub-large called given reads.Post
   sub-large c =
-      let at-magnitude-split = c .before .before in
+      let at-gap = c .before in
+      let at-magnitude-split = at-gap .before .before in
       let at-pre = at-magnitude-split .before .before .before .before .before .before in
-      gap-inside _ _ _ (at-magnitude-split .magnitude-split .ensures) (at-pre .pre .1)
+      omega (arith, gap-inside _ _ _ _ _ (at-magnitude-split .magnitude-split .ensures) (at-gap .gap .given .1) (at-pre .pre .1))
 
   large-requires : lts.Need-large-requires called given reads.Post
   large-requires c κs =
-      let at-out-of = c .before .before .before .before .before .before in
+      let at-magnitude-split = c .before .before .before in
+      let at-out-of = at-magnitude-split .before .before .before .before in
       let at-pre = at-out-of .before .before in
       out-fits _ _ _ (the-factors (at-out-of .out-of .ensures)) (at-pre .pre .1)
 
   degree-requires : lts.Need-degree-requires called given reads.Post
   degree-requires c κs = sized _ _ _ _ (c .large .ensures)
 
-  sub-if4 : lts.Need-sub-if4 called given reads.Post
-  sub-if4 c =
-      let at-magnitude-split = c .before .before .before .before in
+  sub-if3 : lts.Need-sub-if3 called given reads.Post
+  sub-if3 c =
+      let at-gap = c .before .before .before in
+      let at-magnitude-split = at-gap .before .before in
       let at-pre = at-magnitude-split .before .before .before .before .before .before in
-      gap-inside _ _ _ (at-magnitude-split .magnitude-split .ensures) (at-pre .pre .1)
+      omega (arith, gap-inside _ _ _ _ _ (at-magnitude-split .magnitude-split .ensures) (at-gap .gap .given .1) (at-pre .pre .1))
 
   returns-4 : lts.Need-returns-4 called given reads.Post
   returns-4 c =
       let at-degree = c .before in
       let at-large = at-degree .before in
-      let at-if3 = at-large .before in
-      let at-magnitude-split = at-if3 .before .before in
+      let at-gap = at-large .before .before in
+      let at-magnitude-split = at-gap .before .before in
       let at-if2 = at-magnitude-split .before .before in
       let at-if1 = at-if2 .before in
       let at-out-of = at-if1 .before in
-      handed-on _ (at-out-of .out-of .ensures) (other-degree _ _ _ (the-factors (at-out-of .out-of .ensures)) (at-if1 .if1 .left) (at-if2 .if2 .left) _ (at-magnitude-split .magnitude-split .ensures) (not-false _ (at-if3 .if3 .left)) _ (at-large .large .ensures) _ (at-degree .degree .ensures) (c .if4 .taken))
+      let factors = the-factors (at-out-of .out-of .ensures) in
+      let split = at-magnitude-split .magnitude-split .ensures in
+      handed-on _ (at-out-of .out-of .ensures)
+      (other-degree _ _ _ factors (at-if1 .if1 .left) (at-if2 .if2 .left) _ split _ _ (at-gap .gap .given .1) _ (at-large .large .ensures) _
+      (at-degree .degree .ensures) (c .if3 .taken))
 
   product-requires : lts.Need-product-requires called given reads.Post
   product-requires c κs =
       let at-degree = c .before in
-      let at-pre = at-degree .before .before .before .before .before .before .before .before .before .before in
-      omega (arith, at-pre .pre .1, at-degree .degree .ensures, c .if4 .left)
+      let at-magnitude-split = at-degree .before .before .before .before .before in
+      let at-pre = at-magnitude-split .before .before .before .before .before .before in
+      omega (arith, at-pre .pre .1, at-degree .degree .ensures, c .if3 .left)
 
   quotient-requires : lts.Need-quotient-requires called given reads.Post
   quotient-requires c κs =
-      let at-magnitude-split = c .before .before .before .before .before .before in
+      let at-gap = c .before .before .before .before .before in
+      let at-magnitude-split = at-gap .before .before in
       let at-pre = at-magnitude-split .before .before .before .before .before .before in
-      omega (arith, gap-inside _ _ _ (at-magnitude-split .magnitude-split .ensures) (at-pre .pre .1), at-pre .pre .1)
+      omega (arith, gap-inside _ _ _ _ _ (at-magnitude-split .magnitude-split .ensures) (at-gap .gap .given .1) (at-pre .pre .1), at-pre .pre .1)
 
   usable-requires : lts.Need-usable-requires called given reads.Post
   usable-requires c κs =
-      let at-magnitude-split = c .before .before .before .before .before .before .before in
+      let at-gap = c .before .before .before .before .before .before in
+      let at-magnitude-split = at-gap .before .before in
       let at-pre = at-magnitude-split .before .before .before .before .before .before in
-      omega (arith, gap-inside _ _ _ (at-magnitude-split .magnitude-split .ensures) (at-pre .pre .1), at-pre .pre .1)
+      omega (arith, gap-inside _ _ _ _ _ (at-magnitude-split .magnitude-split .ensures) (at-gap .gap .given .1) (at-pre .pre .1), at-pre .pre .1)
 
   returns-5 : lts.Need-returns-5 called given reads.Post
   returns-5 c =
       let at-usable = c .before in
       let at-quotient = at-usable .before in
       let at-product = at-quotient .before in
-      let at-if4 = at-product .before in
-      let at-degree = at-if4 .before in
+      let at-if3 = at-product .before in
+      let at-degree = at-if3 .before in
       let at-large = at-degree .before in
-      let at-if3 = at-large .before in
-      let at-magnitude-split = at-if3 .before .before in
+      let at-gap = at-large .before .before in
+      let at-magnitude-split = at-gap .before .before in
       let at-if2 = at-magnitude-split .before .before in
       let at-if1 = at-if2 .before in
       let at-out-of = at-if1 .before in
-      handed-on _ (at-out-of .out-of .ensures) (unusable _ _ _ (the-factors (at-out-of .out-of .ensures)) (at-if1 .if1 .left) (at-if2 .if2 .left) _ (at-magnitude-split .magnitude-split .ensures) (not-false _ (at-if3 .if3 .left)) _ (at-large .large .ensures) _ (at-degree .degree .ensures) (at-if4 .if4 .left) _ (at-product .product .ensures) _ (at-quotient .quotient .ensures) _ (at-usable .usable .ensures) (not-true _ (c .if5 .taken)))
+      let factors = the-factors (at-out-of .out-of .ensures) in
+      let split = at-magnitude-split .magnitude-split .ensures in
+      handed-on _ (at-out-of .out-of .ensures)
+      (unusable _ _ _ factors (at-if1 .if1 .left) (at-if2 .if2 .left) _ split _ _ (at-gap .gap .given .1) _ (at-large .large .ensures) _
+      (at-degree .degree .ensures) (at-if3 .if3 .left) _ (at-product .product .ensures) _ (at-quotient .quotient .ensures) _ (at-usable .usable .ensures)
+      (not-true _ (c .if4 .taken)))
 
   new-requires : lts.Need-new-requires called given reads.Post
   new-requires c κs =
-      let at-magnitude-split = c .before .before .before .before .before .before .before .before .before in
+      let at-large = c .before .before .before .before .before .before in
+      let at-gap = at-large .before .before in
+      let at-magnitude-split = at-gap .before .before in
       let at-pre = at-magnitude-split .before .before .before .before .before .before in
-      omega (arith, gap-inside _ _ _ (at-magnitude-split .magnitude-split .ensures) (at-pre .pre .1), at-pre .pre .1)
+      omega (arith, gap-inside _ _ _ _ _ (at-magnitude-split .magnitude-split .ensures) (at-gap .gap .given .1) (at-pre .pre .1), at-pre .pre .1)
 
   add-factorize-rooted : lts.Need-add-factorize-rooted called given reads.Post
   add-factorize-rooted c =
-      let at-if1 = c .before .before .before .before .before .before .before .before .before .before .before .before .before .before in
+      let at-large = c .before .before .before .before .before .before .before .before in
+      let at-magnitude-split = at-large .before .before .before .before in
+      let at-if1 = at-magnitude-split .before .before .before in
       record { fits = omega (arith, at-if1 .if1 .left) }
 
   factorize-rooted-requires : lts.Need-factorize-rooted-requires called given reads.Post
   factorize-rooted-requires c κs =
       let at-new = c .before in
-      let at-magnitude-split = at-new .before .before .before .before .before .before .before .before .before .before in
+      let at-large = at-new .before .before .before .before .before .before .before in
+      let at-gap = at-large .before .before in
+      let at-magnitude-split = at-gap .before .before in
       let at-if1 = at-magnitude-split .before .before .before in
       let at-pre = at-if1 .before .before .before in
-      (omega (arith, at-pre .pre .0, at-if1 .if1 .left), sub-degree _ _ _ (at-new .new .ensures) (omega (arith, gap-inside _ _ _ (at-magnitude-split .magnitude-split .ensures) (at-pre .pre .1), at-pre .pre .1)))
+      let small = gap-inside _ _ _ _ _ (at-magnitude-split .magnitude-split .ensures) (at-gap .gap .given .1) (at-pre .pre .1) in
+      (omega (arith, at-pre .pre .0, at-if1 .if1 .left), sub-degree _ _ _ (at-new .new .ensures) (omega (arith, small, at-pre .pre .1)))
 
   merged-requires : lts.Need-merged-requires called given reads.Post
   merged-requires c κs =
       let at-new = c .before .before in
-      let at-magnitude-split = at-new .before .before .before .before .before .before .before .before .before .before in
+      let at-large = at-new .before .before .before .before .before .before .before in
+      let at-gap = at-large .before .before in
+      let at-magnitude-split = at-gap .before .before in
       let at-pre = at-magnitude-split .before .before .before .before .before .before in
-      (inner-sized _ _ _ (the-factors (c .factorize-rooted .ensures)) (sub-degree _ _ _ (at-new .new .ensures) (omega (arith, gap-inside _ _ _ (at-magnitude-split .magnitude-split .ensures) (at-pre .pre .1), at-pre .pre .1))), sub-exponent _ _ _ (at-new .new .ensures))
+      let small = gap-inside _ _ _ _ _ (at-magnitude-split .magnitude-split .ensures) (at-gap .gap .given .1) (at-pre .pre .1) in (
+        inner-sized _ _ _ (the-factors (c .factorize-rooted .ensures)) (sub-degree _ _ _ (at-new .new .ensures) (omega (arith, small, at-pre .pre .1))),
+        sub-exponent _ _ _ (at-new .new .ensures),
+      )
 
   with-discs-requires : lts.Need-with-discs-requires called given reads.Post
   with-discs-requires c κs = search needs
@@ -185,19 +214,25 @@ module _ (t : ℕ) where
       let at-merged = c .before in
       let at-factorize = at-merged .before in
       let at-new = at-factorize .before .before in
-      let at-if5 = at-new .before in
-      let at-usable = at-if5 .before in
+      let at-if4 = at-new .before in
+      let at-usable = at-if4 .before in
       let at-quotient = at-usable .before in
       let at-product = at-quotient .before in
-      let at-if4 = at-product .before in
-      let at-degree = at-if4 .before in
+      let at-if3 = at-product .before in
+      let at-degree = at-if3 .before in
       let at-large = at-degree .before in
-      let at-if3 = at-large .before in
-      let at-magnitude-split = at-if3 .before .before in
+      let at-gap = at-large .before .before in
+      let at-magnitude-split = at-gap .before .before in
       let at-if2 = at-magnitude-split .before .before in
       let at-if1 = at-if2 .before in
       let at-out-of = at-if1 .before in
-      c .with-discs .ensures ∙ ap rootedOf (split-up _ _ _ (the-factors (at-out-of .out-of .ensures)) (at-if1 .if1 .left) (at-if2 .if2 .left) _ (at-magnitude-split .magnitude-split .ensures) (not-false _ (at-if3 .if3 .left)) _ (at-large .large .ensures) _ (at-degree .degree .ensures) (at-if4 .if4 .left) _ (at-product .product .ensures) _ (at-quotient .quotient .ensures) _ (at-usable .usable .ensures) _ _ _ _ (not-false _ (at-if5 .if5 .left)) (at-new .new .ensures) (the-factors (at-factorize .factorize-rooted .ensures)) (exponent-read _ _ _ (at-new .new .ensures)) (at-merged .merged .ensures))
+      let factors = the-factors (at-out-of .out-of .ensures) in
+      let split = at-magnitude-split .magnitude-split .ensures in
+      c .with-discs .ensures ∙ ap rootedOf
+      (split-up _ _ _ factors (at-if1 .if1 .left) (at-if2 .if2 .left) _ split _ _ (at-gap .gap .given .1) _ (at-large .large .ensures) _
+      (at-degree .degree .ensures) (at-if3 .if3 .left) _ (at-product .product .ensures) _ (at-quotient .quotient .ensures) _ (at-usable .usable .ensures) _ _ _ _
+      (not-false _ (at-if4 .if4 .left)) (at-new .new .ensures) (the-factors (at-factorize .factorize-rooted .ensures))
+      (exponent-read _ _ _ (at-new .new .ensures)) (at-merged .merged .ensures))
 
 pub +factorize-rooted-spec : {M : Type 1} → statement M
 +factorize-rooted-spec =
@@ -209,11 +244,13 @@ pub +factorize-rooted-spec : {M : Type 1} → statement M
     (returns t)
     (returns-2 t)
     (magnitude-split-requires t)
+    (λ c. search needs)
+    (λ c. search needs)
     (returns-3 t)
     (sub-large t)
     (large-requires t)
     (degree-requires t)
-    (sub-if4 t)
+    (sub-if3 t)
     (returns-4 t)
     (product-requires t)
     (quotient-requires t)

@@ -2,10 +2,8 @@
 -- Assumes nothing.
 use Rattle.layers.specs.Numbers.{splitNumbers}
 use mathlib.Core.Path.{subst⁻¹, ap, _∙_}
-use Prim.Native.Nat.{_≤_}
-use native.Mathlib.Nat.{le-trans}
-use Rattle.split.specs.declared.Split.{Split}
-use Rattle.split.proofs.Gaps.{split-inside}
+use Rattle.split.specs.Gap.{Inside, magnitudeSplitOf}
+use Rattle.split.proofs.Gaps.{split-inside, inside-up}
 use Rattle.lent.proofs.Five.{accepted}
 use Rattle.lent.proofs.Whole.{lacking, held}
 use borrow.Author.Needs.{needs}
@@ -25,7 +23,7 @@ split-numbers-requires : tie.Need-split-numbers-requires
 split-numbers-requires c κs =
     let tested = c .before .before .before in
     let l = accepted _ _ (tested .before .lacks-five .ensures) (tested .if1 .left) .1 in
-    subst⁻¹ (λ (s : Split). s .small ≤ 4) (c .before .magnitude-split .ensures) (le-trans (split-inside _ _ l .most) l)
+    subst⁻¹ (Inside 4) (c .before .magnitude-split .ensures) (inside-up _ 4 (magnitudeSplitOf _ _) (split-inside _ _ l) l)
 
 returns-2 : tie.Need-returns-2
 returns-2 c =
