@@ -1,11 +1,11 @@
--- ldexp downwards: each product is exact or below 2^-1021 and off by at most half a unit of 2^-1074, and so are two of them together by at most three quarters.
--- Assumes nothing.
+-- ldexp downwards: each product is exact, or at most 2^-1021 and off by at most half a unit of 2^-1074; so all of them are off by at most three quarters.
 use mathlib.Core.Path.{_≡_, refl, sym, ap, ap₂, _∙_, subst}
 use mathlib.Core.Logic.{_⊎_, inl, inr, ⊎-elim}
 use mathlib.Core.Bool.{Bool, true, false}
 use Prim.Native.Nat.{ℕ, zero, suc, _+_, _-_, _*_, _^_, _≤_, _<_}
 use native.Mathlib.Omega.{arith}
-use native.Mathlib.Nat.{le-trans, le-of-eq, lt-of-lt-of-le, lt-of-le-of-lt, mul-assoc, mul-comm, mul-one, one-mul, mul-pos, mul-le-mul-left, mul-le-mul-right, mul-lt-mul-of-pos-right, le-of-mul-le-mul-right, sub-add-cancel}
+use native.Mathlib.Nat.{le-trans, le-of-eq, lt-of-le-of-lt, mul-assoc, mul-comm, mul-one, one-mul, mul-pos, sub-add-cancel}
+use native.Mathlib.Nat.{mul-le-mul-left, mul-le-mul-right, mul-lt-mul-of-pos-right, le-of-mul-le-mul-right}
 use lib.Dec.{lit<, lit≤}
 use lib.Pow.{pow-add, pow-pos, pow-mono}
 use lib.IntN.{ℤ, pos, negsuc}
@@ -65,7 +65,8 @@ exact-or-half n b r h R = elim (R .least) [
       let U = 2 ^ (b + R .k) in
       let u : 2 ^ b * 2 ^ R .k ≡ U = sym (pow-add 2 b (R .k)) in
       let w = whole-digits n (b + R .k) h (le-trans (le-of-eq (ap (λ (x : ℕ). 2 ^ 52 * x) (sym u))) o) in
-      let t : r * 2 ^ b ≡ R .q * U = ap (λ (x : ℕ). x * 2 ^ b) (R .is) ∙ mul-assoc (R .q) (2 ^ R .k) (2 ^ b) ∙ ap (λ (x : ℕ). R .q * x) (mul-comm (2 ^ R .k) (2 ^ b) ∙ u) in
+      let t : r * 2 ^ b ≡ R .q * U =
+      ap (λ (x : ℕ). x * 2 ^ b) (R .is) ∙ mul-assoc (R .q) (2 ^ R .k) (2 ^ b) ∙ ap (λ (x : ℕ). R .q * x) (mul-comm (2 ^ R .k) (2 ^ b) ∙ u) in
       let same = same-multiple (R .q) (w .0) U (pow-pos (b + R .k)) (rw (t, u, w .1) at (R .lo)) (rw (t, u, w .1) at (R .hi)) in
       inl (t ∙ ap (λ (x : ℕ). x * U) same ∙ sym (w .1))
 ]
@@ -99,7 +100,9 @@ module _ (s : Bool) (n b : ℕ) (h : Held n) where
   cut-so = exact-or-half n b cut h cut-rounded
 
   cut-under : cut < 2 ^ 2098
-  cut-under = ⊎-elim (λ e. lt-of-le-of-lt (le-trans (le-trans (le-of-eq (sym (mul-one cut))) (mul-le-mul-left cut (pow-pos b))) (le-of-eq e)) (h .reach)) (λ l. lt-of-le-of-lt (l .0) (lit< tt)) cut-so
+  cut-under =
+      ⊎-elim (λ e. lt-of-le-of-lt (le-trans (le-trans (le-of-eq (sym (mul-one cut))) (mul-le-mul-left cut (pow-pos b))) (le-of-eq e)) (h .reach))
+      (λ l. lt-of-le-of-lt (l .0) (lit< tt)) cut-so
 
   abbrev product : Float
   product = mul binary64 (doubleOf s n) (pow2Of (signed true b))
@@ -186,7 +189,8 @@ step-kept n i r t h (inr o) R = elim (R .least) [
 -- the last, of 1 to 1000
 last-off : (n i r b t : ℕ) → 0 < b → Held r → Kept n (2 ^ i) r → Rounded r (2 ^ b) t → Off 3 n (2 ^ i * 2 ^ b) t
 last-off n i r b t p h (inl e) R =
-    ⊎-elim (λ x. off-none n (2 ^ i * 2 ^ b) t (exact-exact n (2 ^ i) r t (2 ^ b) e x)) (λ x. off-more n (2 ^ i * 2 ^ b) t (exact-half n (2 ^ i) r t (2 ^ b) e (x .1)))
+    ⊎-elim (λ x. off-none n (2 ^ i * 2 ^ b) t (exact-exact n (2 ^ i) r t (2 ^ b) e x))
+    (λ x. off-more n (2 ^ i * 2 ^ b) t (exact-half n (2 ^ i) r t (2 ^ b) e (x .1)))
     (exact-or-half r b t h R)
 last-off n i r b t p h (inr o) R =
     let two : 2 ≤ 2 ^ b = pow-mono {i = 1} p in
@@ -198,13 +202,17 @@ Lowered s m n I r = (t : ℕ) × (scaledOf true m (doubleOf s r) ≡ doubleOf s 
 lowered-from : (f m i n r : ℕ) (s : Bool) → m ≤ f → 0 < m → Held r → Kept n (2 ^ i) r → Lowered s m n (2 ^ i) r
 lowered-from zero m i n r s l p h g = absurd (omega (arith, l, p))
 lowered-from (suc f) m i n r s l p h g =
-    ⊎-elim last (λ d. more d (lowered-from f (m - 1000) (i + 1000) n (cut s r 1000 h) s (omega arith) (omega arith) (cut-held s r 1000 h) kept-so)) (less-or m 1001)
+    ⊎-elim last
+    (λ d. more d (lowered-from f (m - 1000) (i + 1000) n (cut s r 1000 h) s (omega arith) (omega arith) (cut-held s r 1000 h) kept-so))
+    (less-or m 1001)
   where
     kept-so : Kept n (2 ^ (i + 1000)) (cut s r 1000 h)
     kept-so = rw (pow-add 2 i 1000) (step-kept n i r (cut s r 1000 h) h g (cut-rounded s r 1000 h))
 
     last : m < 1001 → Lowered s m n (2 ^ i) r
-    last d = (cut s r m h, all-last true m (doubleOf s r) (omega arith) ∙ cut-is s r m h, cut-held s r m h, last-off n i r m (cut s r m h) p h g (cut-rounded s r m h))
+    last d =
+        let t = cut s r m h in
+        (t, all-last true m (doubleOf s r) (omega arith) ∙ cut-is s r m h, cut-held s r m h, last-off n i r m t p h g (cut-rounded s r m h))
 
     more : 1001 ≤ m → Lowered s (m - 1000) n (2 ^ (i + 1000)) (cut s r 1000 h) → Lowered s m n (2 ^ i) r
     more d rest = (
@@ -215,7 +223,9 @@ lowered-from (suc f) m i n r s l p h g =
     )
       where
         powers-add : (i m : ℕ) → 1001 ≤ m → 2 ^ (i + 1000) * 2 ^ (m - 1000) ≡ 2 ^ i * 2 ^ m
-        powers-add i m d = sym (pow-add 2 (i + 1000) (m - 1000)) ∙ ap (λ (j : ℕ). 2 ^ j) (let e : i + 1000 + (m - 1000) ≡ i + m = omega arith in e) ∙ pow-add 2 i m
+        powers-add i m d =
+            let e : i + 1000 + (m - 1000) ≡ i + m = omega arith in
+            sym (pow-add 2 (i + 1000) (m - 1000)) ∙ ap (λ (j : ℕ). 2 ^ j) e ∙ pow-add 2 i m
 
 pub lowered-is : (x : Float) (N : ℕ) → Finite x → (t : ℕ) × (ldexpOf x (negsuc N) ≡ doubleOf (isSignNegativeOf x) t) × Held t × Off 3 (unitsOf x) (2 ^ suc N) t
 unfolding ldexpOf

@@ -121,4 +121,5 @@ beyond s n h =
     let q = kept 53 (n * U) U in
     let k = drop 53 (n * U) U in
     round-is binary64 s n U
-    ∙ rw (le-ltb (q * 2 ^ k) (2 ^ 2098) (past-top n (q * 2 ^ k) h (same-fraction n 1 (pow-pos 1074) (lit< tt) (mul-one (n * U)) (rounded (n * U) U (pow-pos 1074)))))
+    ∙ rw (le-ltb (q * 2 ^ k) (2 ^ 2098)
+    (past-top n (q * 2 ^ k) h (same-fraction n 1 (pow-pos 1074) (lit< tt) (mul-one (n * U)) (rounded (n * U) U (pow-pos 1074)))))

@@ -1,4 +1,4 @@
--- The Rust's two loops are the one of the definitions: the inner loop goes on with the run or chain at hand, and the outer one where it ends. Assumes nothing.
+-- The Rust's two loops are the one of the definitions: the inner loop goes on with the run or chain at hand, and the outer one where it ends.
 use mathlib.Core.Path.{_≡_, refl, sym, ap, _∙_}
 use mathlib.Core.Bool.{Bool, true, false, cond, _&&_}
 use mathlib.Core.List.{List, [], _∷_, _++_}
@@ -157,7 +157,8 @@ module _ (poly : Scaled) (tol : Float) where
         go true t = through t
         go false t = refl
 
-    along-linked : (it .multiplicity ≡ 0 → ⊥) → (c .mult ≡ 0 → ⊥) → along c out (it ∷ l) ≡ (filtered poly (c .last) (it .value) (between (c .last) (it .value)) then afterLink)
+    along-linked : (it .multiplicity ≡ 0 → ⊥) → (c .mult ≡ 0 → ⊥)
+        → along c out (it ∷ l) ≡ (filtered poly (c .last) (it .value) (between (c .last) (it .value)) then afterLink)
     unfolding each itemTurn
     along-linked n m = rw (ne-eqb (it .multiplicity) 0 n, ne-eqb (c .mult) 0 m) (link-so (between (c .last) (it .value)))
 
@@ -228,7 +229,8 @@ module _ (poly : Scaled) (tol : Float) (v : List RealRoot) (inner : ℕ) where
       more y e = n (omega (arith, e))
 
       On : Type 0
-      On = (y : Float) → along poly tol (chainAt (k + 1) (grown c m y)) out (drop (k + 1 + 1) v) ≡ (linksFrom poly tol v turns (k + 1) (grown c m y) then after f out)
+      On = (y : Float)
+          → along poly tol (chainAt (k + 1) (grown c m y)) out (drop (k + 1 + 1) v) ≡ (linksFrom poly tol v turns (k + 1) (grown c m y) then after f out)
 
       go : (t w : Bool) → ltb (k + 1) (length v) ≡ t → ltb 0 m ≡ w → On
           → along poly tol (chainAt k c) out (drop (k + 1) v) ≡ (cond (t && w) (linkAfter poly tol v k then step) (done (k, c)) then after f out)
@@ -248,9 +250,11 @@ module _ (poly : Scaled) (tol : Float) (v : List RealRoot) (inner : ℕ) where
           each-way g s (some y) = on y
 
   nothing-left : (k : ℕ) (out : List RealRoot) → length v ≤ k → along poly tol noChain out (drop k v) ≡ done out
-  nothing-left k out g = ap (along poly tol noChain out) (drop-of-length-le v {i = k} g) ∙ along-end poly tol noChain out ∙ ap done (no-chain-emitted poly tol out)
+  nothing-left k out g =
+      ap (along poly tol noChain out) (drop-of-length-le v {i = k} g) ∙ along-end poly tol noChain out ∙ ap done (no-chain-emitted poly tol out)
 
-  chains-so : (f k : ℕ) (out : List RealRoot) → length v ≤ inner → length v ≤ k + f → along poly tol noChain out (drop k v) ≡ chainsFrom poly tol v inner f k out
+  chains-so : (f k : ℕ) (out : List RealRoot) → length v ≤ inner → length v ≤ k + f
+      → along poly tol noChain out (drop k v) ≡ chainsFrom poly tol v inner f k out
   unfolding chainsFrom
   chains-so zero k out i h = nothing-left k out (omega arith)
   chains-so (suc f) k out i h = go (ltb k (length v)) (eqb m 0) refl refl (λ j o l. chains-so f (j + 1) o i (omega arith))
@@ -268,7 +272,8 @@ module _ (poly : Scaled) (tol : Float) (v : List RealRoot) (inner : ℕ) where
       next e = drop-next v k blank (ltb-true k (length v) e)
 
       go : (t z : Bool) → ltb k (length v) ≡ t → eqb m 0 ≡ z → Chains f k
-          → along poly tol noChain out (drop k v) ≡ cond t (cond z (chainsFrom poly tol v inner f (k + 1) out) (linksFrom poly tol v inner k begun then after f out)) (done out)
+          → along poly tol noChain out (drop k v)
+          ≡ cond t (cond z (chainsFrom poly tol v inner f (k + 1) out) (linksFrom poly tol v inner k begun then after f out)) (done out)
       go false z e q H = nothing-left k out (ltb-false k (length v) e)
       go true true e q H =
           ap (along poly tol noChain out) (next e) ∙ along-separator poly tol noChain out it (drop (k + 1) v) (eqb-true m 0 q)
@@ -277,6 +282,7 @@ module _ (poly : Scaled) (tol : Float) (v : List RealRoot) (inner : ℕ) where
           ap (along poly tol noChain out) (next e) ∙ along-opened poly tol out it (drop (k + 1) v) (eqb-false m 0 q)
           ∙ links-so f inner k begun out (eqb-false m 0 q) (omega arith) H
 
-pub chains : (poly : Scaled) (tol : Float) (its : List RealRoot) (turns : ℕ) → length its ≤ turns → chainsFrom poly tol its turns turns 0 [] ≡ chained poly tol its
+pub chains : (poly : Scaled) (tol : Float) (its : List RealRoot) (turns : ℕ) → length its ≤ turns
+    → chainsFrom poly tol its turns turns 0 [] ≡ chained poly tol its
 unfolding chained
 chains poly tol its turns h = sym (chains-so poly tol its turns turns 0 [] h (omega arith))

@@ -1,4 +1,4 @@
--- What ldexp gives for every x and k: itself, an infinity, or x * 2^k but for at most three quarters of a unit. Assumes nothing.
+-- What ldexp gives for every x and k: itself, an infinity, or x * 2^k but for at most three quarters of a unit.
 use mathlib.Core.Path.{_≡_, refl, sym, ap, _∙_, subst}
 use mathlib.Core.Bool.{Bool, true, false}
 use Prim.Native.Nat.{ℕ, suc, _+_, _*_, _^_, _≤_, _<_}
@@ -29,7 +29,8 @@ others x (negsuc n) e = all-steady true (suc n) x (steady-special x e)
 pub infinite : (x : Float) (k : ℤ) → Finite x → 2 ^ 2098 * down k ≤ unitsOf x * up k → ldexpOf x k ≡ inf (isSignNegativeOf x)
 infinite x (pos n) f h = raised-is x n f ∙ beyond (isSignNegativeOf x) (unitsOf x * 2 ^ n) (le-trans (le-of-eq (sym (mul-one (2 ^ 2098)))) h)
 infinite x (negsuc n) f h =
-    absurd (not-le-of-lt (units-under x f) (le-trans (le-of-eq (sym (mul-one (2 ^ 2098)))) (le-trans (mul-le-mul-left (2 ^ 2098) (pow-pos (suc n))) (le-trans h (le-of-eq (mul-one (unitsOf x)))))))
+    let most : 2 ^ 2098 * 1 ≤ unitsOf x = le-trans (mul-le-mul-left (2 ^ 2098) (pow-pos (suc n))) (le-trans h (le-of-eq (mul-one (unitsOf x)))) in
+    absurd (not-le-of-lt (units-under x f) (le-trans (le-of-eq (sym (mul-one (2 ^ 2098)))) most))
 
 -- ---- the double of t units
 module _ (s : Bool) (t : ℕ) (h : Held t) where

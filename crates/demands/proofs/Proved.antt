@@ -32,7 +32,8 @@ use Rattle.inquiry.proofs.Fresh.{start-number}
 use Rattle.inquiry.proofs.Theorem.{start-fed, start-most, start-list}
 use Rattle.crank.proofs.Theorem.{cranks}
 use Rattle.demands.specs.Table.{table}
-use Rattle.demands.specs.Demands.{Demands, SquareRoot, CubeRoot, Third, Logarithm, ScaledCoefficients, FactorDegrees, TotalOrder, Sorts, Lists, SimpleRoots}
+use Rattle.demands.specs.Demands.{Demands, SquareRoot, CubeRoot, Third, Logarithm, ScaledCoefficients, FactorDegrees}
+use Rattle.demands.specs.Demands.{TotalOrder, Sorts, Lists, SimpleRoots}
 use Rattle.demands.proofs.Nearest.{signed, positive-units}
 use Rattle.demands.proofs.Doubles.{units-exact, only-one}
 use Rattle.demands.proofs.Roots.{square-nearest, cube-nearest, rest-nearest, scaled-most, scaled-least, sqrt-is, cbrt-is}
@@ -107,8 +108,12 @@ total-order = record {
 sorts : Sorts
 unfolding byValue fallingOf
 sorts = record {
-  places = λ c. sorted-whole (λ a b. totalLeOf (a .value) (b .value)) (λ a b. total.either (a .value) (b .value)) (λ a b c. total.onward (a .value) (b .value) (c .value)) c blank;
-  units = λ f. sorted-whole noSmaller (λ a b. total.either (b .m) (a .m)) (λ a b c h g. total.onward (c .m) (b .m) (a .m) g h) (factorUnitsOf f) (unitOf nan nan nan);
+  places = λ l.
+      sorted-whole (λ a b. totalLeOf (a .value) (b .value)) (λ a b. total.either (a .value) (b .value))
+      (λ a b c. total.onward (a .value) (b .value) (c .value)) l blank;
+  units = λ f.
+      sorted-whole noSmaller (λ a b. total.either (b .m) (a .m)) (λ a b c h g. total.onward (c .m) (b .m) (a .m) g h)
+      (factorUnitsOf f) (unitOf nan nan nan);
   falling = sorted-keys (λ a b. totalLeOf b a) (λ a b. total.either b a) (λ a b c h g. total.onward c b a g h);
 }
 

@@ -1,4 +1,4 @@
--- What a quadratic's number stands for, and what its answer is. Assumes nothing.
+-- What a quadratic's number stands for, and what its answer is.
 use mathlib.Core.Path.{_≡_, refl, sym, _∙_}
 use mathlib.Core.Logic.{inl, inr}
 use mathlib.Core.Bool.{Bool, true, false, cond, true≢false}

@@ -24,7 +24,8 @@ use Rattle.demands.proofs.Doubles.{doubleOf, Held, held, double-value, 
 cross : (a U n G Z D : ℕ) → a * U ≡ n * G → a * (1 * Z) * (U * D) ≡ n * Z * (G * D)
 cross a U n G Z D h = omega (arith, ap (λ (x : ℕ). x * (Z * D)) h)
 
-pub product-is : (x : Float) (s : Bool) (n : ℕ) (z : ℤ) → HasValue x s n (2 ^ 1074) → mul binary64 x (pow2Of z) ≡ round binary64 s (n * up z) (2 ^ 1074 * down z)
+pub product-is : (x : Float) (s : Bool) (n : ℕ) (z : ℤ) → HasValue x s n (2 ^ 1074)
+    → mul binary64 x (pow2Of z) ≡ round binary64 s (n * up z) (2 ^ 1074 * down z)
 unfolding mul
 product-is nan s n z h = absurd h
 product-is (inf t) s n z h = absurd h
@@ -41,7 +42,8 @@ product : (s : Bool) (n m : ℕ) (z : ℤ) → Held n → m * down z ≡ n * up 
 unfolding doubleOf
 product s n m z h e =
     product-is (doubleOf s n) s n z (double-value s n h)
-    ∙ round-same binary64 s (n * up z) (2 ^ 1074 * down z) m (2 ^ 1074) (mul-pos (pow-pos 1074) (down-pos z)) (pow-pos 1074) (moved (n * up z) (2 ^ 1074) m (down z) e)
+    ∙ round-same binary64 s (n * up z) (2 ^ 1074 * down z) m (2 ^ 1074) (mul-pos (pow-pos 1074) (down-pos z)) (pow-pos 1074)
+    (moved (n * up z) (2 ^ 1074) m (down z) e)
   where
     moved : (a U m D : ℕ) → m * D ≡ a → a * U ≡ m * (U * D)
     moved a U m D e = omega (arith, ap (λ (x : ℕ). x * U) e)

@@ -1,4 +1,4 @@
--- A stable sort by a total order: places are put in one after the other, each larger than those before it, and stand rightly at every turn. Assumes nothing.
+-- A stable sort by a total order: places are put in one after the other, each larger than those before it, and stand rightly at every turn.
 use mathlib.Core.Path.{_≡_, refl, sym, ap, ap₂, _∙_, subst}
 use mathlib.Core.Logic.{_⊎_, inl, inr, ⊎-elim}
 use mathlib.Core.Bool.{Bool, true, false, cond, true≢false, false≢true}
@@ -87,7 +87,9 @@ module _ {A : Type 0} (before : A → A → Bool) (either : (x y : A) → (befor
     right i j h t = right-at places (right-all n 0 [] tt tt) i j h (omega (arith, long))
 
     inside : (k : ℕ) → k < n → getD places k 0 < n
-    inside k h = all-at (λ j. j < n) places 0 k (λ out. absurd (omega (arith, out, long, h))) (all-sorted byKey (λ j. j < n) (numbersFrom 0 n) (all-numbers n 0 n (omega arith)))
+    inside k h =
+        all-at (λ j. j < n) places 0 k (λ out. absurd (omega (arith, out, long, h)))
+        (all-sorted byKey (λ j. j < n) (numbersFrom 0 n) (all-numbers n 0 n (omega arith)))
 
     pub sorted-by-places : (place : ℕ → ℕ) → ((k : ℕ) → k < n → place k ≡ getD places k 0) → Sorted before none place (take n l) (map read places)
     sorted-by-places place is =
@@ -96,8 +98,10 @@ module _ {A : Type 0} (before : A → A → Bool) (either : (x y : A) → (befor
         record {
           long = length-map places read ∙ long ∙ sym taken;
           from = λ k h.
-              let m : k < n = omega (arith, taken) in
-              (rw (is k m) (omega (arith, inside k m, taken)), item k m ∙ sym (getD-take n l (getD places k 0) none (inside k m)) ∙ ap (λ (i : ℕ). getD (take n l) i none) (sym (is k m)));
+              let m : k < n = omega (arith, taken) in (
+                rw (is k m) (omega (arith, inside k m, taken)),
+                item k m ∙ sym (getD-take n l (getD places k 0) none (inside k m)) ∙ ap (λ (i : ℕ). getD (take n l) i none) (sym (is k m)),
+              );
           once = λ i j h t e.
               let m : j < n = omega (arith, taken) in
               let q : getD places i 0 ≡ getD places j 0 = sym (is i (omega arith)) ∙ e ∙ is j m in

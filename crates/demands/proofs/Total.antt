@@ -1,5 +1,4 @@
--- total_cmp with one NaN is a total order: minus infinity, the negative numbers, the others, infinity and NaN, and among numbers of one sign by their fractions.
--- Assumes nothing.
+-- total_cmp with one NaN is a total order: minus infinity, the negative numbers, the others, infinity and NaN; and numbers of one sign by their fractions.
 use mathlib.Core.Path.{_≡_, refl, sym, ap, _∙_}
 use mathlib.Core.Logic.{_⊎_, inl, inr, ⊎-elim}
 use mathlib.Core.Bool.{Bool, true, false, not, _&&_, _||_, and-false, or-true, false≢true}
@@ -109,7 +108,8 @@ either x y = rw (ordered-is x y, ordered-is y x) (either-ordered x y)
 fractions : (a b c d e f : ℕ) → 0 < d → a * d ≤ c * b → c * f ≤ e * d → a * f ≤ e * b
 fractions a b c d e f p h g = le-of-mul-le-mul-right {k = d} (omega (arith, mul-le-mul-right f h, mul-le-mul-right b g)) p
 
-onward-signed : (s t u : Bool) (a b c d e f : ℕ) → 0 < d → signed s t (a * d) (c * b) ≡ true → signed t u (c * f) (e * d) ≡ true → signed s u (a * f) (e * b) ≡ true
+onward-signed : (s t u : Bool) (a b c d e f : ℕ) → 0 < d → signed s t (a * d) (c * b) ≡ true
+    → signed t u (c * f) (e * d) ≡ true → signed s u (a * f) (e * b) ≡ true
 onward-signed false false false a b c d e f p h g = le-leb _ _ (fractions a b c d e f p (leb-true _ _ h) (leb-true _ _ g))
 onward-signed false false true a b c d e f p h g = g
 onward-signed false true u a b c d e f p h g = absurd (false≢true h)
@@ -157,7 +157,8 @@ level-signed true true a b h g = (refl, omega (arith, leb-true b a h, leb-true a
 
 same-units : (s t : Bool) (m n : ℕ) (e d : ℤ) → m * up e * down d ≡ n * up d * down e → unitsOf (fin s m e) ≡ unitsOf (fin t n d)
 same-units s t m n e d q =
-    div-same (m * up e * 2 ^ 1074) (down e) (n * up d * 2 ^ 1074) (down d) (down-pos e) (down-pos d) (moved (m * up e) (down d) (n * up d) (down e) (2 ^ 1074) q)
+    div-same (m * up e * 2 ^ 1074) (down e) (n * up d * 2 ^ 1074) (down d) (down-pos e) (down-pos d)
+    (moved (m * up e) (down d) (n * up d) (down e) (2 ^ 1074) q)
   where
     moved : (a d c b U : ℕ) → a * d ≡ c * b → a * U * d ≡ c * U * b
     moved a d c b U q = omega (arith, ap (λ (k : ℕ). k * U) q)

@@ -112,8 +112,8 @@ pub record Coefficients (a : List Float) (d : ℕ) : Type 0 where
 abbrev pub Bounds : List Float → ℕ → ℤ → Type 0
 Bounds a d e = (i : ℕ) → i < d → let z = e *ℤ pos (d - i) in unitsOf (getD a i nan) * down z ≤ unitsOf (getD a d nan) * up z
 
--- s is l sorted, where `before` says of two that the first goes before the second or is level with it. What stands at k in s stood at `place k` in l, and no place
--- is taken twice; what is in s rises; and of two that are level the earlier stays first. `none` is read outside a list.
+-- s is l sorted, where `before` says of two that the first goes before the second or is level with it. What stands at k in s stood at `place k` in l, and no
+-- place is taken twice; what is in s rises; and of two that are level the earlier stays first. `none` is what is read outside a list.
 pub record Sorted {A : Type 0} (before : A → A → Bool) (none : A) (place : ℕ → ℕ) (l s : List A) : Type 0 where
   pub long : length s ≡ length l
   pub from : (k : ℕ) → k < length l → (place k < length l) × (getD s k none ≡ getD l (place k) none)
@@ -165,8 +165,8 @@ pub record Exponent : Type 0 where
   pub exact : (x : Float) → Finite x → regularOf x ≡ true → Between (exponentOf x) (unitsOf x) (2 ^ 1074)
 
 -- Power-of-two scale, 'the Rust's chain of products with powers of two, each rounded once, so a result below 2^-1022 may be rounded twice'. For every x and k:
--- where x · 2^k is a double, `ldexp` gives it, and so from 2^-1022, which is 2^52 units, to below 2^1024, which is 2^2098; from there on an infinity; below, no more
--- than 3/4 of a unit off, 1/2 for the last rounding and half of 1/2 for one before it; and what is not finite stays.
+-- where x · 2^k is a double, `ldexp` gives it (`exact`), as it always is from 2^-1022 to below 2^1024, 2^52 to 2^2098 units (`normal`); from there on it gives
+-- an infinity; below it is at most 3/4 of a unit off (`near`), 1/2 by the last rounding and half of 1/2 by one before it; and what is not finite stays.
 pub record Scale : Type 0 where
   pub exact : (x : Float) (k : ℤ) (y : Float) → TimesPower x k y → ldexpOf x k ≡ y
   pub normal : (x : Float) (k : ℤ) → Finite x → 2 ^ 52 * down k ≤ unitsOf x * up k → unitsOf x * up k < 2 ^ 2098 * down k → TimesPower x k (ldexpOf x k)
@@ -193,8 +193,8 @@ pub record FactorDegrees : Type 0 where
 
 -- ---- 'sorts: ties stay in their earlier order'
 
--- The order is the Rust's `total_cmp`, all NaNs being one. Of two values one is not above the other, and what is not above the next is not above the one after it;
--- doubles that are not above each other are the same. A smaller number goes first, −0 before +0, and NaN last.
+-- The order is the Rust's `total_cmp`, all NaNs being one. Of two values one is not above the other; what is not above the next is not above the one after it;
+-- and doubles that are not above each other are the same. A smaller number goes first, −0 before +0, and NaN last.
 pub record TotalOrder : Type 0 where
   pub either : (x y : Float) → (totalLeOf x y ≡ true) ⊎ (totalLeOf y x ≡ true)
   pub onward : (x y z : Float) → totalLeOf x y ≡ true → totalLeOf y z ≡ true → totalLeOf x z ≡ true

@@ -1,6 +1,6 @@
--- The Rust's loops in loops, each written as the two that it has: over runs within the band in `finish`, and over chains in real_roots_touching. The definitions,
--- `joinedOf` and `chained`, have one loop over the places instead. A loop is allowed so many turns; `Loops` in Demands says that as many as there are places are
--- enough, and that both ways are the same. Definitions only.
+-- The Rust's loops in loops, each written as the two that it has: over runs within the band in `finish`, and over chains in real_roots_touching. The
+-- definitions, `joinedOf` and `chained`, have one loop over the places instead. A loop is allowed so many turns here; `Loops` in Demands says that as many as
+-- there are places are enough, and that both ways are the same. Definitions only.
 use mathlib.Core.Bool.{Bool, cond, _&&_}
 use mathlib.Core.List.{List, [], _∷_, _++_}
 use mathlib.Core.Option.{Option, none, some}
@@ -106,5 +106,7 @@ module _ (poly : Scaled) (tol : Float) (v : List RealRoot) where
       let mult = multiplicityAt v k in
       let begun : Linked = record { first = valueAt v k; mult = mult; touching = isDouble mult; at = valueAt v k } in
       cond (ltb k (length v))
-      (cond (eqb mult 0) (chainsFrom inner turns (k + 1) out) (linksFrom inner k begun then λ r. chainsFrom inner turns (r .0 + 1) (pushed poly v out (r .0) (r .1))))
+      (cond (eqb mult 0)
+      (chainsFrom inner turns (k + 1) out)
+      (linksFrom inner k begun then λ r. chainsFrom inner turns (r .0 + 1) (pushed poly v out (r .0) (r .1))))
       (done out)

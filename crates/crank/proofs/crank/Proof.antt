@@ -1,4 +1,4 @@
--- `crank` is its definition, by whether the start is refused, and demand 1 holds of that. Assumes nothing.
+-- `crank` is its definition, by whether the start is refused, and demand 1 holds of that.
 use mathlib.Core.Path.{_≡_, subst⁻¹}
 use lib.Ieee.{Float}
 use Rattle.roots.specs.Roots.{listOf}
