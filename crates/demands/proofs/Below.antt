@@ -1,14 +1,14 @@
 -- ldexp downwards: each product is exact, or at most 2^-1021 and off by at most half a unit of 2^-1074; so all of them are off by at most three quarters.
 use mathlib.Core.Path.{_≡_, refl, sym, ap, ap₂, _∙_, subst}
 use mathlib.Core.Logic.{_⊎_, inl, inr, ⊎-elim}
-use mathlib.Core.Bool.{Bool, true, false}
+use mathlib.Core.Bool.{Bool, true}
 use Prim.Native.Nat.{ℕ, zero, suc, _+_, _-_, _*_, _^_, _≤_, _<_}
 use native.Mathlib.Omega.{arith}
 use native.Mathlib.Nat.{le-trans, le-of-eq, lt-of-le-of-lt, mul-assoc, mul-comm, mul-one, one-mul, mul-pos, sub-add-cancel}
 use native.Mathlib.Nat.{mul-le-mul-left, mul-le-mul-right, mul-lt-mul-of-pos-right, le-of-mul-le-mul-right}
 use lib.Dec.{lit<, lit≤}
 use lib.Pow.{pow-add, pow-pos, pow-mono}
-use lib.IntN.{ℤ, pos, negsuc}
+use lib.IntN.{negsuc}
 use lib.Ieee.{Float, binary64, up, down, round, mul}
 use lib.Ieee.Bits.{is-true}
 use lib.Ieee.Exact.{HasValue, units-val}

@@ -63,7 +63,7 @@ pub record Nearest (s : Bool) (under over : ℕ → Type 0) (r : Float) : Type 0
   pub larger : (d : Float) → Finite d → unitsOf r < unitsOf d → over (unitsOf r + unitsOf d)
 
 -- The two sides of 4y³ ≤ 3y + v, as whole numbers. y is h / 2 units and |v| is n units, of 2^-1074. Counted in 2^-3223, which is 4·(2^-1075)³, 4y³ is h³, 3y is
--- 3h·2^2148 and |v| is 2n·2^2148. Where v is below 0, s is true, 3y + v is 3y − |v|, and the |v| is moved to the other side: 4y³ + |v| ≤ 3y.
+-- 3h·2^2148 and |v| is 2n·2^2148. Where v is below 0 (s is true), 3y + v is 3y − |v|, and |v| goes to the other side: 4y³ + |v| ≤ 3y.
 abbrev pub cubeSide : Bool → ℕ → ℕ → ℕ
 cubeSide s n h = h * h * h + cond s (2 * n * 2 ^ 2148) 0
 

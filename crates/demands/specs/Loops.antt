@@ -1,13 +1,13 @@
 -- The Rust's loops in loops, each written as the two that it has: over runs within the band in `finish`, and over chains in real_roots_touching. The
 -- definitions, `joinedOf` and `chained`, have one loop over the places instead. A loop is allowed so many turns here; `Loops` in Demands says that as many as
 -- there are places are enough, and that both ways are the same. Definitions only.
-use mathlib.Core.Bool.{Bool, cond, _&&_}
+use mathlib.Core.Bool.{cond, _&&_}
 use mathlib.Core.List.{List, [], _∷_, _++_}
 use mathlib.Core.Option.{Option, none, some}
 use Prim.Native.Nat.{ℕ, zero, suc, _+_}
 use lib.Dec.{ltb, eqb}
 use lib.IntN.{pos}
-use lib.ListN.{length, getD}
+use lib.ListN.{length}
 use lib.Ieee.{Float, binary64, add, sub, mul, div, ofInt, lt}
 use Rattle.float.specs.Literals.{half64}
 use Rattle.float.specs.Methods.{isFiniteOf}
