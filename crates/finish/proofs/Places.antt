@@ -143,10 +143,14 @@ module _ (poly : Scaled) (o : Roots) where
     unfolding polishedIn
     polished-past h = rw (le-ltb k (o .len) h)
 
-    pub polished-here : {p : RealRoot} (below above : Float) → k < o .len → below ≡ belowOf (listOf o) k → above ≡ aboveOf (listOf o) k
-        → p ≡ polishedAt 4 poly (placeOf (getD (o .root) k blank) (minOf below above)) → p ≡ polishedIn poly o k
+    pub polished-here : {p : RealRoot} (gap : Float) → k < o .len → gap ≡ minOf (belowOf (listOf o) k) (aboveOf (listOf o) k)
+        → p ≡ polishedAt 4 poly (placeOf (getD (o .root) k blank) gap) → p ≡ polishedIn poly o k
     unfolding polishedIn orderedAt polishedAt
-    polished-here below above h b a e = e ∙ rw (lt-ltb k (o .len) h, getD-take (o .len) (o .root) k blank h, b, a)
+    polished-here gap h g e = e ∙ rw (lt-ltb k (o .len) h, getD-take (o .len) (o .root) k blank h, g)
+
+  pub none-polished : o .len ≡ 0 → listOf o ≡ polishedOf 4 poly (fromFn (o .len) (orderedAt (listOf o)))
+  unfolding polishedOf
+  none-polished e = rw e
 
   pub all-polished : o .len ≤ 4 → take (o .len) (fromFn 4 (polishedIn poly o)) ≡ polishedOf 4 poly (fromFn (o .len) (orderedAt (listOf o)))
   unfolding polishedIn polishedOf

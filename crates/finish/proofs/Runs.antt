@@ -5,8 +5,6 @@ use mathlib.Core.List.{List, [], _∷_}
 use Prim.Native.Nat.{ℕ, _+_, _^_, _≤_, _<_}
 use native.Mathlib.Nat.{le-refl}
 use native.Mathlib.Omega.{arith}
-use borrow.Author.Tests.{ltb-true, ltb-false}
-use lib.Dec.{ltb}
 use lib.ListN.{getD, take, drop}
 use lib.Ieee.{Float}
 use Rattle.scaled.specs.declared.Scaled.{Scaled}
@@ -16,7 +14,7 @@ use Rattle.roots.specs.declared.RealRoot.{RealRoot}
 use Rattle.roots.specs.declared.Roots.{Roots}
 use Rattle.roots.proofs.Laws.{roots-cons, roots-nil, kept-roots}
 use Rattle.finish.specs.Finish.{isNearOf, joinOf, joinedFrom, joinedOf}
-use Rattle.finish.specs.Run.{Adds, nextRun, runAt, runsOf}
+use Rattle.finish.specs.Run.{nextRun, runsOf, Joining}
 use Rattle.finish.specs.declared.Run.{Run}
 
 module _ (poly : Scaled) (tol : Float) where
@@ -59,49 +57,37 @@ module _ (poly : Scaled) (tol : Float) where
   unfolding joinedOf
   joined-none p e = ap (λ (n : ℕ). rootsOf (joinedOf poly tol (take n (p .root)))) (sym e)
 
-  module _ (p : Roots) (f : Fits p) where
-    sum-left : (k : ℕ) → k < p .len → multiplicities (drop k (listOf p)) ≡ getD (p .root) k blank .multiplicity + multiplicities (drop (k + 1) (listOf p))
-    sum-left k h = ap multiplicities (roots-cons p k f h)
+  sum-left : (p : Roots) (k : ℕ) → Fits p → k < p .len
+      → multiplicities (drop k (listOf p)) ≡ getD (p .root) k blank .multiplicity + multiplicities (drop (k + 1) (listOf p))
+  sum-left p k f h = ap multiplicities (roots-cons p k f h)
 
-    -- what adds up to a u32
-    pub adds-first : 0 < p .len → multiplicities (listOf p) < 2 ^ 32 → getD (p .root) 0 blank .multiplicity + multiplicities (drop 1 (listOf p)) < 2 ^ 32
-    adds-first h bound = rw (sym (sum-left 0 h)) bound
+  pub joins-first : (p : Roots) {none : Roots} → Fits p → 0 < p .len → multiplicities (listOf p) < 2 ^ 32 → none ≡ noRoots
+      → Joining poly tol p 1 (record { out = none; at = getD (p .root) 0 blank })
+  unfolding joinedOf
+  joins-first p f h bound z =
+      let l = drop 1 (listOf p) in
+      record {
+        fits = f;
+        whole = rw z (runs-are [] (getD (p .root) 0 blank) l ∙ ap (λ (l : List RealRoot). rootsOf (joinedOf poly tol l)) (sym (roots-cons p 0 f h)));
+        adds = rw (sym (sum-left p 0 f h)) bound;
+      }
 
-    module _ (k : ℕ) (run : Run) where
-      pub adds-both : k < p .len → Adds p k run → run .at .multiplicity + getD (p .root) k blank .multiplicity < 2 ^ 32
-      adds-both h bound = omega (arith, sum-left k h, bound)
+-- one place more, and after the last
+module _ {poly : Scaled} {tol : Float} {p : Roots} {k : ℕ} {run : Run} where
+  pub joins-both : k < p .len → Joining poly tol p k run → run .at .multiplicity + getD (p .root) k blank .multiplicity < 2 ^ 32
+  joins-both h w = omega (arith, sum-left poly tol p k (w .fits) h, w .adds)
 
-      pub adds-next : {next : Run} → next ≡ runAt poly run p k tol → Adds p k run → Adds p (k + 1) next
-      unfolding runAt
-      adds-next e bound = rw e (go (ltb k (p .len)) refl)
-        where
-          b : RealRoot
-          b = getD (p .root) k blank
+  pub joins-next : {next : Run} → k < p .len → Joining poly tol p k run → next ≡ nextRun poly run (getD (p .root) k blank) tol
+      → Joining poly tol p (k + 1) next
+  unfolding runsOf
+  joins-next h w e =
+      rw e
+      (record {
+        fits = w .fits;
+        whole = sym (ap (runsOf poly tol run) (roots-cons p k (w .fits) h)) ∙ w .whole;
+        adds = omega (arith, sum-left poly tol p k (w .fits) h, next-sum poly tol run (getD (p .root) k blank), w .adds);
+      })
 
-          go : (t : Bool) → ltb k (p .len) ≡ t → Adds p (k + 1) (cond t (nextRun poly run b tol) run)
-          go true t = omega (arith, sum-left k (ltb-true k (p .len) t), next-sum run b, bound)
-          go false t = let h = ltb-false k (p .len) t in omega (arith, ap multiplicities (roots-nil p (k + 1) f (omega arith)), bound)
-
-    -- the run at hand and the places from k on give the whole
-    pub joined-first : {none : Roots} → 0 < p .len → none ≡ noRoots
-        → runsOf poly tol (record { out = none; at = getD (p .root) 0 blank }) (drop 1 (listOf p)) ≡ rootsOf (joinedOf poly tol (listOf p))
-    unfolding joinedOf
-    joined-first h z =
-        rw z
-        (runs-are [] (getD (p .root) 0 blank) (drop 1 (listOf p)) ∙ ap (λ (l : List RealRoot). rootsOf (joinedOf poly tol l)) (sym (roots-cons p 0 f h)))
-
-    module _ (k : ℕ) (run : Run) where
-      pub joined-next : {next : Run} → next ≡ runAt poly run p k tol → runsOf poly tol next (drop (k + 1) (listOf p)) ≡ runsOf poly tol run (drop k (listOf p))
-      unfolding runAt runsOf
-      joined-next e = rw e (go (ltb k (p .len)) refl)
-        where
-          go : (t : Bool) → ltb k (p .len) ≡ t
-              → runsOf poly tol (cond t (nextRun poly run (getD (p .root) k blank) tol) run) (drop (k + 1) (listOf p)) ≡ runsOf poly tol run (drop k (listOf p))
-          go true t = sym (ap (runsOf poly tol run) (roots-cons p k f (ltb-true k (p .len) t)))
-          go false t =
-              let h = ltb-false k (p .len) t in
-              ap (runsOf poly tol run) (roots-nil p (k + 1) f (omega arith) ∙ sym (roots-nil p k f h))
-
-      pub joined-last : p .len ≤ k → keptIn (run .out) (run .at) ≡ runsOf poly tol run (drop k (listOf p))
-      unfolding runsOf
-      joined-last h = sym (ap (runsOf poly tol run) (roots-nil p k f h))
+  pub joins-last : p .len ≤ k → Joining poly tol p k run → keptIn (run .out) (run .at) ≡ rootsOf (joinedOf poly tol (listOf p))
+  unfolding runsOf
+  joins-last h w = sym (ap (runsOf poly tol run) (roots-nil p k (w .fits) h)) ∙ w .whole

@@ -1,16 +1,17 @@
 // Scaled::finish of poly.rs: the candidates in order, the simple ones polished, and runs of them within the band joined.
-// Each place is named by its number, and each function for a place does nothing where it does not count: the compiler then keeps the roots in registers.
+// Each place is named by its number, so that the compiler keeps the roots in registers.
 // It rests on `roots`, `polish` and `band`; the lists and the inquiry rest on it.
 ghost use mathlib.Core.Path.{_≡_};
 ghost use mathlib.Core.List.{[], _∷_};
 ghost use Prim.Native.Nat.{_+_, _^_, _≤_, _<_};
 ghost use lib.ListN.{take};
 ghost use Rattle.facts.specs.Arrays.{fromFn};
+ghost use Rattle.float.specs.Methods.{minOf};
 ghost use Rattle.roots.specs.Roots.{listOf, rootsOf, keptIn};
 ghost use Rattle.roots.specs.Listed.{multiplicities};
 ghost use Rattle.finish.specs.Finish.{byValue, belowOf, aboveOf, orderedAt, polishedAt, polishedOf, isNearOf, joinOf, joinedOf, finishOf};
 ghost use Rattle.finish.specs.Places.{inserted, placeOf, polishedIn};
-ghost use Rattle.finish.specs.Run.{Adds, nextRun, runAt};
+ghost use Rattle.finish.specs.Run.{nextRun, Joining};
 use roots::RealRoot;
 use roots::Roots;
 use scaled::Scaled;
@@ -125,6 +126,13 @@ fn above(o: Roots, k: usize) -> f64
     float::infinity()
 }
 
+fn gap(o: Roots, k: usize) -> f64
+    requires { ⌜ (o .len ≤ 4) × (k < o .len) ⌝ }
+    ensures { λ r. ⌜ r ≡ minOf (belowOf (listOf o) k) (aboveOf (listOf o) k) ⌝ }
+{
+    float::min(below(o, k), above(o, k))
+}
+
 // A root at this gap from its nearest neighbour, polished where it is simple.
 fn polished_by(poly: Scaled, r: RealRoot, gap: f64) -> RealRoot
     requires { ⌜ poly .d ≤ 4 ⌝ }
@@ -148,17 +156,21 @@ fn polished_at(poly: Scaled, o: Roots, k: usize) -> RealRoot
 {
     let r = o.root[k];
     if k < o.len {
-        return polished_by(poly, r, float::min(below(o, k), above(o, k)));
+        return polished_by(poly, r, gap(o, k));
     }
     r
 }
 
+// The first place counts where any does; that `polished_by` is called from here too keeps `polished_at` small enough to vanish.
 fn polished(poly: Scaled, o: Roots) -> Roots
     requires { ⌜ poly .d ≤ 4 ⌝ ∗ ⌜ o .len ≤ 4 ⌝ }
     ensures { λ r. ⌜ (listOf r ≡ polishedOf 4 poly (fromFn (o .len) (orderedAt (listOf o)))) × (r .len ≡ o .len) ⌝ }
 {
+    if o.len == 0 {
+        return o;
+    }
     let root = [
-        polished_at(poly, o, 0),
+        polished_by(poly, o.root[0], gap(o, 0)),
         polished_at(poly, o, 1),
         polished_at(poly, o, 2),
         polished_at(poly, o, 3),
@@ -202,15 +214,12 @@ fn next_run(poly: Scaled, run: Run, b: RealRoot, tol: f64) -> Run
     Run { out: more, at: b }
 }
 
-// Place k comes next, where it counts.
+// Place k comes next.
 fn run_at(poly: Scaled, run: Run, p: Roots, k: usize, tol: f64) -> Run
-    requires { ⌜ poly .d ≤ 4 ⌝ ∗ ⌜ (p .len ≤ 4) × Adds p k run ⌝ }
-    ensures { λ r. ⌜ (r ≡ runAt poly run p k tol) × Adds p (k + 1) r ⌝ }
+    requires { ⌜ poly .d ≤ 4 ⌝ ∗ ⌜ (p .len ≤ 4) × (k < p .len) × Joining poly tol p k run ⌝ }
+    ensures { λ r. ⌜ Joining poly tol p (k + 1) r ⌝ }
 {
-    if k < p.len {
-        return next_run(poly, run, p.root[k], tol);
-    }
-    run
+    next_run(poly, run, p.root[k], tol)
 }
 
 // The last run ends.
@@ -232,8 +241,17 @@ fn joined(poly: Scaled, p: Roots, tol: f64) -> Roots
     }
     let at = p.root[0];
     let first = Run { out: none, at };
+    if p.len < 2 {
+        return ended(first);
+    }
     let second = run_at(poly, first, p, 1, tol);
+    if p.len < 3 {
+        return ended(second);
+    }
     let third = run_at(poly, second, p, 2, tol);
+    if p.len < 4 {
+        return ended(third);
+    }
     ended(run_at(poly, third, p, 3, tol))
 }
 

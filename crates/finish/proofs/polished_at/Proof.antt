@@ -5,24 +5,11 @@ use Rattle.finish.proofs.polished_at.Statement.{statement}
 use Rattle.finish.proofs.polished_at.Tie as tie
 
 returns : tie.Need-returns
-returns c =
-    let b = c .before .before .before in
-    let a = b .before .before .before .args in
-    polished-here (a .poly) (a .t2) (a .k) _ _ (b .before .if1 .taken) (b .below .ensures) (c .before .before .above .ensures)
-    (rw (c .before .min .ensures) at (c .polished-by .ensures))
+returns c = polished-here _ _ _ _ (c .before .before .if1 .taken) (c .before .gap .ensures) (c .polished-by .ensures)
 
 returns-2 : tie.Need-returns-2
 returns-2 c = polished-past _ _ _ (c .if1 .left)
 
 pub polished-at-spec : {M : Type 1} → statement M
 polished-at-spec =
-    tie.close
-    (tie.spec
-    (λ c. search needs)
-    (λ c. search needs)
-    (λ c κs. search needs)
-    (λ c κs. search needs)
-    (λ c κs. search needs)
-    (λ c κs. search needs)
-    returns
-    returns-2)
+    tie.close (tie.spec (λ c. search needs) (λ c. search needs) (λ c κs. search needs) (λ c κs. search needs) returns returns-2)
