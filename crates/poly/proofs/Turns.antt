@@ -1,7 +1,7 @@
 -- A loop of at most n turns, each of them written out: from any number k to the next.
 use mathlib.Core.Path.{_≡_, refl, sym, ap, _∙_}
 use mathlib.Core.Bool.{Bool, true, false, cond}
-use Prim.Native.Nat.{ℕ, zero, suc, _+_, _-_, _≤_}
+use Prim.Native.Nat.{ℕ, zero, suc, _+_, _-_, _≤_, _<_}
 use native.Mathlib.Nat.{sub-zero}
 use native.Mathlib.Omega.{arith}
 use borrow.Author.Tests.{ltb-true, ltb-false}
@@ -27,6 +27,10 @@ module _ {A : Type 0} (n : ℕ) (f : ℕ → A → A) where
       go : (t : Bool) → ltb k n ≡ t → countUp n f (n - (k + 1)) (cond t (f k a) a) ≡ countUp n f (n - k) a
       go true t = sym (up-turn n f k a (ltb-true k n t))
       go false t = let h = ltb-false k n t in up-end n f (k + 1) a (omega arith) ∙ sym (up-end n f k a h)
+
+  -- the same where the test is known
+  pub taken-turn : (k : ℕ) (a : A) {b : A} → k < n → b ≡ f k a → countUp n f (n - (k + 1)) b ≡ countUp n f (n - k) a
+  taken-turn k a h e = rw e (sym (up-turn n f k a h))
 
   pub last-turn : (k : ℕ) (a : A) → n ≤ k → a ≡ countUp n f (n - k) a
   last-turn k a h = sym (up-end n f k a h)

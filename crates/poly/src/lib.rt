@@ -132,26 +132,7 @@ fn with_lins(f: factors::Factors, start: roots::Roots) -> roots::Roots
     with_lin(f, 3, three)
 }
 
-// The roots of the quadratic factor k or its pair, where it counts.
-fn with_quad(
-    poly: scaled::Scaled,
-    r: factorize::Rooted,
-    tol: f64,
-    k: usize,
-    s: push::Found,
-) -> push::Found
-    requires { ⌜ poly .d ≤ 4 ⌝ ∗ ⌜ (r .f .nquad ≤ 2) × (r ≡ rootedOf (r .f)) ⌝ }
-    ensures { λ t. ⌜ t ≡ turnAt (r .f .nquad) (withQuadIn poly (r .f) tol) k s ⌝ }
-{
-    let f = r.f;
-    if k < f.nquad {
-        let q = f.quad[k];
-        let d = r.disc[k];
-        return push::push_rooted(poly, q.al, q.be, d, tol, s.roots, s.pairs);
-    }
-    s
-}
-
+// The same of the quadratic ones, and the pairs.
 fn with_quads(
     poly: scaled::Scaled,
     r: factorize::Rooted,
@@ -161,8 +142,19 @@ fn with_quads(
     requires { ⌜ poly .d ≤ 4 ⌝ ∗ ⌜ (r .f .nquad ≤ 2) × (r ≡ rootedOf (r .f)) ⌝ }
     ensures { λ s. ⌜ s ≡ countUp (r .f .nquad) (withQuadIn poly (r .f) tol) (r .f .nquad) start ⌝ }
 {
-    let one = with_quad(poly, r, tol, 0, start);
-    with_quad(poly, r, tol, 1, one)
+    let f = r.f;
+    if f.nquad < 1 {
+        return start;
+    }
+    let q = f.quad[0];
+    let d = r.disc[0];
+    let one = push::push_rooted(poly, q.al, q.be, d, tol, start.roots, start.pairs);
+    if f.nquad < 2 {
+        return one;
+    }
+    let p = f.quad[1];
+    let c = r.disc[1];
+    push::push_rooted(poly, p.al, p.be, c, tol, one.roots, one.pairs)
 }
 
 fn candidates(poly: scaled::Scaled, zeros: usize, tol: f64) -> push::Found
