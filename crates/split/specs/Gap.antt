@@ -3,7 +3,7 @@ use mathlib.Core.Bool.{cond}
 use mathlib.Core.List.{List}
 use Prim.Native.Nat.{ℕ, zero, suc, _+_, _-_, _<_}
 use lib.ListN.{getD}
-use lib.Ieee.{Float, binary64, add, sub, mul, lt, minus}
+use lib.Ieee.{Float, binary64, add, sub, mul, lt, isNan, minus}
 use Rattle.float.specs.Literals.{half64, one64, eight64}
 use Rattle.float.specs.Floor.{floorOf}
 use Rattle.scale.specs.Scale.{ldexpOf}
@@ -11,9 +11,10 @@ use Rattle.split.specs.Hull.{magOf, hullOf}
 use Rattle.split.specs.declared.Split.{Split}
 use Rattle.split.specs.declared.Split.the-variants.{Gap, None}
 
--- '`exp2` of the gap's middle: `ldexp(1.0, k)`, k the middle rounded down.' (floorOf is that k, and 8192.)
+-- '`exp2` of the gap's middle: `ldexp(1.0, k)`, k the middle rounded down.' (floorOf is that k, and 8192.) No k is a NaN rounded down; Rust's cast to a
+-- whole number makes it 0. The middle is a NaN only between slopes that are infinite both ways, which the logarithms of a list never have.
 unfoldable pub exp2Of : Float → Float
-exp2Of x = ldexpOf one64 (minus (floorOf x) 8192)
+exp2Of x = cond (isNan x) one64 (ldexpOf one64 (minus (floorOf x) 8192))
 
 -- some of d roots lie below the gap, and not all
 abbrev pub Inside : ℕ → Split → Type 0

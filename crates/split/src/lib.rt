@@ -86,10 +86,13 @@ fn mag(lg: &[f64; 5], at: &[usize; 5], k: usize) -> f64
     (lg[a] - lg[b]) / width(a, b)
 }
 
-// 2^x, x rounded down.
+// 2^x, x rounded down; a NaN counts as 0, as where Rust makes a whole number of it.
 fn exp2(x: f64) -> f64
     ensures { λ r. ⌜ r ≡ exp2Of x ⌝ }
 {
+    if float::is_nan(x) {
+        return 1.0;
+    }
     scale::ldexp_by(1.0, float::floor(x), 8192)
 }
 
