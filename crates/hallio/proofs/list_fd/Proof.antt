@@ -1,5 +1,4 @@
--- `hallio::list_fd` meets its contract: what was read lies in the buffer, and so does every listing (`listing-fits`).
--- Assumes nothing.
+-- `hallio::list_fd` meets its contract: what was read lies in the buffer, none of it where a read failed, and so does every listing (`listing-fits`).
 use Rattle.hall.proofs.Bound.{listing-fits}
 use Rattle.hall.specs.File.{listing}
 use Prim.Native.Nat.{ℕ, _≤_}
@@ -19,13 +18,15 @@ counts n s out e k = let fits : n ≤ length out = omega (arith, listing-fits s)
 slice-aggregate-list-file : tie.Need-slice-aggregate-list-file
 slice-aggregate-list-file c =
     let read = c .before .before .before .read-file in
-    sym (length-take-le (read .result .len) (read .last .1 .0) (read .ensures))
+    sym (length-take-le (read .result .len) (read .last .1 .0) (read .ensures .0))
 
 returns : tie.Need-returns
 returns c =
     let listed = c .list-file in
     let room : length (listed .last .1 .0) ≡ 163860 = search needs in
-    (c .before .before .before .before .before .read-file .ensures, (listed .ensures .0, (listed .ensures .1, counts (listed .result) _ (listed .last .1 .0) (listed .ensures .0) room)))
+    let read = c .before .before .before .before .before .read-file .ensures in
+    let count = counts (listed .result) _ (listed .last .1 .0) (listed .ensures .0) room in
+    (read .0, (read .1, (listed .ensures .0, (listed .ensures .1, count))))
 
 pub list-fd-spec : {M : Type 1} → statement M
 list-fd-spec = tie.close (tie.spec (λ c κs. search needs) (λ c. search needs) slice-aggregate-list-file (λ c κs. search needs) (λ c. search needs) returns)
