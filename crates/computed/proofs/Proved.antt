@@ -1,20 +1,43 @@
 -- The proof of specs/Computed: each value is what the definition computes to. Assumes nothing.
 use mathlib.Core.Path.{refl}
-use Rattle.computed.specs.Computed.{Computed, Doubles, Squares, Quartics, Scaling, Splitting, Factors, Factorizing, Bands, Polishing, Inquiring}
+use Rattle.computed.specs.Computed.{Computed, Doubles, Squares, Quartics, Scaling, Splitting, Factors, Factorizing, Bands, Polishing, Inquiring, Cranks}
 use Rattle.computed.proofs.Unfolded.{arithmetic, evaluation, factoring, scaling, solving}
 use Rattle.computed.proofs.Steps.{steps}
 
 doubles : Doubles
 unfolding arithmetic
-doubles = record { max-of-zeros = refl; min-of-zeros = refl; min-with-nan = (refl, refl) }
+doubles = record {
+  max-of-zeros = refl;
+  min-of-zeros = refl;
+  min-with-nan = (refl, refl);
+  fourth-power = refl;
+  one-product = refl;
+  steps-first = refl;
+}
 
 squares : Squares
 unfolding arithmetic evaluation
-squares = record { zero-pivot = refl; nan-pivot = refl; step-not-finite = refl }
+squares = record {
+  zero-pivot = refl;
+  nan-pivot = refl;
+  row-by-row = refl;
+  entry-sum = refl;
+  infinite-norm = refl;
+  residuals-of-zero = (refl, refl);
+  derivative-of-zero = λ x. refl;
+  step-not-finite = refl;
+}
 
 quartics : Quartics
 unfolding arithmetic evaluation factoring scaling
-quartics = record { double-root = refl; not-isolated = refl; first-of-equals = refl; peeled-first = λ quads. refl }
+quartics = record {
+  double-root = refl;
+  not-isolated = refl;
+  no-root-below-zero = refl;
+  better-isolated = refl;
+  first-of-equals = refl;
+  peeled-first = λ quads. refl;
+}
 
 scalings : Scaling
 unfolding arithmetic scaling
@@ -25,32 +48,53 @@ unfolding arithmetic scaling
 splitting = record { on-an-edge = refl; middle-down = refl }
 
 factors : Factors
-unfolding arithmetic scaling
+unfolding arithmetic evaluation factoring scaling
 factors = record {
   at-threshold = refl;
+  below-threshold = refl;
   nan-unit = refl;
+  nan-first = refl;
+  pair-size = refl;
+  pair-of-zero = refl;
   equal-units = refl;
   product-from-zero = refl;
   lines-first = refl;
+  product-upward = refl;
+  product-to-its-degree = refl;
+  quotient-to-the-degree = refl;
+  finite-quotient = refl;
   last-zero = refl;
   be-at-once = refl;
 }
 
 factorizing : Factorizing
 unfolding arithmetic evaluation factoring scaling
-factorizing = record { line-of-zero = refl; depth-two = (refl, refl) }
+factorizing = record { line-of-zero = refl; another-degree = refl; depth-two = (refl, refl) }
 
 bands : Bands
 unfolding arithmetic evaluation factoring solving
-bands = record { at-the-band = refl; larger-first = refl; finite-candidates = (refl, refl); finite-middle = refl }
+bands = record {
+  at-the-band = refl;
+  magnitude-from-zero = refl;
+  budget-at-once = refl;
+  lines-before-quadratics = refl;
+  larger-first = refl;
+  half-of-the-root = refl;
+  finite-candidates = (refl, refl);
+  finite-middle = refl;
+}
 
 polishing : Polishing
 unfolding arithmetic evaluation solving
-polishing = record { infinite-step = refl; small-step = refl }
+polishing = record { infinite-step = refl; small-step = refl; small-where-it-ends = refl }
 
 inquiring : Inquiring
 unfolding arithmetic evaluation solving
-inquiring = record { no-pair = refl }
+inquiring = record { no-pair = refl; zeros-in-order = refl; equal-items = refl; link-middle = refl; chain-middle = refl }
+
+cranks : Cranks
+unfolding arithmetic solving
+cranks = record { nan-sample = refl; products-first = refl }
 
 pub computed : Computed
 computed = record {
@@ -64,5 +108,6 @@ computed = record {
   bands = bands;
   polishing = polishing;
   inquiring = inquiring;
+  cranks = cranks;
   steps = steps;
 }

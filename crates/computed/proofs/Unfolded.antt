@@ -35,8 +35,11 @@ use Rattle.band.specs.Band.{magnitudeStep, magnitudeOf, budgetOf, baseOf, withi
 use Rattle.critical.specs.Critical.{criticalNext, criticalPointOf, extremumOf}
 use Rattle.push.specs.Quadratic as push
 use Rattle.polish.specs.Polish.{isLongOf, isSmallOf, polishNext, polishOf}
+use Rattle.poly.specs.Solve.{zeroRootsOf, candidatesOf}
+use Rattle.finish.specs.Finish.{byValue}
 use Rattle.asking.specs.Asking.{answered, _then_, each}
-use Rattle.touching.specs.Touching.{pairOrder, ordered, linkAt, contactOf, emitted, itemTurn, chained, touching}
+use Rattle.touching.specs.Touching.{touchesAt, pairOrder, ordered, linkAt, contactOf, emitted, itemTurn, chained, touching}
+use Rattle.front.specs.Crank as cranks
 
 -- doubles, loops, orders and leaves
 unfoldable pub arithmetic : ℕ
@@ -60,5 +63,5 @@ scaling = 0
 
 -- layer 6
 unfoldable pub solving : ℕ
-unfolding held kept paired magnitudeStep magnitudeOf budgetOf baseOf withinBandOf criticalNext criticalPointOf extremumOf push.quadraticOf push.pushFactor push.pushQuadraticOf isLongOf isSmallOf polishNext polishOf answered _then_ each pairOrder ordered linkAt contactOf emitted itemTurn chained touching
+unfolding held kept paired zeroRootsOf candidatesOf byValue touchesAt magnitudeStep magnitudeOf budgetOf baseOf withinBandOf criticalNext criticalPointOf extremumOf push.quadraticOf push.pushFactor push.pushQuadraticOf isLongOf isSmallOf polishNext polishOf answered _then_ each pairOrder ordered linkAt contactOf emitted itemTurn chained touching cranks.unitOf cranks.fAtOf cranks.sampleOf cranks.quarticOf
 solving = 0
