@@ -1,18 +1,22 @@
 //! Links the proved archives that .ci/archives names, and writes geomcore's Rust to OUT_DIR twice:
 //! `untouched`, and `patched`, the reference build of document 01. EXPORTS names another folder for
 //! the archives, GEOMCORE another one for geomcore. Features write more copies: `coverage` the
-//! reference build with a counter at each branch, `mutants` one for each mistake, `causes` one for
-//! each leaf put back.
+//! reference build with a counter at each branch, `mutants` one with every mistake to choose from,
+//! `causes` one for each leaf put back.
 #[path = "build/branches.rs"]
 mod branches;
 #[path = "build/causes.rs"]
 mod causes;
+#[path = "build/choices.rs"]
+mod choices;
 #[path = "build/mutants/mod.rs"]
 mod mutants;
 #[path = "build/patches.rs"]
 mod patches;
 
-use patches::{COUNTED, CUT, FILES, LIST_STARTS, LIST_USES, OPENED, PUT_IN, Patch, Variant};
+use patches::{
+    COUNTED, CUT, FILES, LIST_STARTS, LIST_USES, OPENED, OWN, OWN_OPENED, PUT_IN, Patch, Variant,
+};
 use std::path::{Path, PathBuf};
 use std::{env, fs};
 
@@ -29,7 +33,7 @@ fn main() {
     println!("cargo::rustc-env=GEOMCORE_WANTED={WANTED}");
     match geomcore(&here) {
         Ok(folder) => {
-            write_rust(&folder, &PathBuf::from(env::var("OUT_DIR").unwrap()));
+            write_rust(&folder, &here, &PathBuf::from(env::var("OUT_DIR").unwrap()));
             println!("cargo::rustc-cfg=geomcore");
         }
         Err(missing) => {
@@ -71,7 +75,7 @@ fn geomcore(here: &Path) -> Result<PathBuf, String> {
     }
 }
 
-fn write_rust(folder: &Path, out: &Path) {
+fn write_rust(folder: &Path, here: &Path, out: &Path) {
     let mut modules = String::new();
     let reference = [OPENED, CUT, PUT_IN];
     modules +=
@@ -91,10 +95,12 @@ fn write_rust(folder: &Path, out: &Path) {
         });
         fs::write(out.join("branches.rs"), branches::table(&all)).unwrap();
     }
-    for (feature, variants) in [("MUTANTS", mutants::all()), ("CAUSES", causes::CAUSES.to_vec())] {
-        if chosen(feature) {
-            modules += &write_variants(folder, out, &feature.to_lowercase(), &variants);
-        }
+    if chosen("MUTANTS") {
+        modules += &write_mutants(folder, out, &mutants::all());
+        modules += &write_own(&here.join("src"), out, &mutants::all());
+    }
+    if chosen("CAUSES") {
+        modules += &write_variants(folder, out, "causes", causes::CAUSES);
     }
     fs::write(out.join("modules.rs"), modules).unwrap();
 }
@@ -122,6 +128,44 @@ fn write_variants(folder: &Path, out: &Path, name: &str, variants: &[Variant]) -
     modules
 }
 
+/// One copy of the reference build with all mistakes, and their names in mutants.rs. Mistake n has
+/// the number n + 1: with 0 the copy has none.
+fn write_mutants(folder: &Path, out: &Path, mistakes: &[Variant]) -> String {
+    let list = |(title, what, patches): &Variant| {
+        let file = patches[0].0;
+        format!("    ({title:?}, {what:?}, {file:?}),\n")
+    };
+    let (count, list): (_, String) = (mistakes.len(), mistakes.iter().map(list).collect());
+    let list = format!("pub const ALL: [(&str, &str, &str); {count}] = [\n{list}];\n");
+    fs::write(out.join("mutants.rs"), list).unwrap();
+    write_tree(folder, out, "mutants", |text, copy| {
+        mistaken(patched(text, copy, &[OPENED, CUT, PUT_IN]), copy, mistakes)
+    })
+}
+
+/// A file with every mistake in it.
+fn mistaken(text: String, copy: &str, mistakes: &[Variant]) -> String {
+    let here = |m: &(usize, &Variant)| m.1.2.iter().any(|patch| patch.0 == copy);
+    let with = |(n, m): (usize, &Variant)| (n + 1, patched(text.clone(), copy, &[m.2]));
+    let others: Vec<_> = mistakes.iter().enumerate().filter(here).map(with).collect();
+    choices::chosen(&text, &others)
+}
+
+/// A copy of the host's own reader and lister of hall files with all mistakes.
+fn write_own(src: &Path, out: &Path, mistakes: &[Variant]) -> String {
+    fs::create_dir_all(out.join("own")).unwrap();
+    let mut modules = "#[allow(warnings)]\npub mod own {\n".to_string();
+    for copy in OWN {
+        let text = patched(source_text(&src.join(copy), copy), copy, &[OWN_OPENED]);
+        let path = out.join("own").join(copy);
+        fs::write(&path, mistaken(text, copy, mistakes)).unwrap();
+        println!("cargo::rerun-if-changed={}", src.join(copy).display());
+        let name = copy.trim_end_matches(".rs");
+        modules += &format!("    #[path = {path:?}]\n    pub mod {name};\n");
+    }
+    modules + "}\n"
+}
+
 /// One copy of geomcore's files, each as `change` makes it, and its module.
 fn write_tree(
     folder: &Path,
@@ -131,7 +175,7 @@ fn write_tree(
 ) -> String {
     fs::create_dir_all(out.join(tree)).unwrap();
     // a mistake may leave a name unused
-    let allowed = if tree.starts_with("mutants") { "warnings" } else { "clippy::all" };
+    let allowed = if tree == "mutants" { "warnings" } else { "clippy::all" };
     let mut modules = format!("#[allow({allowed})]\npub mod {tree} {{\n");
     for (file, copy) in FILES {
         let source = folder.join(file);

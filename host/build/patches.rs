@@ -261,3 +261,26 @@ pub const COUNTED: &[Patch] = &[
         1,
     ),
 ];
+
+/// The host's own reader and lister of hall files.
+pub const OWN: [&str; 2] = ["format.rs", "lister.rs"];
+
+/// In their copies: what is private is opened, paths lead to the copies, and printing is a function
+/// of its own.
+pub const OWN_OPENED: &[Patch] = &[
+    ("format.rs", "pub mod text;\n", "", 1),
+    ("format.rs", "\nfn ", "\npub fn ", 5),
+    ("lister.rs", "use crate::format::", "use super::format::", 1),
+    (
+        "lister.rs",
+        "impl fmt::Display for Answer {\n    fn fmt(",
+        "impl fmt::Display for Answer {\n    fn fmt(&self, f: &mut fmt::Formatter) -> fmt::Result {\n        self.print(f)\n    }\n}\n\nimpl Answer {\n    pub fn print(",
+        1,
+    ),
+    (
+        "lister.rs",
+        "impl fmt::Display for Line {\n    fn fmt(",
+        "impl fmt::Display for Line {\n    fn fmt(&self, f: &mut fmt::Formatter) -> fmt::Result {\n        self.print(f)\n    }\n}\n\nimpl Line {\n    pub fn print(",
+        1,
+    ),
+];

@@ -146,15 +146,19 @@ fn full_file(r: &mut Random) -> Vec<u8> {
     bytes
 }
 
+/// The n-th made file.
+pub fn nth(r: &mut Random, n: u64) -> Vec<u8> {
+    match n % 512 {
+        511 => full_file(r),
+        n => made_file(r, n % 3),
+    }
+}
+
 /// `count` made files, the kinds in turn.
 pub fn made(seed: u64, count: u64) -> Outcome {
     let (mut r, mut files) = (Random::new(seed), Files::new(port::list_file));
     for n in 0..count {
-        let bytes = match n % 512 {
-            511 => full_file(&mut r),
-            n => made_file(&mut r, n % 3),
-        };
-        files.add(&bytes, |_, _, _| ());
+        files.add(&nth(&mut r, n), |_, _, _| ());
     }
     files.outcome()
 }

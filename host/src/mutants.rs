@@ -1,8 +1,9 @@
-//! Mistakes in copies of the reference build (build/mutants) and in the refusals: after how many
+//! Mistakes in a copy of the reference build (build/mutants) and in the refusals: after how many
 //! inputs a comparison with the port notices each.
 use crate::answer::Answer;
 use crate::compare::{bits, say};
 use crate::cranks::{self, Crank};
+use crate::files;
 use crate::inquiries::{Inquiry, List, REPLIES, Ran, Touches, recorded, same_places};
 use crate::lister::{finite, refusal, trimmed};
 use crate::lists::{KINDS, handed_in, tolerance};
@@ -13,15 +14,27 @@ use crate::port::inquiries::Shown;
 use crate::port::quadratics::{self, Solution};
 use crate::quadratics::{quadratic, solution};
 use crate::random::Random;
+use crate::reference::own;
 use crate::roots::{shown, tolerance_for};
+use crate::show::whole_listing;
 use crate::telling::{self, Telling};
-use crate::trees::{REFERENCE, Tree};
+use crate::trees::{REFERENCE, Tree, tree};
+use std::sync::atomic::{AtomicUsize, Ordering};
 use std::{panic, process};
 
 include!(concat!(env!("OUT_DIR"), "/mutants.rs"));
 
+/// The copy that has each mistake, and the number of the one that it has now; 0 for none.
+const COPY: Tree = tree!(mutants);
+static CHOSEN: AtomicUsize = AtomicUsize::new(0);
+
+/// What the copy asks for in each function that a mistake changes.
+pub fn chosen() -> usize {
+    CHOSEN.load(Ordering::Relaxed)
+}
+
 /// The sorts of inputs.
-pub const SORTS: [&str; 5] = ["lists", "inquiries", "cranks", "quadratics", "functions"];
+pub const SORTS: [&str; 6] = ["lists", "inquiries", "cranks", "quadratics", "functions", "files"];
 
 enum Input {
     List(Vec<f64>, f64),
@@ -30,6 +43,7 @@ enum Input {
     /// a, b, c; confusion and angular; an answer to move, and where to.
     Quadratic([f64; 3], [f64; 2], Solution, f64),
     Pieces(Box<Pieces>),
+    File(Vec<u8>),
 }
 
 /// What port and copies answer to it.
@@ -37,6 +51,7 @@ enum Given {
     List(Answer),
     Runs(Vec<Ran>),
     Bits(Vec<u64>),
+    Listing(Vec<u8>),
 }
 
 impl Given {
@@ -49,6 +64,7 @@ impl Given {
             (Given::List(a), Given::List(b)) => a.same(b),
             (Given::Runs(a), Given::Runs(b)) => a.iter().zip(b).all(same_run),
             (Given::Bits(a), Given::Bits(b)) => a == b,
+            (Given::Listing(a), Given::Listing(b)) => a == b,
             _ => false,
         }
     }
@@ -91,6 +107,9 @@ impl Input {
         if sort == 4 {
             return Input::Pieces(Box::new(Pieces::made(r, n)));
         }
+        if sort == 5 {
+            return Input::File(files::nth(r, n));
+        }
         if sort == 3 {
             let (abc, tol) = quadratic(r, (n % polynomials::KINDS.len() as u64) as usize);
             let (s, x) = solution(r);
@@ -117,6 +136,7 @@ impl Input {
                 all_bits(&moved, quadratics::quadratic_centre(abc[0], abc[1], tol[1]))
             }
             Input::Pieces(p) => Given::Bits(p.by_port().into_iter().map(bits).collect()),
+            Input::File(bytes) => Given::Listing(whole_listing(bytes, port::list_file)),
         }
     }
 
@@ -135,6 +155,9 @@ impl Input {
                 all_bits(&moved, (tree.centre)(abc[0], abc[1], tol[1]))
             }
             Input::Pieces(p) => Given::Bits((tree.pieces)(p).into_iter().map(bits).collect()),
+            Input::File(bytes) => {
+                Given::Listing(own::lister::listing(bytes, &own::lister::Reference))
+            }
         }
     }
 
@@ -147,6 +170,10 @@ impl Input {
                 format!("{} ({})", shown(&all, tol[0]), s.0)
             }
             Input::Pieces(p) => shown(&p.list.0[..=p.list.1 as usize], p.tol),
+            Input::File(bytes) => {
+                let front = &bytes[..bytes.len().min(64)];
+                front.iter().map(|b| format!("{b:02X}")).collect()
+            }
         }
     }
 }
@@ -157,7 +184,7 @@ struct Mutant {
     title: &'static str,
     what: &'static str,
     file: &'static str,
-    tree: Tree,
+    number: usize,
     noticed: Option<(&'static str, u64, String)>,
     told: Option<&'static str>,
 }
@@ -165,13 +192,19 @@ struct Mutant {
 impl Mutant {
     /// Whether it answers what the port answers. It may also panic.
     fn same(&self, input: &Input, given: &Given) -> bool {
-        let by = || input.by(&self.tree).same(given);
+        CHOSEN.store(self.number, Ordering::Relaxed);
+        let by = || input.by(&COPY).same(given);
         panic::catch_unwind(panic::AssertUnwindSafe(by)).unwrap_or(false)
     }
 
-    /// Mistakes in equation.rs are not in lists, and others not in quadratics.
+    /// Mistakes in equation.rs are not in lists, others not in quadratics or in cranks, which are
+    /// lists of five, and those of the hall file in files alone.
     fn asks_for(&self, sort: usize) -> bool {
-        if self.file == "equation.rs" { [2, 3].contains(&sort) } else { sort != 3 }
+        match self.file {
+            "equation.rs" => [2, 3].contains(&sort),
+            "format.rs" | "lister.rs" => sort == 5,
+            _ => [0, 1, 4].contains(&sort),
+        }
     }
 
     fn row(&self) -> String {
@@ -196,6 +229,7 @@ fn try_sort(all: &mut [Mutant], sort: usize, count: u64, seed: u64) {
         }
         let input = Input::made(&mut r, sort, n);
         let given = input.by_port();
+        CHOSEN.store(0, Ordering::Relaxed);
         if !input.by(&REFERENCE).same(&given) {
             eprintln!("{}: the reference build itself differs at {}", SORTS[sort], input.text());
             process::exit(2);
@@ -283,7 +317,7 @@ fn try_refusals(count: u64, seed: u64) {
             let given = match input.by_port() {
                 Given::List(answer) => answer.refusal,
                 Given::Runs(runs) => runs[0].list.refusal,
-                Given::Bits(_) => 0,
+                Given::Bits(_) | Given::Listing(_) => 0,
             };
             (given != reading(&input)).then(|| (n + 1, input.text()))
         });
@@ -297,15 +331,15 @@ fn try_refusals(count: u64, seed: u64) {
 /// Each mistake until an input shows it, at most `count` of each sort; whether all were shown.
 pub fn run(count: u64, seed: u64) -> bool {
     panic::set_hook(Box::new(|_| ()));
-    let new = |&(title, what, file, tree): &(_, _, _, _)| Mutant {
+    let new = |(n, &(title, what, file)): (usize, &(_, _, _))| Mutant {
         title,
         what,
         file,
-        tree,
+        number: n + 1,
         noticed: None,
         told: None,
     };
-    let mut all: Vec<Mutant> = ALL.iter().map(new).collect();
+    let mut all: Vec<Mutant> = ALL.iter().enumerate().map(new).collect();
     try_stored(&mut all);
     for sort in 0..SORTS.len() {
         try_sort(&mut all, sort, count, seed);

@@ -167,8 +167,16 @@ pub fn system<const N: usize>(r: &mut Random, which: usize) -> ([[f64; N]; N], [
         m[i][k] = moved(r, m[i][k]);
     }
     let (b, x) = polynomial(r, which, 4);
-    let tols = [0.0, 0.0, 1e-12, 1e-300, 0.25, x];
-    (m, std::array::from_fn(|i| b[i]), tols[r.below(6) as usize])
+    let tols = [0.0, 0.0, 1e-12, 1e-300, 0.25, x, at_pivot(r, &m)];
+    (m, std::array::from_fn(|i| b[i]), tols[r.below(7) as usize])
+}
+
+/// The tolerance at which the bound is as large as the first pivot, or a double beside it: the last
+/// digits of the entry sum decide.
+fn at_pivot<const N: usize>(r: &mut Random, m: &[[f64; N]; N]) -> f64 {
+    let sum: f64 = m.as_flattened().iter().map(|x| x.abs()).sum();
+    let pivot = m.iter().map(|row| row[0].abs()).fold(0.0, f64::max);
+    f64::from_bits((pivot / sum).to_bits().wrapping_add(r.below(3)).wrapping_sub(1))
 }
 
 /// The rows of derivatives of `quartic_factor`'s equations at two quadratics, as an N x N matrix.

@@ -41,6 +41,28 @@ fn size_four() {
     solved(302, port::solve_square4);
 }
 
+/// Systems in which the entry sum's last digit decides, whose sum in another order is another: that
+/// of columns, from the last row up, of each row from its end, and of row sums.
+#[test]
+fn entry_sums() {
+    const BIG: f64 = (1u64 << 53) as f64;
+    let systems = [
+        ([[1.0, BIG, 0.0], [1.0, 0.0, 0.0], [0.0, 0.0, 1.0]], true),
+        ([[1.0, 1.0, BIG], [0.0, 1.0, 0.0], [0.0, 0.0, 1.0]], false),
+        ([[BIG, 0.0, 0.0], [1.0, 1.0, 0.0], [0.0, 0.0, 1.0]], true),
+    ];
+    // tol * 2^53 is the last double below 1
+    let tol = f64::from_bits(0x3C9F_FFFF_FFFF_FFFF);
+    for (m, some) in systems {
+        let given = port::solve_square3(m, [1.0; 3], tol);
+        let wanted = flagged(solve::solve_square(m, [1.0; 3], tol));
+        assert_eq!(given.1.map(bits), wanted.1.map(bits), "{m:?}");
+        assert_eq!((given.0, wanted.0), (some, some), "{m:?}");
+    }
+    let first = port::solve_square3(systems[0].0, [1.0; 3], tol).1;
+    assert_eq!(first.map(bits), [1.0, -0.0, 1.0].map(bits));
+}
+
 /// Bytes that are too few: nothing is written.
 #[test]
 fn refusals() {

@@ -32,7 +32,7 @@ pub const ALL: &[Variant] = &[
     (
         "a noise factor of 3",
         "NOISE_FACTOR is 3",
-        &[(P, "NOISE_FACTOR: f64 = 4.0", "NOISE_FACTOR: f64 = 3.0", 1)],
+        &[(P, "NOISE_FACTOR * f64::EPSILON", "3.0 * f64::EPSILON", 2)],
     ),
     (
         "an infinite noise radius kept",

@@ -14,11 +14,7 @@ pub const ALL: &[Variant] = &[
         "`hi - lo >= SPLIT_BITS`",
         &[(P, "(hi - lo > SPLIT_BITS)", "(hi - lo >= SPLIT_BITS)", 1)],
     ),
-    (
-        "a gap of 9 bits",
-        "SPLIT_BITS is 9",
-        &[(P, "SPLIT_BITS: f64 = 8.0", "SPLIT_BITS: f64 = 9.0", 1)],
-    ),
+    ("a gap of 9 bits", "SPLIT_BITS is 9", &[(P, "(hi - lo > SPLIT_BITS)", "(hi - lo > 9.0)", 1)]),
     (
         "the lowest gap first",
         "the edges of the hull are looked at from the smallest roots up",
