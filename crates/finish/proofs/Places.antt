@@ -23,7 +23,7 @@ use Rattle.roots.specs.declared.RealRoot.{RealRoot}
 use Rattle.roots.specs.declared.Roots.{Roots}
 use Rattle.roots.proofs.Laws.{length-list}
 use Rattle.finish.specs.Finish.{valueAt, byValue, belowOf, aboveOf, orderedAt, polishedAt, polishedOf}
-use Rattle.finish.specs.Places.{inserted, placeOf, polishedIn}
+use Rattle.finish.specs.Places.{inserted, placeOf}
 
 -- ---- a list, read place by place
 read-left : (l : List RealRoot) (i k : ℕ) → i + k ≡ length l → fillFrom i k (λ j. getD l j blank) ≡ drop i l
@@ -124,36 +124,27 @@ module _ (l : List RealRoot) (n : ℕ) where
       above-next z = if-taken _ _ (ap (ltb (k + 1)) full ∙ lt-ltb (k + 1) n z) (difference (value-at (k + 1) z) (value-at k h))
 
 -- ---- polished: place k, and all of them
--- the first n of four places are by the rule
-first-of-four : {A : Type 0} (f g : ℕ → A) (n : ℕ) → n ≤ 4 → take n (fromFn 4 (λ k. cond (ltb k n) (f k) (g k))) ≡ fromFn n f
-first-of-four f g zero h = refl
-first-of-four f g (suc zero) h = refl
-first-of-four f g (suc (suc zero)) h = refl
-first-of-four f g (suc (suc (suc zero))) h = refl
-first-of-four f g (suc (suc (suc (suc zero)))) h = refl
-first-of-four f g (suc (suc (suc (suc (suc n))))) h = absurd (omega arith)
-
 map-filled : {A B : Type 0} (h : A → B) (f : ℕ → A) (i k : ℕ) → map h (fillFrom i k f) ≡ fillFrom i k (λ j. h (f j))
 map-filled h f i zero = refl
 map-filled {A} {B} h f i (suc k) = ap (λ (m : List B). h (f i) ∷ m) (map-filled h f (i + 1) k)
 
 module _ (poly : Scaled) (o : Roots) where
-  module _ (k : ℕ) where
-    pub polished-past : o .len ≤ k → getD (o .root) k blank ≡ polishedIn poly o k
-    unfolding polishedIn
-    polished-past h = rw (le-ltb k (o .len) h)
+  abbrev polishedIn : ℕ → RealRoot
+  polishedIn k = polishedAt 4 poly (orderedAt (listOf o) k)
 
-    pub polished-here : {p : RealRoot} (gap : Float) → k < o .len → gap ≡ minOf (belowOf (listOf o) k) (aboveOf (listOf o) k)
-        → p ≡ polishedAt 4 poly (placeOf (getD (o .root) k blank) gap) → p ≡ polishedIn poly o k
-    unfolding polishedIn orderedAt polishedAt
-    polished-here gap h g e = e ∙ rw (lt-ltb k (o .len) h, getD-take (o .len) (o .root) k blank h, g)
+  pub polished-at : (k : ℕ) {p : RealRoot} {gap : Float} → k < o .len → gap ≡ minOf (belowOf (listOf o) k) (aboveOf (listOf o) k)
+      → p ≡ polishedAt 4 poly (placeOf (getD (o .root) k blank) gap) → p ≡ polishedIn k
+  unfolding orderedAt polishedAt
+  polished-at k h g e = e ∙ rw (getD-take (o .len) (o .root) k blank h, g)
 
   pub none-polished : o .len ≡ 0 → listOf o ≡ polishedOf 4 poly (fromFn (o .len) (orderedAt (listOf o)))
   unfolding polishedOf
   none-polished e = rw e
 
-  pub all-polished : o .len ≤ 4 → take (o .len) (fromFn 4 (polishedIn poly o)) ≡ polishedOf 4 poly (fromFn (o .len) (orderedAt (listOf o)))
-  unfolding polishedIn polishedOf
-  all-polished h =
-      first-of-four (λ (k : ℕ). polishedAt 4 poly (orderedAt (listOf o) k)) (λ (k : ℕ). getD (o .root) k blank) (o .len) h
-      ∙ sym (map-filled (polishedAt 4 poly) (orderedAt (listOf o)) 0 (o .len))
+  pub all-polished : (k : ℕ) {l : List RealRoot} → o .len ≡ k → l ≡ fromFn k polishedIn
+      → (l ≡ polishedOf 4 poly (fromFn (o .len) (orderedAt (listOf o)))) × (k ≡ o .len)
+  unfolding polishedOf
+  all-polished k n e = (
+    e ∙ sym (map-filled (polishedAt 4 poly) (orderedAt (listOf o)) 0 k) ∙ ap (λ (j : ℕ). polishedOf 4 poly (fromFn j (orderedAt (listOf o)))) (sym n),
+    sym n,
+  )

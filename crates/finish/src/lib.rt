@@ -10,7 +10,7 @@ ghost use Rattle.float.specs.Methods.{minOf};
 ghost use Rattle.roots.specs.Roots.{listOf, rootsOf, keptIn};
 ghost use Rattle.roots.specs.Listed.{multiplicities};
 ghost use Rattle.finish.specs.Finish.{byValue, belowOf, aboveOf, orderedAt, polishedAt, polishedOf, isNearOf, joinOf, joinedOf, finishOf};
-ghost use Rattle.finish.specs.Places.{inserted, placeOf, polishedIn};
+ghost use Rattle.finish.specs.Places.{inserted, placeOf};
 ghost use Rattle.finish.specs.Run.{nextRun, Joining};
 use roots::RealRoot;
 use roots::Roots;
@@ -149,19 +149,6 @@ fn polished_by(poly: Scaled, r: RealRoot, gap: f64) -> RealRoot
     }
 }
 
-// Place k, polished where it counts.
-fn polished_at(poly: Scaled, o: Roots, k: usize) -> RealRoot
-    requires { ⌜ poly .d ≤ 4 ⌝ ∗ ⌜ (o .len ≤ 4) × (k < 4) ⌝ }
-    ensures { λ r. ⌜ r ≡ polishedIn poly o k ⌝ }
-{
-    let r = o.root[k];
-    if k < o.len {
-        return polished_by(poly, r, gap(o, k));
-    }
-    r
-}
-
-// The first place counts where any does; that `polished_by` is called from here too keeps `polished_at` small enough to vanish.
 fn polished(poly: Scaled, o: Roots) -> Roots
     requires { ⌜ poly .d ≤ 4 ⌝ ∗ ⌜ o .len ≤ 4 ⌝ }
     ensures { λ r. ⌜ (listOf r ≡ polishedOf 4 poly (fromFn (o .len) (orderedAt (listOf o)))) × (r .len ≡ o .len) ⌝ }
@@ -169,13 +156,32 @@ fn polished(poly: Scaled, o: Roots) -> Roots
     if o.len == 0 {
         return o;
     }
-    let root = [
-        polished_by(poly, o.root[0], gap(o, 0)),
-        polished_at(poly, o, 1),
-        polished_at(poly, o, 2),
-        polished_at(poly, o, 3),
-    ];
-    Roots { root, len: o.len }
+    let first = polished_by(poly, o.root[0], gap(o, 0));
+    if o.len < 2 {
+        return Roots {
+            root: [first, o.root[1], o.root[2], o.root[3]],
+            len: 1,
+        };
+    }
+    let second = polished_by(poly, o.root[1], gap(o, 1));
+    if o.len < 3 {
+        return Roots {
+            root: [first, second, o.root[2], o.root[3]],
+            len: 2,
+        };
+    }
+    let third = polished_by(poly, o.root[2], gap(o, 2));
+    if o.len < 4 {
+        return Roots {
+            root: [first, second, third, o.root[3]],
+            len: 3,
+        };
+    }
+    let fourth = polished_by(poly, o.root[3], gap(o, 3));
+    Roots {
+        root: [first, second, third, fourth],
+        len: 4,
+    }
 }
 
 // Whether the next place is within the band of y.
