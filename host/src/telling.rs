@@ -48,4 +48,15 @@ pub const LISTS: &[Telling] = &[
         tol: 0x4004_7861_7F55_9930,
         numbers: &[0x3FF0 << 48, 0x4000 << 48, 0x3F80 << 48, 0x3E80 << 48],
     },
+    Telling {
+        name: "NaN unit",
+        tol: T30,
+        numbers: &[
+            0x8000_0000_0000_0001,
+            0x0000_0000_0000_0003,
+            0x0000_0000_0000_0003,
+            0xBFEF_FFFF_FFFF_FFFF,
+            0xBFEF_FFFF_FFFF_FFFF,
+        ],
+    },
 ];

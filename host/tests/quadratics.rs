@@ -27,6 +27,22 @@ fn all<T: Copy>(kinds: &[Kind<T>]) -> impl Iterator<Item = T> {
     kinds.iter().flat_map(|k| k.inputs.iter().copied())
 }
 
+/// Twice the leading coefficient overflows, and noise in the last digits of what is below 2^-1022.
+#[test]
+fn edges() {
+    let unit = f64::from_bits(1);
+    let (b, c) = (53_054_215.0 * f64::from_bits(486 << 52), 703_687_432_316_555.0 * unit);
+    let edges = [
+        ([f64::from_bits(2046 << 52), 0.0, 1.0], [f64::INFINITY, 0.0], 4),
+        ([1.0, b, c], [0.0, 0.0], 1),
+    ];
+    for (q, t, word) in edges {
+        let (given, wanted) = (port::solve_quadratic(q, t), (REFERENCE.quadratic)(q, t));
+        assert_eq!((given.0, given.1.map(bits)), (wanted.0, wanted.1.map(bits)), "{q:?}");
+        assert_eq!(given.0, word, "{q:?}");
+    }
+}
+
 #[test]
 fn solved() {
     let kinds: Vec<Kind<Quadratic>> = every_kind(&mut Random::new(501), EACH, quadratic);
