@@ -1,6 +1,6 @@
 -- The proof of specs/Computed: each value is what the definition computes to. Assumes nothing.
 use mathlib.Core.Path.{refl}
-use Rattle.computed.specs.Computed.{Computed, Doubles, Squares, Quartics, Scaling, Splitting, Factors, Factorizing, Bands, Polishing, Inquiring, Cranks}
+use Rattle.computed.specs.Computed.{Computed, Doubles, Squares, Quartics, Scaling, Splitting, Factors, Factorizing, Bands, Polishing, Inquiring, Equations}
 use Rattle.computed.proofs.Unfolded.{arithmetic, evaluation, factoring, scaling, solving}
 use Rattle.computed.proofs.Steps.{steps}
 
@@ -92,9 +92,9 @@ inquiring : Inquiring
 unfolding arithmetic evaluation solving
 inquiring = record { no-pair = refl; zeros-in-order = refl; equal-items = refl; link-middle = refl; chain-middle = refl }
 
-cranks : Cranks
+equations : Equations
 unfolding arithmetic solving
-cranks = record { nan-sample = refl; products-first = refl }
+equations = record { doubled-lead = refl; noise-at-once = refl; nan-sample = refl; products-first = refl }
 
 pub computed : Computed
 computed = record {
@@ -108,6 +108,6 @@ computed = record {
   bands = bands;
   polishing = polishing;
   inquiring = inquiring;
-  cranks = cranks;
+  equations = equations;
   steps = steps;
 }

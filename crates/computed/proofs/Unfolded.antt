@@ -39,6 +39,7 @@ use Rattle.poly.specs.Solve.{zeroRootsOf, candidatesOf}
 use Rattle.finish.specs.Finish.{byValue}
 use Rattle.asking.specs.Asking.{answered, _then_, each}
 use Rattle.touching.specs.Touching.{touchesAt, pairOrder, ordered, linkAt, contactOf, emitted, itemTurn, chained, touching}
+use Rattle.equation.specs.Quadratic.{linearOf, isGrazingOf, twoOf, solveQuadraticOf}
 use Rattle.front.specs.Crank as cranks
 
 -- doubles, loops, orders and leaves
@@ -63,5 +64,5 @@ scaling = 0
 
 -- layer 6
 unfoldable pub solving : ℕ
-unfolding held kept paired zeroRootsOf candidatesOf byValue touchesAt magnitudeStep magnitudeOf budgetOf baseOf withinBandOf criticalNext criticalPointOf extremumOf push.quadraticOf push.pushFactor push.pushQuadraticOf isLongOf isSmallOf polishNext polishOf answered _then_ each pairOrder ordered linkAt contactOf emitted itemTurn chained touching cranks.unitOf cranks.fAtOf cranks.sampleOf cranks.quarticOf
+unfolding held kept paired zeroRootsOf candidatesOf byValue touchesAt magnitudeStep magnitudeOf budgetOf baseOf withinBandOf criticalNext criticalPointOf extremumOf push.quadraticOf push.pushFactor push.pushQuadraticOf isLongOf isSmallOf polishNext polishOf answered _then_ each pairOrder ordered linkAt contactOf emitted itemTurn chained touching linearOf isGrazingOf twoOf solveQuadraticOf cranks.unitOf cranks.fAtOf cranks.sampleOf cranks.quarticOf
 solving = 0

@@ -33,6 +33,8 @@ use Rattle.polish.specs.Polish.{isLongOf, polishNext, polishOf}
 use Rattle.poly.specs.Solve.{candidatesOf}
 use Rattle.asking.specs.Asking.{answered}
 use Rattle.touching.specs.Touching.{ordered, contactOf, touching}
+use Rattle.solution.specs.declared.QuadraticSolution.the-variants.{One, Empty}
+use Rattle.equation.specs.Quadratic.{solveQuadraticOf}
 use Rattle.front.specs.Crank.{sampleOf, quarticOf}
 use Rattle.computed.specs.Values.{_*2^_, _/2^_, minusZero, minusInf, factors, monic}
 use Rattle.computed.specs.Steps.{Steps}
@@ -151,7 +153,8 @@ pub record Bands : Type 0 where
   -- 303: 2^-50 times 5 * 2^-1024 is 5 units of 2^-1074; not epsilon times the sum first (then 4 units)
   pub budget-at-once : budgetOf (5 /2^ 1024 ∷ []) 0 zero64 ≡ 5 /2^ 1074
   -- 226 to 231: the line, then the quadratic; not quadratics before lines
-  pub lines-before-quadratics : candidatesOf (bare (two64 ∷ neg three64 ∷ one64 ∷ []) 2 one64) 0 (factors (three64 ∷ []) (quadOf (neg three64) two64 ∷ [])) zero64
+  pub lines-before-quadratics :
+      candidatesOf (bare (two64 ∷ neg three64 ∷ one64 ∷ []) 2 one64) 0 (factors (three64 ∷ []) (quadOf (neg three64) two64 ∷ [])) zero64
       ≡ (root three64 1 ∷ root two64 1 ∷ root one64 1 ∷ [], [])
   -- 349 and 350, for y^2 - 3y + 2; not the smaller root of a factor first
   pub larger-first : pushQuadraticOf (bare (two64 ∷ neg three64 ∷ one64 ∷ []) 2 one64) (neg three64) two64 zero64 [] [] ≡ (root two64 1 ∷ root one64 1 ∷ [], [])
@@ -185,7 +188,11 @@ pub record Inquiring : Type 0 where
   -- 151, `0.5 * (first + items[k].0)`, both 1 unit; not the midpoint by two halves (then 0)
   pub chain-middle : contactOf (record { first = 1 /2^ 1074; last = 1 /2^ 1074; at = one64; touching = 2; mult = 2 }) ≡ 1 /2^ 1074
 
-pub record Cranks : Type 0 where
+pub record Equations : Type 0 where
+  -- equation.rs 104, `/ (2.0 * a.abs())`, which overflows: sep is NaN, not infinite; not sep by half the root (then it is within any band)
+  pub doubled-lead : solveQuadraticOf (1 *2^ 1023) zero64 one64 inf64 zero64 ≡ Empty
+  -- equation.rs 105: 2^-50 times the sum is 5 units of 2^-1074, and so is disc; not epsilon times the noise's sum first (then 4 units, and empty or two)
+  pub noise-at-once : solveQuadraticOf one64 (53054215 /2^ 537) (703687432316555 /2^ 1074) zero64 zero64 ≡ One (neg (53054215 /2^ 538))
   -- Document 01: 'a NaN counts as larger than infinity'; not: a NaN sample is passed over (then 0)
   pub nan-sample : sampleOf nan zero64 zero64 zero64 zero64 ≡ 7
   -- equation.rs 201 to 203: each product overflows on its own; not 2 (e - 3 a2), not 2 (2 b2 + d1) (finite then)
@@ -203,5 +210,5 @@ pub record Computed : Type 0 where
   pub bands : Bands
   pub polishing : Polishing
   pub inquiring : Inquiring
-  pub cranks : Cranks
+  pub equations : Equations
   pub steps : Steps
