@@ -1,4 +1,4 @@
--- The result of a sum and of a product of two finite values is the exact one, rounded once (`add-near`, `mul-near`), as long as it does not overflow.
+-- The result of a sum, a product or a quotient of two finite values is the exact one, rounded once (`add-near`, `mul-near`, `div-near`), as long as it does not overflow.
 -- A finite value is a whole number of units of 2 ^ -1074 with its sign: p units above zero or n units below it, one of them 0 (`Val`). Assumes nothing.
 use mathlib.Core.Path.{_≡_, refl, sym, ap, _∙_, subst}
 use mathlib.Core.Logic.{_⊎_, inl, inr}
@@ -6,10 +6,11 @@ use Prim.Native.Nat.{ℕ, zero, suc, _+_, _-_, _*_, _%_, _^_, _≤_, _<_, zero-l
 use native.Mathlib.Nat.{le-trans, le-of-eq, le-of-lt, le-of-suc-le-suc, lt-of-le-of-lt, lt-of-not-le, not-le-of-lt, ne-of-lt, mul-one, one-mul, zero-mul, mul-zero, zero-add, add-zero, sub-zero, sub-add-cancel, mul-pos, mul-assoc, mul-le-mul-right, le-of-mul-le-mul-right, eq-of-mul-eq-mul-right}
 use native.Mathlib.Omega.{arith}
 use mathlib.Core.Bool.{Bool, true, false, not, cond, _&&_, true≢false}
+use borrow.Author.Tests.{ne-eqb}
 use lib.Dec.{T, ltb, leb, eqb, ltb→lt, nltb→le, leb→le, eqb→eq, lit<, lit≤}
 use lib.Pow.{pow-add, pow-pos, pow-lt}
 use lib.IntN.{ℤ, pos, negsuc}
-use lib.Ieee.{Float, nan, inf, fin, binary64, up, down, round, sum, add, neg, mul, fits}
+use lib.Ieee.{Float, nan, inf, fin, binary64, up, down, round, sum, add, neg, mul, div, fits}
 use lib.Ieee.Fits.{down-pos, round-is, and-l, and-r}
 use lib.Ieee.Exact.{HasValue, units-val}
 use lib.Ieee.Order.{drop, kept}
@@ -241,6 +242,31 @@ mul-near (plus-sign {m = a} {p = p} {e = e} X) (minus-sign {m = b} {n = q} {e = 
 mul-near (minus-sign {m = a} {n = p} {e = e} X) (plus-sign {m = b} {p = q} {e = d} Y) h =
     simp (mul-zero, zero-mul, zero-add)
     (product-below a b p q e d X Y (omega arith))
+
+-- ---- quotients by w, which is m 2 ^ e
+module _ (a m p w : ℕ) (d e : ℤ) (X : a * up d * oneUnits ≡ p * down d) (Y : suc m * up e ≡ w * down e) (W : 0 < w) where
+  over-pos : 0 < suc m * up e * down d
+  over-pos = mul-pos (subst (λ (z : ℕ). 0 < z) (sym Y) (mul-pos W (down-pos e))) (down-pos d)
+
+  quotient-over : a * up d * down e * oneUnits * w ≡ (p - 0) * (suc m * up e * down d)
+  quotient-over =
+      let s = ap (λ (z : ℕ). z * (down e * w)) X in
+      let t = ap (λ (z : ℕ). p * down d * z) Y in
+      let r : a * up d * down e * oneUnits * w ≡ p * (suc m * up e * down d) = omega (arith, s, t) in
+      r ∙ ap (λ (z : ℕ). z * (suc m * up e * down d)) (sym (sub-zero p))
+
+not-zero : (m : ℕ) → eqb (suc m) 0 ≡ false
+not-zero m = ne-eqb (suc m) 0 (λ z. omega arith)
+
+pub div-near : {x : Float} {p n : ℕ} (m w : ℕ) (e : ℤ) → suc m * up e ≡ w * down e → 0 < w → Val x p n → p ≤ n + limit * w → n ≤ p + limit * w
+    → Result (div binary64 x (fin false (suc m) e)) p n w
+unfolding div
+div-near m w e Y W (plus-sign {m = a} {p = p} {e = d} X) h l =
+    rw (not-zero m)
+    (round-above _ _ p 0 w (over-pos a m p w d e X Y W) W zero-le (quotient-over a m p w d e X Y W) (omega arith))
+div-near m w e Y W (minus-sign {m = a} {n = n} {e = d} X) h l =
+    rw (not-zero m)
+    (round-below _ _ 0 n w (over-pos a m n w d e X Y W) W zero-le (quotient-over a m n w d e X Y W) (omega arith))
 
 -- ---- a value of the format is a multiple of 2 ^ i units by less than 2 ^ 53
 pub record Grid (p n : ℕ) : Type 0 where
