@@ -10,7 +10,7 @@ use Rattle.float.specs.Literals.{one64, inf64}
 use Rattle.scale.specs.Scale.{ldexpOf}
 use Rattle.log2.specs.Log.{log2FiveOf}
 use Rattle.scaled.specs.Exponent.{scaleExponentOf}
-use Rattle.scaled.specs.Scaled.{topOf, coefficientOf, coefficientsOf, monicOf, sizesOf, logSizeOf, logSizesOf, scaledOf}
+use Rattle.scaled.specs.Scaled.{topOf, coefficientOf, coefficientsOf, monicOf, sizesOf, logSizeOf, logSizesOf, scaledOf, withLogsOf}
 
 pub no-logs : (a : List Float) (d : ℕ) (e top : ℤ) (x : Float) → d < 3 → x ≡ inf64 → replicate 5 (neg x) ≡ logSizesOf a d e top
 unfolding logSizesOf
@@ -28,8 +28,8 @@ module _ (a : List Float) (d : ℕ) (e e' top top' : ℤ) (E : e' ≡ e) (T : to
   unfolding logSizesOf
   logs-are s l h S L h0 h1 h2 h3 h4 = rw (le-leb 3 d h, h0, h1, h2, h3, h4, E, T, L, S)
 
-pub built : (a : List Float) (d : ℕ) (e e' top top' m : ℤ) (f g lg : List Float) (unit : Float) → e ≡ scaleExponentOf a d → e' ≡ e → top ≡ topOf (getD a d nan) e' d → top' ≡ top
-    → f ≡ coefficientsOf a d e' top' → g ≡ monicOf f d → lg ≡ logSizesOf a d e' top' → m ≡ negℤ e → unit ≡ ldexpOf one64 m
-    → record { f = f; g = g; lg = lg; d = d; e = e'; unit = unit } ≡ scaledOf a d
-unfolding scaledOf
-built a d e e' top top' m f g lg unit E E' T T' F G L M U = rw (U, M, L, G, F, T', T, E', E)
+pub built : (a : List Float) (d l : ℕ) (e e' top top' m : ℤ) (f g lg : List Float) (unit : Float) → e ≡ scaleExponentOf a d → e' ≡ e → top ≡ topOf (getD a d nan) e' d → top' ≡ top
+    → f ≡ coefficientsOf a d e' top' → g ≡ monicOf f d → lg ≡ logSizesOf a l e' top' → m ≡ negℤ e → unit ≡ ldexpOf one64 m
+    → record { f = f; g = g; lg = lg; d = d; e = e'; unit = unit } ≡ withLogsOf a d l
+unfolding scaledOf withLogsOf
+built a d l e e' top top' m f g lg unit E E' T T' F G L M U = rw (U, M, L, G, F, T', T, E', E)

@@ -57,3 +57,9 @@ scaledOf a d =
     let top = topOf (getD a d nan) e d in
     let f = coefficientsOf a d e top in
     record { f = f; g = monicOf f d; lg = logSizesOf a d e top; d = d; e = e; unit = ldexpOf one64 (negℤ e) }
+
+-- the same with the logarithms of a list of degree l
+unfoldable pub withLogsOf : List Float → ℕ → ℕ → Scaled
+withLogsOf a d l =
+    let s = scaledOf a d in
+    record { f = s .f; g = s .g; lg = logSizesOf a l (s .e) (topOf (getD a d nan) (s .e) d); d = s .d; e = s .e; unit = s .unit }

@@ -5,7 +5,7 @@ ghost use Prim.Native.Nat.{_≤_, _<_, _*_, _^_};
 ghost use lib.IntN.{natAbs};
 ghost use Rattle.float.specs.Units.{unitsOf};
 ghost use Rattle.scaled.specs.Exponent.{Least, scaleExponentOf};
-ghost use Rattle.scaled.specs.Scaled.{topOf, shiftOf, coefficientOf, coefficientsOf, monicAt, monicOf, sizesOf, logSizeOf, logSizesOf, scaledOf};
+ghost use Rattle.scaled.specs.Scaled.{topOf, shiftOf, coefficientOf, coefficientsOf, monicAt, monicOf, sizesOf, logSizeOf, logSizesOf, scaledOf, withLogsOf};
 
 // a(x) of degree d in y = x / 2^e: f is a times powers of two, g is f / f_d, lg the logarithms of f's sizes, and unit is one unit of x in y.
 pub struct Scaled {
@@ -163,15 +163,16 @@ fn log_sizes(a: [f64; 5], d: usize, e: i32, top: i32) -> [f64; 5]
 }
 
 impl Scaled {
-    pub fn new(a: [f64; 5], d: usize) -> Scaled
-        requires { ⌜ d ≤ 4 ⌝ }
-        ensures { λ r. ⌜ r ≡ scaledOf a d ⌝ }
+    // With the logarithms that a list of degree l has: below 3 it has none.
+    pub fn with_logs(a: [f64; 5], d: usize, l: usize) -> Scaled
+        requires { ⌜ d ≤ 4 ⌝ ∗ ⌜ l ≤ 4 ⌝ }
+        ensures { λ r. ⌜ r ≡ withLogsOf a d l ⌝ }
     {
         let e = scale_exponent(a, d);
         let top = top_of(a[d], e, d);
         let f = coefficients(a, d, e, top);
         let g = monic(f, d);
-        let lg = log_sizes(a, d, e, top);
+        let lg = log_sizes(a, l, e, top);
         let unit = scale::ldexp(1.0, -e);
         Scaled {
             f,
@@ -181,5 +182,12 @@ impl Scaled {
             e,
             unit,
         }
+    }
+
+    pub fn new(a: [f64; 5], d: usize) -> Scaled
+        requires { ⌜ d ≤ 4 ⌝ }
+        ensures { λ r. ⌜ r ≡ scaledOf a d ⌝ }
+    {
+        Scaled::with_logs(a, d, d)
     }
 }
