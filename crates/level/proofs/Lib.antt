@@ -1,0 +1,4 @@
+pub mod Gap
+pub mod Logs
+pub mod None
+pub mod Turns
