@@ -25,7 +25,8 @@ use Rattle.scaled.proofs.Best.{exponent-bounded}
 use Rattle.scaled.proofs.Digits.{exponent-small}
 use Rattle.split.specs.declared.Hull.{Hull}
 use Rattle.split.specs.Hull.{widthOf, hullOf, magOf}
-use Rattle.split.specs.Gap.{noSplit, splitFrom, magnitudeSplitOf}
+use Rattle.split.specs.declared.Split.the-variants.{None}
+use Rattle.split.specs.Gap.{splitFrom, magnitudeSplitOf}
 use Rattle.split.proofs.Rises.{hull-rising}
 use Rattle.split.proofs.Gaps.{gap-end}
 use Rattle.level.specs.Level.{NoGap, Raised}
@@ -41,7 +42,7 @@ module _ (lg : List Float) (d : ℕ) (D : d ≤ 4) (N : Flat lg d) where
   abbrev s : Hull
   s = hullOf lg d
 
-  from-none : (k : ℕ) → k + 1 < s .h → splitFrom lg (s .at) k ≡ noSplit
+  from-none : (k : ℕ) → k + 1 < s .h → splitFrom lg (s .at) k ≡ None
   unfolding splitFrom magOf
   from-none zero l = refl
   from-none (suc k) l =
@@ -50,7 +51,7 @@ module _ (lg : List Float) (d : ℕ) (D : d ≤ 4) (N : Flat lg d) where
       rw (N (getD (s .at) k 0) (getD (s .at) (k + 1) 0) (getD (s .at) (k + 1 + 1) 0) (R .order k (omega arith)) (R .order (k + 1) (omega arith)) (omega arith))
       (from-none k (omega arith))
 
-  no-split : magnitudeSplitOf lg d ≡ noSplit
+  no-split : magnitudeSplitOf lg d ≡ None
   unfolding magnitudeSplitOf
   no-split = ⊎-elim (λ l. from-none (s .h - 2) (omega arith)) (λ l. sym (gap-end lg (s .at) (s .h) (omega arith))) (le-or-lt 2 (s .h))
 

@@ -8,11 +8,12 @@ use lib.Ieee.{Float, nan, binary64, fits}
 use Rattle.float.specs.Units.{unitsOf}
 use Rattle.decode.specs.Exponent.{regularOf}
 use Rattle.scaled.specs.Scaled.{scaledOf}
-use Rattle.split.specs.Gap.{noSplit, magnitudeSplitOf}
+use Rattle.split.specs.declared.Split.the-variants.{None}
+use Rattle.split.specs.Gap.{magnitudeSplitOf}
 
 -- magnitude_split finds no gap
 abbrev pub NoGap : List Float → ℕ → Type 0
-NoGap a d = magnitudeSplitOf (scaledOf a d .lg) d ≡ noSplit
+NoGap a d = magnitudeSplitOf (scaledOf a d .lg) d ≡ None
 
 -- k is the exponent of x, counted from 2 ^ -1074
 pub record Binade (x : Float) (k : ℕ) : Type 0 where

@@ -7,3 +7,4 @@ pub mod Steps
 pub mod Refusals
 pub mod Small
 pub mod Short
+pub mod Brief

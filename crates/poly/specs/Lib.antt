@@ -4,3 +4,4 @@ pub mod Found
 pub mod RealRoots
 pub mod Conditions
 pub mod Short
+pub mod Brief

@@ -1,6 +1,7 @@
 // real_roots of poly.rs: a list of coefficients of any length and any bits gives at most four roots, or the number of a refusal.
 // It rests on scaling, factoring, the band and finishing; the inquiry and the programs rest on it.
 ghost use mathlib.Core.Path.{_≡_};
+ghost use mathlib.Core.Bool.{true};
 ghost use Prim.Native.Nat.{_≤_, _<_, _+_};
 ghost use lib.ListN.{length};
 ghost use Rattle.facts.specs.Count.{countUp};
@@ -11,6 +12,7 @@ ghost use Rattle.push.specs.Quadratic.{foundOf};
 ghost use Rattle.poly.specs.Coefficients.{trimmedOf, zerosOf, refusalBy, middleAt, middleOf};
 ghost use Rattle.poly.specs.Solve.{zeroRootsOf, candidatesOf, finishedOf, refusedBy, solveOf};
 ghost use Rattle.poly.specs.Found.{turnAt, withLinIn, withQuadIn, unscaledIn};
+ghost use Rattle.poly.specs.Brief.{Enough, SameList};
 ghost use Rattle.poly.specs.RealRoots.{unscaledAll, realRootsOf};
 
 // What Scaled::solve and finish give: the scaled polynomial, the tolerance, its finished roots and its complex pairs. On a refusal the number alone, and zeros.
@@ -205,8 +207,23 @@ fn refused(number: u32) -> Solved
     }
 }
 
-pub fn solve(coeffs: &[f64], tol: f64) -> Solved
-    ensures { λ r. ⌜ r ≡ solveOf (now (coeffs .entry)) tol ⌝ }
+// The degree whose logarithms are taken: d, or 0 where a list of roots is asked for and a level one needs none.
+fn logs(a: [f64; 5], d: usize, all: bool) -> usize
+    requires { ⌜ d ≤ 4 ⌝ }
+    ensures { λ r. ⌜ (r ≤ 4) × (all ≡ true → r ≡ d) × Enough a d r ⌝ }
+{
+    if all {
+        return d;
+    }
+    if level::level(a, d) {
+        return 0;
+    }
+    d
+}
+
+// Solved with all logarithms, or with those that the list of roots needs.
+fn solve_by(coeffs: &[f64], tol: f64, all: bool) -> Solved
+    ensures { λ r. ⌜ (all ≡ true → r ≡ solveOf (now (coeffs .entry)) tol) × SameList r (solveOf (now (coeffs .entry)) tol) ⌝ }
 {
     let n = trimmed(coeffs);
     let number = refusal(float::all_finite(coeffs), n);
@@ -215,8 +232,15 @@ pub fn solve(coeffs: &[f64], tol: f64) -> Solved
     }
     let zeros = leading_zeros(coeffs);
     let a = middle(coeffs, zeros, n);
-    let poly = scaled::Scaled::new(a, n - zeros - 1);
+    let d = n - zeros - 1;
+    let poly = scaled::Scaled::with_logs(a, d, logs(a, d, all));
     finished(poly, zeros, float::max(tol, 0.0))
+}
+
+pub fn solve(coeffs: &[f64], tol: f64) -> Solved
+    ensures { λ r. ⌜ r ≡ solveOf (now (coeffs .entry)) tol ⌝ }
+{
+    solve_by(coeffs, tol, true)
 }
 
 // Root k in x = y * 2^e, where it counts and is finite.
@@ -245,7 +269,7 @@ fn unscaled_all(s: roots::Roots, e: i32) -> roots::Roots
 pub fn real_roots(coeffs: &[f64], tol: f64) -> Answer
     ensures { λ r. ⌜ r ≡ realRootsOf (now (coeffs .entry)) tol ⌝ }
 {
-    let s = solve(coeffs, tol);
+    let s = solve_by(coeffs, tol, false);
     Answer {
         number: s.number,
         roots: unscaled_all(s.roots, s.poly.e),
