@@ -31,6 +31,7 @@ squares = record {
 quartics : Quartics
 unfolding arithmetic evaluation factoring scaling
 quartics = record {
+  cube-of-b = refl;
   double-root = refl;
   not-isolated = refl;
   no-root-below-zero = refl;

@@ -17,7 +17,7 @@ use Rattle.horner.specs.Product.{splitHigh, productError, twoProdOf, discrimina
 use Rattle.horner.specs.Horner.{hornerStep, valueSlopeOf, sumError, compensatedStep, compensatedOf, valueSlopeCompensatedOf}
 use Rattle.horner.specs.Taylor.{derivsStep, derivs12Of}
 use Rattle.square.specs.Square as square
-use Rattle.refine.specs.Refine.{overOf, weightedOf, normOf, isSettledOf, advancedOf, nextOf, refineOf}
+use Rattle.refine.specs.Refine.{overOf, weightedOf, normOf, isSettledOf, weighRowOf, weighRowsOf, advancedOf, trialOf, noLessOf, keptOf, nextOf, refineOf}
 use Rattle.refine.specs.Newton.{flatOf, noGainOf, newtonNext, newtonCubicOf}
 use Rattle.cubic.specs.Cubic.{oneRootOf, depressedRootsOf, cubicClosedFormOf, isolationOf, betterOf, mostIsolatedOf, cubicFactorOf}
 use Rattle.isolated.specs.Isolated.{farRootOf, rootPairOf, isBetterOf, judgedOf, bestRootOf, isolatedRootOf, peelRootOf}
@@ -49,7 +49,7 @@ arithmetic = 0
 
 -- layers 2 and 3
 unfoldable pub evaluation : ℕ
-unfolding downTo splitHigh productError twoProdOf discriminantOf hornerStep valueSlopeOf sumError compensatedStep compensatedOf valueSlopeCompensatedOf derivsStep derivs12Of square.sizesOf square.scaleOf square.leastOf square.largerOf square.pivotOf square.swapPivotOf square.loseOf square.reduceStep square.reduceOf square.restOf square.substituteStep square.substituteOf square.solveFrom square.solveSquareOf overOf weightedOf normOf isSettledOf advancedOf nextOf refineOf flatOf noGainOf newtonNext newtonCubicOf
+unfolding downTo splitHigh productError twoProdOf discriminantOf hornerStep valueSlopeOf sumError compensatedStep compensatedOf valueSlopeCompensatedOf derivsStep derivs12Of square.sizesOf square.scaleOf square.leastOf square.largerOf square.pivotOf square.swapPivotOf square.loseOf square.reduceStep square.reduceOf square.restOf square.substituteStep square.substituteOf square.solveFrom square.solveSquareOf overOf weightedOf normOf isSettledOf weighRowOf weighRowsOf advancedOf trialOf noLessOf keptOf nextOf refineOf flatOf noGainOf newtonNext newtonCubicOf
 evaluation = 0
 
 -- layer 4

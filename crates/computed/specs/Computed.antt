@@ -16,6 +16,7 @@ use Rattle.refine.specs.Refine.{isSettledOf, advancedOf}
 use Rattle.refine.specs.Systems.{cubicResidualOf, cubicJacobianOf, peelResidualOf}
 use Rattle.cubic.specs.Cubic.{oneRootOf}
 use Rattle.quartic.specs.declared.QuarticFactor.{QuarticFactor}
+use Rattle.quartic.specs.Quartic.{quarticFactorOf}
 use Rattle.isolated.specs.declared.LoneRoot.the-variants.{At, None}
 use Rattle.isolated.specs.Isolated.{rootPairOf, isBetterOf, isolatedRootOf}
 use Rattle.scaled.specs.Scaled.{scaledOf}
@@ -75,6 +76,9 @@ pub record Squares : Type 0 where
   pub step-not-finite : advancedOf 1 (one64 ∷ []) (some (inf64 ∷ [])) ≡ none
 
 pub record Quartics : Type 0 where
+  -- 890, `0.125 * b2 * b`, rounded once to units of 2^-1074; not b³ as b b² (rounded twice, with the other sign in be and de)
+  pub cube-of-b : quarticFactorOf (335 /2^ 361) zero64 zero64 zero64
+      ≡ record { al = 335 /2^ 361; be = neg (185542587187 /2^ 760); ga = zero64; de = 185542587187 /2^ 760 }
   -- 955, `disc >= 0.0`, where al² underflows and disc is 0: two real places; not: a double root counts as complex (then it is twice -2^-539)
   pub double-root : rootPairOf (1 /2^ 538) zero64 ≡ record { re0 = neg (1 /2^ 539); im0 = zero64; re1 = minusZero; im1 = zero64 }
   -- the same beside the places 2^-500 and -2^-502: 16 spread is iso itself; not: a double root counts as complex (then 2^-500 is isolated)
