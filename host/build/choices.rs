@@ -1,5 +1,5 @@
-//! One copy of a file for all mistakes: a function that a mistake changes stands there once more for
-//! it, under a name with the mistake's number, and the number at hand chooses when it is called.
+//! One copy of a file for all mistakes: a function that a mistake changes stands there once more
+//! for it, under a name with the mistake's number, and the number at hand chooses when it is called.
 use std::ops::Range;
 
 /// The file, and the number of each mistake with the file as it has it. A mistake changes functions

@@ -1,4 +1,5 @@
-//! Mistakes in bands, quadratic factors, critical points, polishing, joining and the coefficients that count, operator by operator.
+//! Mistakes in bands, quadratic factors, critical points, polishing, joining and the coefficients
+//! that count, operator by operator.
 use crate::patches::Variant;
 
 const P: &str = "poly.rs";

@@ -1,4 +1,5 @@
-//! Mistakes in the closed forms of cubics and quartics, in isolated roots and in peeling, operator by operator.
+//! Mistakes in the closed forms of cubics and quartics, in isolated roots and in peeling, operator
+//! by operator.
 use crate::patches::Variant;
 
 const P: &str = "poly.rs";

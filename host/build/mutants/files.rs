@@ -1,4 +1,5 @@
-//! Mistakes in the hall file: its records, its refusals and its lines, in copies of the host's own format.rs and lister.rs.
+//! Mistakes in the hall file: its records, its refusals and its lines, in copies of the host's own
+//! format.rs and lister.rs.
 use crate::patches::Variant;
 
 const F: &str = "format.rs";

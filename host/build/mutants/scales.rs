@@ -1,4 +1,5 @@
-//! More mistakes in the scaling, the gaps between root sizes and the second scaling, operator by operator.
+//! More mistakes in the scaling, the gaps between root sizes and the second scaling, operator by
+//! operator.
 use crate::patches::Variant;
 
 const P: &str = "poly.rs";
