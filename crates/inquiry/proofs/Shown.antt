@@ -1,20 +1,21 @@
--- The list that an inquiry shows has at most four roots, whatever the inquiry is. Assumes nothing.
+-- The list that an inquiry shows has at most four roots, which count at most four times, whatever the inquiry is. Assumes nothing.
 use mathlib.Core.Path.{_≡_, refl}
 use mathlib.Core.Bool.{Bool, true, false, cond}
-use mathlib.Core.List.{List}
+use mathlib.Core.List.{List, []}
 use Prim.Native.Nat.{ℕ, _+_, _-_, _*_, _≤_, _<_}
 use native.Mathlib.Omega.{arith}
 use lib.ListN.{length, length-take}
 use Rattle.roots.specs.declared.RealRoot.{RealRoot}
 use Rattle.roots.specs.Roots.{listOf, pairListOf}
-use Rattle.roots.specs.Listed.{multiplicities, Fits}
-use Rattle.roots.proofs.Laws.{roots-fit}
-use Rattle.roots.proofs.Sums.{counted, length-counted}
+use Rattle.roots.specs.Listed.{multiplicities, Fits, Within}
+use Rattle.roots.proofs.Laws.{list-roots, roots-fit}
+use Rattle.roots.proofs.Sums.{counted, length-counted, within-none, within-more}
 use Rattle.asking.specs.Asking.{Stage, asks, ended, walked}
 use Rattle.asking.specs.Within.{AtStage}
 use Rattle.asking.proofs.Within.{walked-within}
 use Rattle.touching.specs.Replies.{repliesOf}
 use Rattle.touching.proofs.Bound.{ListedIn, touching-within}
+use Rattle.inquiry.specs.declared.Asked.{Asked}
 use Rattle.inquiry.specs.declared.Inquiry.{Inquiry}
 use Rattle.inquiry.specs.Inquiry.{soundOf, asking, shown, nothing, askedOf}
 use Rattle.inquiry.proofs.Sound.{sound-is}
@@ -24,15 +25,25 @@ unfolding shown
 stage-fits d X (asks x) four h = (refl, omega arith)
 stage-fits d X (ended l rs) four h = let each = length-counted l (counted l (h .0)) in let sum = h .1 in roots-fit l (omega arith)
 
-pub shown-fits : (q : Inquiry) → Fits (askedOf q .list)
+stage-within : (d : ℕ) (X : Type 0) (s : Stage (List RealRoot)) → d ≤ 4 → AtStage X (ListedIn d) s → Within 4 (listOf (shown s .list))
+unfolding shown
+stage-within d X (asks x) four h = within-more 0 4 [] (omega arith) within-none
+stage-within d X (ended l rs) four h =
+    let each = length-counted l (counted l (h .0)) in
+    let sum = h .1 in
+    rw (list-roots l) (record { four = omega arith; listed = h .0; sum = omega arith })
+
+-- what holds of nothing, and at every stage of a sound inquiry
+shown-by : (P : Asked → Type 0) → P nothing → ((d : ℕ) (X : Type 0) (s : Stage (List RealRoot)) → d ≤ 4 → AtStage X (ListedIn d) s → P (shown s))
+    → (q : Inquiry) → P (askedOf q)
 unfolding askedOf
-shown-fits q = go (soundOf q) refl
+shown-by P none each q = go (soundOf q) refl
   where
     rs : List Bool
     rs = repliesOf (q .replies)
 
-    go : (b : Bool) → soundOf q ≡ b → Fits (cond b (shown (walked rs (asking q))) nothing .list)
-    go false e = (refl, omega arith)
+    go : (b : Bool) → soundOf q ≡ b → P (cond b (shown (walked rs (asking q))) nothing)
+    go false e = none
     go true e =
         let roots = listOf (q .roots) in
         let pairs = pairListOf (q .pairs) in
@@ -40,5 +51,11 @@ shown-fits q = go (soundOf q) refl
         let d = multiplicities roots + 2 * length pairs in
         let total = sound-is q e .total in
         let few = length-take (q .pairs .len) (q .pairs .pair) in
-        stage-fits d (length rs < most) (walked rs (asking q)) (omega arith)
+        each d (length rs < most) (walked rs (asking q)) (omega arith)
         (walked-within (ListedIn d) rs most (asking q) (touching-within (q .poly) (q .tol) roots pairs))
+
+pub shown-fits : (q : Inquiry) → Fits (askedOf q .list)
+shown-fits = shown-by (λ a. Fits (a .list)) (refl, omega arith) stage-fits
+
+pub shown-within : (q : Inquiry) → Within 4 (listOf (askedOf q .list))
+shown-within = shown-by (λ a. Within 4 (listOf (a .list))) (within-more 0 4 [] (omega arith) within-none) stage-within

@@ -5,7 +5,7 @@ ghost use mathlib.Core.Path.{_≡_};
 ghost use Prim.Native.Nat.{_≤_};
 ghost use mathlib.Core.Bool.{true};
 ghost use Rattle.roots.specs.Roots.{listOf, pairListOf};
-ghost use Rattle.roots.specs.Listed.{multiplicities, Fits};
+ghost use Rattle.roots.specs.Listed.{multiplicities, Fits, Within};
 ghost use Rattle.asking.specs.Asking.{asks, walked};
 ghost use Rattle.touching.specs.Touching.{chained, touching};
 ghost use Rattle.touching.specs.Replies.{repliesOf};
@@ -191,8 +191,9 @@ impl Inquiry {
     }
 
     // The question, or the finished list; neither for a value that is not sound.
+    // Whatever the inquiry is, a list has at most four finite roots, each counting at least once, together at most four times.
     pub fn ask(self) -> Asked
-        ensures { λ r. ⌜ r ≡ askedOf self ⌝ }
+        ensures { λ r. ⌜ (r ≡ askedOf self) × Within 4 (listOf (r .list)) ⌝ }
     {
         if self.is_sound() {
             let poly = self.poly;

@@ -9,7 +9,8 @@ ghost use Rattle.factorize.specs.Factorize.{factorizeOf};
 ghost use Rattle.factorize.specs.Discs.{rootedOf};
 ghost use Rattle.roots.specs.Roots.{rootsOf, listOf};
 ghost use Rattle.push.specs.Quadratic.{foundOf};
-ghost use Rattle.poly.specs.Coefficients.{trimmedOf, zerosOf, refusalBy, middleAt, middleOf};
+ghost use Rattle.roots.specs.Listed.{Within};
+ghost use Rattle.poly.specs.Coefficients.{trimmedOf, degreeLeft, zerosOf, refusalBy, middleAt, middleOf};
 ghost use Rattle.poly.specs.Solve.{zeroRootsOf, candidatesOf, finishedOf, refusedBy, solveOf};
 ghost use Rattle.poly.specs.Found.{turnAt, withLinIn, withQuadIn, unscaledIn};
 ghost use Rattle.poly.specs.Brief.{Enough, SameList};
@@ -266,8 +267,9 @@ fn unscaled_all(s: roots::Roots, e: i32) -> roots::Roots
     unscaled_at(s, e, 3, three)
 }
 
+// Demand 1 holds of the answer: at most four finite roots, each counting at least once, together at most the degree left.
 pub fn real_roots(coeffs: &[f64], tol: f64) -> Answer
-    ensures { λ r. ⌜ r ≡ realRootsOf (now (coeffs .entry)) tol ⌝ }
+    ensures { λ r. ⌜ (r ≡ realRootsOf (now (coeffs .entry)) tol) × Within (degreeLeft (now (coeffs .entry))) (listOf (r .roots)) ⌝ }
 {
     let s = solve_by(coeffs, tol, false);
     Answer {

@@ -21,7 +21,7 @@ returns : tie.Need-returns
 returns c =
     let began = c .before .before .before .before in
     let s = began .before .before .start in
-    with-demand _ _ _ _ _ _ _ (answer-listed _ _ _ _ _ _ (s .result) (s .ensures) _ (began .if1 .taken) (c .before .ask .ensures))
+    with-demand _ _ _ _ _ _ _ (answer-listed _ _ _ _ _ _ (s .result) (s .ensures) _ (began .if1 .taken) (c .before .ask .ensures .0))
 
 returns-2 : tie.Need-returns-2
 returns-2 c =

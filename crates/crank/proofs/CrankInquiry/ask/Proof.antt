@@ -6,7 +6,7 @@ use Rattle.crank.proofs.CrankInquiry.ask.Tie as tie
 
 returns : tie.Need-returns
 unfolding crankAskedOf
-returns c = rw (c .before .ask .ensures)
+returns c = rw (c .before .ask .ensures .0)
 
 pub ask-spec : {M : Type 1} → statement M
 ask-spec = tie.close (tie.spec (λ c κs. search needs) returns)

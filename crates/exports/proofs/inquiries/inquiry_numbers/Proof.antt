@@ -10,13 +10,13 @@ use Rattle.exports.proofs.inquiries.inquiry_numbers.Statement.{statemen
 use Rattle.exports.proofs.inquiries.inquiry_numbers.Tie as tie
 
 shown-numbers-requires : tie.Need-shown-numbers-requires
-shown-numbers-requires c κs = subst⁻¹ (λ (a : Asked). Fits (a .list)) (c .ask .ensures) (shown-fits _)
+shown-numbers-requires c κs = subst⁻¹ (λ (a : Asked). Fits (a .list)) (c .ask .ensures .0) (shown-fits _)
 
 returns : tie.Need-returns
 unfolding inquiryNumbers
 returns c =
     let p = c .before .before .before .args .p in
-    c .shown-numbers .ensures ∙ ap (λ (a : Asked). shownNumbers (p .number) (a .asking) (a .place) (a .list)) (c .before .ask .ensures)
+    c .shown-numbers .ensures ∙ ap (λ (a : Asked). shownNumbers (p .number) (a .asking) (a .place) (a .list)) (c .before .ask .ensures .0)
 
 pub inquiry-numbers-spec : {M : Type 1} → statement M
 inquiry-numbers-spec = tie.close (tie.spec (λ c κs. search needs) shown-numbers-requires returns)

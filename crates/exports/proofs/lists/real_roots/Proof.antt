@@ -16,7 +16,7 @@ returns : tie.Need-returns
 returns c = no-doubles _ _ _ (c .before .not-doubles .ensures) (c .if1 .taken)
 
 root-numbers-requires : tie.Need-root-numbers-requires
-root-numbers-requires c κs = subst⁻¹ (λ (a : Answer). Fits (a .roots)) (c .before .real-roots .ensures) (answer-fits _ _)
+root-numbers-requires c κs = subst⁻¹ (λ (a : Answer). Fits (a .roots)) (c .before .real-roots .ensures .0) (answer-fits _ _)
 
 returns-2 : tie.Need-returns-2
 unfolding answerAt
@@ -25,7 +25,7 @@ returns-2 c =
     let numbers = answered .before .before in
     let solved = numbers .before .before in
     let read = solved .before .before in
-    let is = rw (read .short-at .ensures) at (solved .real-roots .ensures) ∙ short-lists _ _ in
+    let is = rw (read .short-at .ensures) at (solved .real-roots .ensures .0) ∙ short-lists _ _ in
     let stored = numbers .root-numbers .ensures ∙ ap (λ (a : Answer). rootNumbers (a .roots)) is in
     of-doubles _ _ _ (read .before .before .not-doubles .ensures) (read .before .if1 .left) (ap (λ (a : Answer). a .number) is) stored
     (answered .answer .ensures)

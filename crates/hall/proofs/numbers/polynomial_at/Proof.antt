@@ -31,7 +31,7 @@ returns c =
     let start = after-f64s-at .before .before .before in
     let s = start .args .s .now in
     let at = start .args .at in
-    c .real-roots .ensures
+    c .real-roots .ensures .0
     ∙ ap (λ (cs : List Float). realRootsOf cs (after-f64-at .f64-at .result)) (f64s-taken (countAt s at) s (at + 11) _ _ (after-f64s-at .f64s-at .ensures))
     ∙ ap (realRootsOf (f64sAt (countAt s at) s (at + 11))) (after-f64-at .f64-at .ensures)
 

@@ -11,7 +11,7 @@ use Rattle.inquiry.proofs.Inquiry.reply.Tie as tie
 with-requires : tie.Need-with-requires
 with-requires c κs =
     let s = c .before .before .before in
-    let on = ap (λ (a : Asked). a .asking) (sym (c .before .before .ask .ensures)) ∙ c .before .if1 .taken in
+    let on = ap (λ (a : Asked). a .asking) (sym (c .before .before .ask .ensures .0)) ∙ c .before .if1 .taken in
     let room =
     asking-room (s .args .self)
     (let h = s .good .0 .1 .1 .1 .1 .1 .1 .0 in search (needs, length-mapped))
@@ -22,10 +22,10 @@ with-requires c κs =
 returns : tie.Need-returns
 returns c =
     let at = c .before .before in
-    rw (c .with .ensures) (reply-taken (at .before .before .args .self) _ (ap (λ (a : Asked). a .asking) (sym (at .before .ask .ensures)) ∙ at .if1 .taken))
+    rw (c .with .ensures) (reply-taken (at .before .before .args .self) _ (ap (λ (a : Asked). a .asking) (sym (at .before .ask .ensures .0)) ∙ at .if1 .taken))
 
 returns-2 : tie.Need-returns-2
-returns-2 c = reply-refused (c .before .before .args .self) _ (ap (λ (a : Asked). a .asking) (sym (c .before .ask .ensures)) ∙ c .if1 .left)
+returns-2 c = reply-refused (c .before .before .args .self) _ (ap (λ (a : Asked). a .asking) (sym (c .before .ask .ensures .0)) ∙ c .if1 .left)
 
 pub reply-spec : {M : Type 1} → statement M
 reply-spec = tie.close (tie.spec (λ c κs. search needs) with-requires returns returns-2)
