@@ -41,7 +41,8 @@ promised g p small D U =
     let P = usable-last g p small D U in
     record { held = f-held s small D F P; leading = f-leading s small D F P; small = f-small s small D F P }
 
-promised-at : (sc : Scaled) (out : Factors) (gap : Split) → sc .d ≤ 4 → Inside (sc .d) gap → secondAt sc out gap .found ≡ true → Promised (secondAt sc out gap .sub)
+promised-at : (sc : Scaled) (out : Factors) (gap : Split) → sc .d ≤ 4 → Inside (sc .d) gap → secondAt sc out gap .found ≡ true
+    → Promised (secondAt sc out gap .sub)
 promised-at sc out (Gap small threshold) D I h =
     let large = largeOf out (sc .d - small) threshold in
     let apart = eqb (degreeOf large) (sc .d - small) in

@@ -26,7 +26,8 @@ use Rattle.factorize.proofs.Degree.{out-degree, degrees-add}
 pub out-fits : (g : List Float) (d : ℕ) (out : Factors) → out ≡ outOf g d → d ≤ 4 → degreeOf out ≤ 4
 out-fits g d out e D = omega (arith, ap degreeOf e, out-degree g d D)
 
-pub gap-inside : (lg : List Float) (d : ℕ) (gap : Split) (small : ℕ) (threshold : Float) → gap ≡ magnitudeSplitOf lg d → gap ≡ Gap small threshold → d ≤ 4 → small < d
+pub gap-inside : (lg : List Float) (d : ℕ) (gap : Split) (small : ℕ) (threshold : Float) → gap ≡ magnitudeSplitOf lg d → gap ≡ Gap small threshold
+    → d ≤ 4 → small < d
 gap-inside lg d gap small threshold e f D = subst (Inside d) (sym e ∙ f) (split-inside lg d D) .1
 
 pub sized : (f : Factors) (want : ℕ) (threshold : Float) (large : Factors) → large ≡ largeOf f want threshold → Sized large

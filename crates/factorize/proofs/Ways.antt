@@ -29,12 +29,14 @@ use Rattle.factorize.specs.Factorize.{pairedOf, quarticFactorsOf, outOf,
 
 -- ---- a quartic
 module _ (b c d e : Float) (quads : QuarticFactor) (far : LoneRoot) (Q : quads ≡ quarticFactorOf b c d e) (I : far ≡ isolatedRootOf quads) (n : Factors) (N : n ≡ noFactors) where
-  pub peeled : (r : Float) (p : Peeled) (k : CubicFactor) (m o f : Factors) → far ≡ lone.At r → p ≡ peelRootOf b c d e r → k ≡ cubicFactorOf (p .h2) (p .h1) (p .h0) → m ≡ pushLinOf n (p .r)
+  pub peeled : (r : Float) (p : Peeled) (k : CubicFactor) (m o f : Factors) → far ≡ lone.At r → p ≡ peelRootOf b c d e r
+      → k ≡ cubicFactorOf (p .h2) (p .h1) (p .h0) → m ≡ pushLinOf n (p .r)
       → o ≡ pushLinOf m (k .r) → f ≡ pushQuadOf o (k .e) (k .f) → f ≡ quarticFactorsOf b c d e
   unfolding quarticFactorsOf pairedOf
   peeled r p k m o f A P K M O F = rw (sym Q, sym I ∙ A) (rw (F, O, M, N, K, P))
 
-  pub in-pairs : (m f : Factors) → far ≡ lone.None → m ≡ pushQuadOf n (quads .al) (quads .be) → f ≡ pushQuadOf m (quads .ga) (quads .de) → f ≡ quarticFactorsOf b c d e
+  pub in-pairs : (m f : Factors) → far ≡ lone.None → m ≡ pushQuadOf n (quads .al) (quads .be) → f ≡ pushQuadOf m (quads .ga) (quads .de)
+      → f ≡ quarticFactorsOf b c d e
   unfolding quarticFactorsOf pairedOf
   in-pairs m f A M F = rw (sym Q, sym I ∙ A) (rw (F, M, N))
 
@@ -79,4 +81,5 @@ module _ (depth : ℕ) (sc : Scaled) (out : Factors) (O : out ≡ outOf (sc .g) 
                 → r ≡ mergedOf large inner e → r ≡ factorizeOf sc depth
             unfolding secondOf factorsFrom factorizeOf
             split-up sub inner r e k B I Z R =
-                rw (left-is, lt-leb (sc .d) 2 l, sym O, sym G ∙ f, rw (N, L) at (eq-eqb n (sc .d - small) q), rw (S, P, L) at (sym U ∙ k)) (R ∙ rw (Z, I, B, S, P, L))
+                rw (left-is, lt-leb (sc .d) 2 l, sym O, sym G ∙ f, rw (N, L) at (eq-eqb n (sc .d - small) q), rw (S, P, L) at (sym U ∙ k))
+                (R ∙ rw (Z, I, B, S, P, L))

@@ -16,7 +16,8 @@ use Rattle.isolated.specs.declared.Best.{Best}
 use Rattle.isolated.specs.declared.Best.the-variants.{NoRoot}
 use Rattle.isolated.specs.declared.Disc.{Disc}
 use Rattle.isolated.specs.declared.LoneRoot.{LoneRoot}
-use Rattle.isolated.specs.Isolated.{discOf, farBy, farRootOf, rootPairOf, distOf, leastOf, greatestOf, judgedOf, bestRootOf, loneOf, isolatedOf, isolatedRootOf}
+use Rattle.isolated.specs.Isolated.{discOf, farBy, farRootOf, rootPairOf, distOf, leastOf, greatestOf, judgedOf}
+use Rattle.isolated.specs.Isolated.{bestRootOf, loneOf, isolatedOf, isolatedRootOf}
 
 -- ---- the isolated root
 

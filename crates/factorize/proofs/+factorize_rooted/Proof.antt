@@ -230,8 +230,8 @@ module _ (t : ℕ) where
       let split = at-magnitude-split .magnitude-split .ensures in
       c .with-discs .ensures ∙ ap rootedOf
       (split-up _ _ _ factors (at-if1 .if1 .left) (at-if2 .if2 .left) _ split _ _ (at-gap .gap .given .1) _ (at-large .large .ensures) _
-      (at-degree .degree .ensures) (at-if3 .if3 .left) _ (at-product .product .ensures) _ (at-quotient .quotient .ensures) _ (at-usable .usable .ensures) _ _ _ _
-      (not-false _ (at-if4 .if4 .left)) (at-new .new .ensures) (the-factors (at-factorize .factorize-rooted .ensures))
+      (at-degree .degree .ensures) (at-if3 .if3 .left) _ (at-product .product .ensures) _ (at-quotient .quotient .ensures) _ (at-usable .usable .ensures)
+      _ _ _ _ (not-false _ (at-if4 .if4 .left)) (at-new .new .ensures) (the-factors (at-factorize .factorize-rooted .ensures))
       (exponent-read _ _ _ (at-new .new .ensures)) (at-merged .merged .ensures))
 
 pub +factorize-rooted-spec : {M : Type 1} → statement M

@@ -11,7 +11,10 @@ use Rattle.layers.proofs.scaling.split_numbers.Statement.{statement}
 use Rattle.layers.proofs.scaling.split_numbers.Tie as tie
 
 small-exact : tie.Need-int-to-float-t5
-small-exact c = let inside = subst (Inside 4) (c .before .before .s .given .1) (c .before .before .before .before .pre) in whole-exact _ (omega (arith, inside .1))
+small-exact c =
+    let told = c .before .before in
+    let inside = subst (Inside 4) (told .s .given .1) (told .before .before .pre) in
+    whole-exact _ (omega (arith, inside .1))
 
 returns : tie.Need-returns
 unfolding splitNumbers
