@@ -1,24 +1,49 @@
 //! Scaling and gaps by the port against the reference build.
 #![cfg(geomcore)]
-use host::compare::{compare_made, say};
+use host::compare::{Same, compare_made, say};
 use host::lent::whole_or_nothing;
 use host::lists::{KINDS, List, list, steps};
 use host::port::exported;
 use host::random::Random;
 use host::reference::patched::poly::{self, Scaled};
+use host::reference::untouched;
 use host::tally::Tally;
 use host::{met, port};
 use std::cell::Cell;
+use std::ops::Range;
 
 const EACH: u64 = 150_000;
 
-/// All numbers of the Rust's answer. lg is read at degree 3 and 4 alone, and the port leaves it at
-/// minus infinity below.
+/// All numbers of the Rust's answer.
 fn scaled((a, d): List) -> [f64; 18] {
     let s = Scaled::new(&a[..=d as usize]);
-    let lg = if d < 3 { [f64::NEG_INFINITY; 5] } else { s.lg };
     let last = [s.d as f64, s.e as f64, s.unit];
-    [&s.f[..], &s.g, &lg, &last].concat().try_into().unwrap()
+    [&s.f[..], &s.g, &s.lg, &last].concat().try_into().unwrap()
+}
+
+/// What is compared of an answer: all of it, but for lg below degree 3, where the Rust has
+/// logarithms that nothing reads and the port minus infinity.
+fn compared(mut x: [f64; 18], d: u64) -> [f64; 18] {
+    if d < 3 {
+        x[LG].fill(0.0);
+    }
+    x
+}
+
+const LG: Range<usize> = 10..15;
+
+/// The port's answer; below degree 3 its lg is minus infinity, five times.
+fn port_scaled((a, d): List) -> [f64; 18] {
+    let x = port::scaled_new(a, d);
+    assert!(d >= 3 || x[LG].iter().all(|&l| l == f64::NEG_INFINITY), "lg at degree {d}: {x:?}");
+    x
+}
+
+/// Below degree 3 the Rust's factors are the same with the port's lg.
+fn unread_lg((a, d): List) -> bool {
+    let s = Scaled::new(&a[..=d as usize]);
+    let bare = Scaled { lg: [f64::NEG_INFINITY; 5], ..Scaled::new(&a[..=d as usize]) };
+    factor_numbers(&s, 0).same(&factor_numbers(&bare, 0))
 }
 
 fn split((lg, d): List) -> [f64; 3] {
@@ -46,9 +71,11 @@ fn scalings() {
         "of degree 2",
         "of degree 3",
         "of degree 4",
+        "with logarithms below degree 3, which are not compared",
     ]);
     let rust = |(a, d): List| {
         let x = scaled((a, d));
+        assert!(d >= 3 || unread_lg((a, d)), "{a:?} of degree {d}: lg is read");
         let (e, unit) = (x[16], x[17]);
         let has = |size: f64| a.iter().any(|v| v.abs() == size);
         tally.add(&[
@@ -67,12 +94,14 @@ fn scalings() {
             d == 2,
             d == 3,
             d == 4,
+            d < 3 && x[LG].iter().any(|l| l.is_finite()),
         ]);
         // 2^2098 lies between any two doubles: the Rust's bound of 4000 is never met
         assert!(e.abs() <= 2098.0);
-        x
+        compared(x, d)
     };
-    compare_made("Scaled::new", 601, (&KINDS, EACH), list, |(a, d)| port::scaled_new(a, d), rust);
+    let port = |(a, d)| compared(port_scaled((a, d)), d);
+    compare_made("Scaled::new", 601, (&KINDS, EACH), list, port, rust);
     tally.say("Scaled::new");
 }
 
@@ -116,13 +145,20 @@ fn splits() {
     gaps("magnitude_split", &tally);
 }
 
-/// Logarithms that no list has: off the grid, above the degree, and not finite.
+/// Logarithms that no list has: off the grid, above the degree, of any bits, and not finite.
 #[test]
 fn splits_of_made_logarithms() {
-    const MADE: [&str; 4] =
-        ["on the grid", "a little beside it", "of whole numbers", "of doubles up to 2^1000"];
+    const MADE: [&str; 6] = [
+        "on the grid",
+        "a little beside it",
+        "of whole numbers",
+        "of doubles up to 2^1000",
+        "of any doubles",
+        "of edges and the largest doubles",
+    ];
     let tally = Tally::new(&SPLITS);
     let exact = Cell::new(0);
+    let far = Tally::new(&["with threshold 0", "with an infinite one", "with no middle"]);
     let make = |r: &mut Random, which, _| {
         let d = r.below(5);
         let mut lg =
@@ -132,7 +168,10 @@ fn splits_of_made_logarithms() {
                 0 => *l,
                 1 => f64::from_bits(l.to_bits().wrapping_add(r.below(3)).wrapping_sub(1)),
                 2 => r.below(60) as f64 - 30.0,
-                _ => r.any() / (1u64 << 24) as f64,
+                3 => r.any() / (1u64 << 24) as f64,
+                4 => r.any(),
+                _ if r.below(2) == 0 => r.edge(),
+                _ => f64::MAX.copysign(r.below(2) as f64 - 0.5),
             };
             if r.below(16) == 0 {
                 *l = [f64::NAN, f64::INFINITY, f64::NEG_INFINITY, 0.0][r.below(4) as usize];
@@ -145,19 +184,37 @@ fn splits_of_made_logarithms() {
         add_split(&tally, d, x);
         let slopes = (lg[0] - lg[1], lg[1] - lg[2]);
         exact.set(exact.get() + (d >= 2 && slopes.1 - slopes.0 == 8.0) as u64);
+        let apart = slopes == (f64::NEG_INFINITY, f64::INFINITY);
+        far.add(&[x[0] == 1.0 && x[2] == 0.0, x[2].is_infinite(), d == 2 && x[0] == 1.0 && apart]);
         x
     };
     let port = |(lg, d)| port::magnitude_split(lg, d);
     compare_made("magnitude_split", 603, (&MADE, EACH), make, port, rust);
     gaps("made logarithms", &tally);
+    far.say("made logarithms");
     say(&format!("made logarithms: {} with 8 bits from the first edge to the second", exact.get()));
     assert!(exact.get() > 0);
 }
 
-fn factors(((a, d), depth): (List, u32)) -> [f64; 10] {
-    let f = poly::factorize(&Scaled::new(&a[..=d as usize]), depth);
+/// Slopes that are infinite both ways have no middle: document 01 names no k, the reference build
+/// and the port take 0 for it, and the untouched Rust answers NaN.
+#[test]
+fn split_with_no_middle() {
+    let list = ([-f64::MAX, f64::MAX, -f64::MAX, 0.0, 0.0], 2);
+    assert_eq!(split(list), [1.0, 1.0, 1.0]);
+    assert_eq!(port::magnitude_split(list.0, list.1), [1.0, 1.0, 1.0]);
+    let (small, threshold) = untouched::poly::magnitude_split(&list.0, 2).unwrap();
+    assert!(small == 1 && threshold.is_nan());
+}
+
+fn factor_numbers(s: &Scaled, depth: u32) -> [f64; 10] {
+    let f = poly::factorize(s, depth);
     let (lin, quad) = (f.lin, f.quad.map(|(al, be)| [al, be]));
     [&[f.nlin as f64], &lin[..], &[f.nquad as f64], &quad[0], &quad[1]].concat().try_into().unwrap()
+}
+
+fn factors(((a, d), depth): (List, u32)) -> [f64; 10] {
+    factor_numbers(&Scaled::new(&a[..=d as usize]), depth)
 }
 
 /// Compares over `each` lists of every kind, made at a depth, and says which ways the Rust went.
