@@ -26,10 +26,10 @@ with-demand coeffs tol r is = (is, subst⁻¹ (λ (a : Answer). Within (degreeLe
 
 returns : tie.Need-returns
 returns c =
-    let solved = c .before .before .solve-by in
     with-demand _ _ _
-    (answer-is _ _ _ _ (solved .ensures .1)
-    (c .unscaled-all .ensures ∙ ap (λ (z : ℤ). rootsOf (unscaledAll z (listOf (solved .result .roots)))) (toZ-ofZ (search needs))))
+    (answer-is _ _ _ _ (c .before .before .solve-by .ensures .1)
+    (c .unscaled-all .ensures
+    ∙ ap (λ (z : ℤ). rootsOf (unscaledAll z (listOf (c .before .before .solve-by .result .roots)))) (toZ-ofZ (search needs))))
 
 pub real-roots-spec : {M : Type 1} → statement M
 real-roots-spec = tie.close (tie.spec (λ c κs. search needs) unscaled-all-requires returns)
