@@ -31,6 +31,11 @@ module _ {A : Type 0} where
   walked [] (ask x k) = asks x
   walked (r ∷ rs) (ask x k) = walked rs (k r)
 
+  -- the replies that were not needed: at a question every one was
+  unfoldable pub leftBy : Stage A → List Bool
+  leftBy (asks x) = []
+  leftBy (ended a rs) = rs
+
 module _ {A B : Type 0} where
   -- t, and then k of what it gives
   infixl 20 _then_

@@ -1,5 +1,5 @@
--- The list that an inquiry shows has at most four roots, which count at most four times, whatever the inquiry is. Assumes nothing.
-use mathlib.Core.Path.{_≡_, refl}
+-- The list that an inquiry shows has at most four roots, which count at most four times, whatever the inquiry is; `see` shows it too.
+use mathlib.Core.Path.{_≡_, refl, subst}
 use mathlib.Core.Bool.{Bool, true, false, cond}
 use mathlib.Core.List.{List, []}
 use Prim.Native.Nat.{ℕ, _+_, _-_, _*_, _≤_, _<_}
@@ -15,9 +15,10 @@ use Rattle.asking.specs.Within.{AtStage}
 use Rattle.asking.proofs.Within.{walked-within}
 use Rattle.touching.specs.Replies.{repliesOf}
 use Rattle.touching.proofs.Bound.{ListedIn, touching-within}
-use Rattle.inquiry.specs.declared.Asked.{Asked}
 use Rattle.inquiry.specs.declared.Inquiry.{Inquiry}
-use Rattle.inquiry.specs.Inquiry.{soundOf, asking, shown, nothing, askedOf}
+use Rattle.inquiry.specs.declared.Asked.{Asked}
+use Rattle.inquiry.specs.declared.Seen.{Seen}
+use Rattle.inquiry.specs.Inquiry.{soundOf, asking, shown, nothing, seenAt, unseen, askedOf, seenOf}
 use Rattle.inquiry.proofs.Sound.{sound-is}
 
 stage-fits : (d : ℕ) (X : Type 0) (s : Stage (List RealRoot)) → d ≤ 4 → AtStage X (ListedIn d) s → Fits (shown s .list)
@@ -59,3 +60,14 @@ shown-fits = shown-by (λ a. Fits (a .list)) (refl, omega arith) stage-fits
 
 pub shown-within : (q : Inquiry) → Within 4 (listOf (askedOf q .list))
 shown-within = shown-by (λ a. Within 4 (listOf (a .list))) (within-more 0 4 [] (omega arith) within-none) stage-within
+
+pub asked-seen : (q : Inquiry) → askedOf q ≡ seenOf q .asked
+unfolding askedOf seenOf
+asked-seen q = go (soundOf q) (seenAt (walked (repliesOf (q .replies)) (asking q))) unseen
+  where
+    go : (b : Bool) (s u : Seen) → cond b (s .asked) (u .asked) ≡ cond b s u .asked
+    go true s u = refl
+    go false s u = refl
+
+pub seen-fits : (q : Inquiry) → Fits (seenOf q .asked .list)
+seen-fits q = subst (λ (a : Asked). Fits (a .list)) (asked-seen q) (shown-fits q)

@@ -21,37 +21,42 @@ use Rattle.poly.specs.Coefficients.{degreeLeft}
 use Rattle.poly.specs.Solve.{solveOf}
 use Rattle.poly.proofs.Sums.{solved-shared, solved-fits}
 use Rattle.asking.specs.Asking.{Asking, answered, placesAsked, walked, asks}
-use Rattle.asking.specs.Within.{Within}
+use Rattle.asking.specs.Within.{Within, AtStage}
 use Rattle.asking.proofs.Feeding.{question, finish}
-use Rattle.asking.proofs.Within.{answered-within, places-within}
+use Rattle.asking.proofs.Within.{answered-within, places-within, walked-within}
 use Rattle.touching.specs.Replies.{repliesOf}
 use Rattle.touching.proofs.Bound.{ListedIn, touching-within}
 use Rattle.inquiry.specs.declared.Inquiry.{Inquiry}
 use Rattle.inquiry.specs.declared.Asked.{Asked}
-use Rattle.inquiry.specs.Inquiry.{soundOf, asking, shown, nothing, askedOf, withReply, repliedOf}
+use Rattle.inquiry.specs.declared.Seen.{Seen}
+use Rattle.inquiry.specs.Inquiry.{soundOf, asking, shown, seenAt, unseen, askedOf, seenOf, withReply, repliedOf}
 use Rattle.inquiry.specs.Start.{realRootsTouching, startOf, fed}
 use Rattle.inquiry.specs.Claims.{Fed}
 use Rattle.inquiry.proofs.Sound.{Sound, sound-is, sound-holds}
+use Rattle.inquiry.proofs.Shown.{asked-seen}
 use Rattle.inquiry.proofs.Questions.{reply-taken, reply-refused}
 use Rattle.inquiry.proofs.Fresh.{start-sound, start-asks}
 
 -- ---- an inquiry with some replies
 -- p asks what t asks, has these replies, and is sound
-record Has (t : Asking (List RealRoot)) (rs : List Bool) (p : Inquiry) : Type 0 where
-  asks-it : asking p ≡ t
-  has : repliesOf (p .replies) ≡ rs
-  array : length (p .replies .reply) ≡ 4
-  count : p .replies .count ≡ length rs
-  sound : soundOf p ≡ true
+pub record Has (t : Asking (List RealRoot)) (rs : List Bool) (p : Inquiry) : Type 0 where
+  pub asks-it : asking p ≡ t
+  pub has : repliesOf (p .replies) ≡ rs
+  pub array : length (p .replies .reply) ≡ 4
+  pub count : p .replies .count ≡ length rs
+  pub sound : soundOf p ≡ true
 
-has-asked : (t : Asking (List RealRoot)) (p : Inquiry) (rs : List Bool) → Has t rs p → askedOf p ≡ shown (walked rs t)
-unfolding askedOf
-has-asked t p rs h =
-    sym (if-taken (shown (walked (repliesOf (p .replies)) (asking p))) nothing (h .sound) refl)
-    ∙ ap (λ (u : Asking (List RealRoot)). shown (walked (repliesOf (p .replies)) u)) (h .asks-it)
-    ∙ ap (λ (l : List Bool). shown (walked l t)) (h .has)
+pub has-seen : (t : Asking (List RealRoot)) (p : Inquiry) (rs : List Bool) → Has t rs p → seenOf p ≡ seenAt (walked rs t)
+unfolding seenOf
+has-seen t p rs h =
+    sym (if-taken (seenAt (walked (repliesOf (p .replies)) (asking p))) unseen (h .sound) refl)
+    ∙ ap (λ (u : Asking (List RealRoot)). seenAt (walked (repliesOf (p .replies)) u)) (h .asks-it)
+    ∙ ap (λ (l : List Bool). seenAt (walked l t)) (h .has)
 
-has-more : (t : Asking (List RealRoot)) (p : Inquiry) (rs : List Bool) (r : Bool) → length rs < 4 → Has t rs p → Has t (rs ++ r ∷ []) (withReply p r)
+pub has-asked : (t : Asking (List RealRoot)) (p : Inquiry) (rs : List Bool) → Has t rs p → askedOf p ≡ shown (walked rs t)
+has-asked t p rs h = asked-seen p ∙ ap (λ (s : Seen). s .asked) (has-seen t p rs h)
+
+pub has-more : (t : Asking (List RealRoot)) (p : Inquiry) (rs : List Bool) (r : Bool) → length rs < 4 → Has t rs p → Has t (rs ++ r ∷ []) (withReply p r)
 has-more t p rs r room h =
     let s = sound-is p (h .sound) in
     let n = h .count in
@@ -108,7 +113,7 @@ module _ (touches : Float → Bool) (t : Asking (List RealRoot)) (q : Inquiry) (
       ∙ ap (λ (l : List Float). shown (walked (map touches l) t)) (take-length xs)
 
 -- ---- the bounds
-module _ (touches : Float → Bool) (coeffs : List Float) (tol : Float) where
+module _ (coeffs : List Float) (tol : Float) where
   abbrev most : ℕ
   most = (length (listOf (solveOf coeffs tol .roots)) + 2 * length (pairListOf (solveOf coeffs tol .pairs))) - 1
 
@@ -135,22 +140,31 @@ module _ (touches : Float → Bool) (coeffs : List Float) (tol : Float) where
       let degree = s .sum in
       (omega (arith, each, pairs, four), omega (arith, each, degree), omega (arith, pairs, four), omega (arith, degree))
 
-  asked-most : length (placesAsked touches (realRootsTouching coeffs tol)) ≤ most
-  asked-most = places-within (λ m l. ListedIn total l) touches most (realRootsTouching coeffs tol) bounds
-
-  start-has : Has (realRootsTouching coeffs tol) [] (startOf coeffs tol .inquiry)
+  pub start-has : Has (realRootsTouching coeffs tol) [] (startOf coeffs tol .inquiry)
   unfolding startOf
   start-has = record { asks-it = start-asks coeffs tol; has = refl; array = refl; count = refl; sound = start-sound coeffs tol }
+
+  -- replies that lead to a question are at most two
+  pub start-room : (rs : List Bool) (x : Float) → walked rs (realRootsTouching coeffs tol) ≡ asks x → length rs < 3
+  start-room rs x e =
+      let t = realRootsTouching coeffs tol in
+      let h = subst (AtStage (length rs < most) (ListedIn total)) e (walked-within (ListedIn total) rs most t bounds) in
+      omega (arith, h, sizes .0)
+
+-- ---- for a function
+module _ (touches : Float → Bool) (coeffs : List Float) (tol : Float) where
+  asked-most : length (placesAsked touches (realRootsTouching coeffs tol)) ≤ most coeffs tol
+  asked-most = places-within (λ m l. ListedIn (total coeffs tol) l) touches (most coeffs tol) (realRootsTouching coeffs tol) (bounds coeffs tol)
 
   pub start-fed : Fed touches (startOf coeffs tol .inquiry) coeffs tol
   unfolding shown
   start-fed =
       let t = realRootsTouching coeffs tol in
       let q = startOf coeffs tol .inquiry in
-      let few : length (placesAsked touches t) ≤ 3 = omega (arith, asked-most, sizes .0) in
-      let end = ends-with touches t q start-has few ∙ ap shown (finish touches t) in
+      let few : length (placesAsked touches t) ≤ 3 = omega (arith, asked-most, sizes coeffs tol .0) in
+      let end = ends-with touches t q (start-has coeffs tol) few ∙ ap shown (finish touches t) in
       record {
-        question = asks-at touches t q start-has few;
+        question = asks-at touches t q (start-has coeffs tol) few;
         finished = end;
         over = λ r. sym (reply-refused (fed touches (length (placesAsked touches t)) q) r (ap (λ (a : Asked). a .asking) end));
       }
@@ -158,10 +172,10 @@ module _ (touches : Float → Bool) (coeffs : List Float) (tol : Float) where
   pub start-list : roots.Within (degreeLeft coeffs) (answered touches (realRootsTouching coeffs tol))
   start-list =
       let l = answered touches (realRootsTouching coeffs tol) in
-      let h = answered-within (ListedIn total) touches most (realRootsTouching coeffs tol) bounds in
+      let h = answered-within (ListedIn (total coeffs tol)) touches (most coeffs tol) (realRootsTouching coeffs tol) (bounds coeffs tol) in
       let each = length-counted l (counted l (h .0)) in
-      record { four = omega (arith, each, h .1, sizes .2); listed = h .0; sum = omega (arith, h .1, sizes .3) }
+      record { four = omega (arith, each, h .1, sizes coeffs tol .2); listed = h .0; sum = omega (arith, h .1, sizes coeffs tol .3) }
 
   -- at most degree - 1 questions
   pub start-most : length (placesAsked touches (realRootsTouching coeffs tol)) ≤ degreeLeft coeffs - 1
-  start-most = omega (arith, asked-most, sizes .1)
+  start-most = omega (arith, asked-most, sizes coeffs tol .1)

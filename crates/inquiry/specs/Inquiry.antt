@@ -6,11 +6,12 @@ use lib.Dec.{ltb, leb}
 use Rattle.float.specs.Literals.{zero64}
 use Rattle.roots.specs.declared.RealRoot.{RealRoot}
 use Rattle.roots.specs.Roots.{listOf, rootsOf, noRoots, pairListOf}
-use Rattle.asking.specs.Asking.{Asking, Stage, asks, ended, walked}
+use Rattle.asking.specs.Asking.{Asking, Stage, asks, ended, walked, leftBy}
 use Rattle.touching.specs.Touching.{touching}
 use Rattle.touching.specs.Replies.{repliesOf, repliedBy}
 use Rattle.inquiry.specs.declared.Inquiry.{Inquiry}
 use Rattle.inquiry.specs.declared.Asked.{Asked}
+use Rattle.inquiry.specs.declared.Seen.{Seen}
 use Rattle.inquiry.specs.declared.Replied.{Replied}
 
 -- ---- which values ask
@@ -47,6 +48,23 @@ nothing = record { asking = false; place = zero64; list = noRoots }
 unfoldable pub askedOf : Inquiry → Asked
 unfolding soundOf shown
 askedOf q = cond (soundOf q) (shown (walked (repliesOf (q .replies)) (asking q))) nothing
+
+-- ---- the same for replies that were put in at once
+-- the number of the last one, by those that were not needed: 0, or refusal 4
+unfoldable pub overBy : List Bool → ℕ
+overBy [] = 0
+overBy (r ∷ rs) = 4
+
+abbrev pub seenAt : Stage (List RealRoot) → Seen
+seenAt s = record { number = overBy (leftBy s); asked = shown s }
+
+abbrev pub unseen : Seen
+unseen = record { number = 0; asked = nothing }
+
+-- `see`; a value that is not sound asks nothing
+unfoldable pub seenOf : Inquiry → Seen
+unfolding soundOf shown overBy
+seenOf q = cond (soundOf q) (seenAt (walked (repliesOf (q .replies)) (asking q))) unseen
 
 -- ---- a reply
 -- the inquiry with one reply more

@@ -10,7 +10,7 @@ ghost use Rattle.asking.specs.Asking.{asks, walked};
 ghost use Rattle.touching.specs.Touching.{chained, touching};
 ghost use Rattle.touching.specs.Replies.{repliesOf};
 ghost use Rattle.touching.specs.Walk.{leftOf, RepliesFit, Held};
-ghost use Rattle.inquiry.specs.Inquiry.{countedIn, sizesFit, soundOf, shown, nothing, askedOf, repliedOf};
+ghost use Rattle.inquiry.specs.Inquiry.{countedIn, sizesFit, soundOf, overBy, seenAt, unseen, askedOf, seenOf, repliedOf};
 ghost use Rattle.inquiry.specs.Start.{startOf};
 use touching::chains::chains;
 use touching::chains::emit;
@@ -38,32 +38,51 @@ pub struct Asked {
     pub list: roots::Roots,
 }
 
+// What is shown; number is 0, or 4 where a reply was not needed: the last one's, had they come one by one.
+pub struct Seen {
+    pub number: u32,
+    pub asked: Asked,
+}
+
 // The inquiry after a reply; number is 0, or 4 where nothing was being asked.
 pub struct Replied {
     pub number: u32,
     pub inquiry: Inquiry,
 }
 
-fn nothing() -> Asked
-    ensures { λ r. ⌜ r ≡ nothing ⌝ }
+fn nothing() -> Seen
+    ensures { λ r. ⌜ r ≡ unseen ⌝ }
 {
     let none = roots::Roots::none();
-    Asked {
+    let asked = Asked {
         asking: false,
         place: 0.0,
         list: none,
-    }
+    };
+    Seen { number: 0, asked }
 }
 
-fn question(place: f64) -> Asked
-    ensures { λ r. ⌜ r ≡ shown (asks place) ⌝ }
+fn question(place: f64) -> Seen
+    ensures { λ r. ⌜ r ≡ seenAt (asks place) ⌝ }
 {
     let none = roots::Roots::none();
-    Asked {
+    let asked = Asked {
         asking: true,
         place,
         list: none,
+    };
+    Seen { number: 0, asked }
+}
+
+// The last reply's number, where a walk ends after `used` of them.
+fn over(replies: touching::Replies, used: usize) -> u32
+    requires { ⌜ RepliesFit replies ⌝ }
+    ensures { λ r. ⌜ r ≡ overBy (leftOf replies used) ⌝ }
+{
+    if used < replies.count {
+        return 4;
     }
+    0
 }
 
 fn finished(
@@ -72,9 +91,9 @@ fn finished(
     replies: touching::Replies,
     its: roots::Roots,
     used: usize,
-) -> Asked
+) -> Seen
     requires { ⌜ (poly .d ≤ 4) × RepliesFit replies × Fits its × (multiplicities (listOf its) ≤ 4) ⌝ }
-    ensures { λ r. ⌜ r ≡ shown (walked (leftOf replies used) (chained poly tol (listOf its))) ⌝ }
+    ensures { λ r. ⌜ r ≡ seenAt (walked (leftOf replies used) (chained poly tol (listOf its))) ⌝ }
 {
     let w = chains(poly, tol, replies, its, used);
     if w.asking {
@@ -83,11 +102,13 @@ fn finished(
     let out = w.out;
     let chain = w.chain;
     let list = emit(poly.e, out, chain);
-    Asked {
+    let asked = Asked {
         asking: false,
         place: 0.0,
         list,
-    }
+    };
+    let number = over(replies, w.used);
+    Seen { number, asked }
 }
 
 // Each root counts at least once, and together they count at most `most` times.
@@ -127,16 +148,16 @@ fn sizes_fit(d: usize, replies: usize, roots: usize, pairs: usize) -> bool
     pairs <= 2
 }
 
-// The question, or the finished list.
+// The question, or the finished list, and whether every reply was needed.
 fn walk_all(
     poly: scaled::Scaled,
     tol: f64,
     replies: touching::Replies,
     items: roots::Roots,
     ps: roots::Pairs,
-) -> Asked
+) -> Seen
     requires { ⌜ Held (poly .d) replies items ps ⌝ }
-    ensures { λ r. ⌜ r ≡ shown (walked (repliesOf replies) (touching poly tol (listOf items) (pairListOf ps))) ⌝ }
+    ensures { λ r. ⌜ r ≡ seenAt (walked (repliesOf replies) (touching poly tol (listOf items) (pairListOf ps))) ⌝ }
 {
     let w = pairs(poly, tol, replies, items, ps);
     if w.asking {
@@ -194,6 +215,14 @@ impl Inquiry {
     // Whatever the inquiry is, a list has at most four finite roots, each counting at least once, together at most four times.
     pub fn ask(self) -> Asked
         ensures { λ r. ⌜ (r ≡ askedOf self) × Within 4 (listOf (r .list)) ⌝ }
+    {
+        let s = self.see();
+        s.asked
+    }
+
+    // The same, and whether every reply was needed, for replies that were put in at once.
+    pub fn see(self) -> Seen
+        ensures { λ r. ⌜ r ≡ seenOf self ⌝ }
     {
         if self.is_sound() {
             let poly = self.poly;

@@ -18,9 +18,19 @@ returns c = c .question .ensures ∙ finish-asks _ _ _ _ _ _ _ _ (c .before .bef
 emit-requires : tie.Need-emit-requires
 emit-requires c κs = let walk = c .before .before .before .before .chains .ensures in (walk .1, walk .2)
 
+over-requires : tie.Need-over-requires
+over-requires c κs = c .before .before .before .before .before .before .pre .1
+
 returns-2 : tie.Need-returns-2
-returns-2 c = let s = c .before .before .before .before .before .before in let fits : SFits w32 (s .args .poly .e) = (let h = s .good .0 .1 .1 .1 .1 .1 .1 .0 in search needs) in let fit = toZ-ofZ fits in let out = rw fit at (c .emit .ensures) in finish-ends _ _ _ _ _ _ _ _ (c .before .before .before .before .before .chains .ensures .0) _ (c .before .before .before .before .if1 .left) (out .1 .0 ∙ ap rootsOf (out .0))
+returns-2 c =
+    let emitted = c .before in
+    let at = emitted .before .before .before .before .before in
+    let s = at .before in
+    let fits : SFits w32 (s .args .poly .e) = (let h = s .good .0 .1 .1 .1 .1 .1 .1 .0 in search needs) in
+    let out = rw (toZ-ofZ fits) at (emitted .emit .ensures) in
+    finish-ends _ _ _ _ _ _ _ _ (at .chains .ensures .0) _ _
+    (emitted .before .before .before .before .if1 .left) (out .1 .0 ∙ ap rootsOf (out .0)) (c .over .ensures)
 
 pub finished-spec : {M : Type 1} → statement M
 finished-spec =
-    tie.close (tie.spec chains-requires (λ c κs. search needs) returns emit-requires returns-2)
+    tie.close (tie.spec chains-requires (λ c κs. search needs) returns emit-requires over-requires returns-2)

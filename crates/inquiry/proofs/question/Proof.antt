@@ -1,11 +1,12 @@
 -- `question` is its definition. Assumes nothing.
-use Rattle.inquiry.specs.Inquiry.{shown}
+use Rattle.asking.specs.Asking.{leftBy}
+use Rattle.inquiry.specs.Inquiry.{shown, overBy}
 use borrow.Author.Needs.{needs}
 use Rattle.inquiry.proofs.question.Statement.{statement}
 use Rattle.inquiry.proofs.question.Tie as tie
 
 returns : tie.Need-returns
-unfolding shown
+unfolding shown leftBy overBy
 returns c = rw (c .none .ensures)
 
 pub question-spec : {M : Type 1} → statement M
