@@ -1,4 +1,4 @@
--- What a crank's inquiry shows.
+-- The numbers of a crank's inquiry.
 -- Assumes nothing.
 use mathlib.Core.Path.{_≡_}
 use mathlib.Core.Bool.{Bool}
@@ -7,17 +7,9 @@ use Prim.Native.Nat.{ℕ}
 use lib.ListN.{getD}
 use lib.Ieee.{Float, nan}
 use Rattle.roots.specs.declared.Roots.{Roots}
-use Rattle.roots.specs.Listed.{Fits}
-use Rattle.crank.specs.declared.CrankInquiry.{CrankInquiry}
-use Rattle.crank.specs.Crank.{crankAskedOf}
 use Rattle.lent.specs.Numbers.{number}
-use Rattle.inquiry.proofs.Shown.{shown-fits}
 use Rattle.clusters.specs.Clustering.{rootNumbers}
 use Rattle.exports.specs.Inquiries.{shownNumbers}
-
-pub crank-fits : (c : CrankInquiry) → Fits (crankAskedOf c .list)
-unfolding crankAskedOf
-crank-fits c = shown-fits (c .inquiry)
 
 -- k before the numbers of an inquiry, in an array
 pub crank-is : (k n : ℕ) (asks : Bool) (place : Float) (list : Roots) (l : List Float) → l ≡ shownNumbers n asks place list

@@ -2,3 +2,4 @@
 pub mod Listing
 pub mod Feeding
 pub mod Crank
+pub mod Once

@@ -8,7 +8,7 @@ use Rattle.crank.specs.declared.CrankStarted.{CrankStarted}
 use Rattle.crank.specs.declared.CrankReplied.{CrankReplied}
 use Rattle.crank.specs.Crank.{crankAskedOf, crankRepliedOf}
 use Rattle.lent.specs.Numbers.{number}
-use Rattle.exports.specs.Inquiries.{eachReply, shownNumbers}
+use Rattle.exports.specs.Inquiries.{eachReply, shownNumbers, numbersAfter}
 
 abbrev pub nextCrank : CrankReplied → Bool → CrankReplied
 nextCrank p reply = crankRepliedOf (p .crank) reply
@@ -23,3 +23,7 @@ crankNumbers p = let a = crankAskedOf (p .crank) in number (a .k) ∷ shownNumbe
 
 abbrev pub shownAfter : List ℕ → CrankStarted → List Float
 shownAfter rs s = crankNumbers (crankFedAll rs (s .crank))
+
+-- the same with the replies put in at once
+abbrev pub crankNumbersAfter : List ℕ → CrankInquiry → List Float
+crankNumbersAfter rs c = number (c .k) ∷ numbersAfter rs (c .inquiry)

@@ -1,14 +1,18 @@
 -- What the export for inquiries stores, and its answer. Definitions only.
-use mathlib.Core.Bool.{Bool, not}
+use mathlib.Core.Bool.{Bool, false, not}
 use mathlib.Core.List.{List, [], _∷_}
 use Prim.Native.Nat.{ℕ}
 use lib.Dec.{eqb}
+use lib.ListN.{take, replicate}
 use lib.Ieee.{Float}
 use Rattle.roots.specs.declared.Roots.{Roots}
+use Rattle.touching.specs.declared.Replies.{Replies}
+use Rattle.touching.specs.Replies.{repliedBy}
 use Rattle.inquiry.specs.declared.Inquiry.{Inquiry}
 use Rattle.inquiry.specs.declared.Started.{Started}
 use Rattle.inquiry.specs.declared.Replied.{Replied}
-use Rattle.inquiry.specs.Inquiry.{askedOf, repliedOf}
+use Rattle.inquiry.specs.declared.Seen.{Seen}
+use Rattle.inquiry.specs.Inquiry.{askedOf, repliedOf, seenOf}
 use Rattle.inquiry.specs.Start.{startOf}
 use Rattle.lent.specs.Bytes.{unless}
 use Rattle.lent.specs.Numbers.{number, flagOf}
@@ -54,3 +58,20 @@ inquiryRefusal s tol = unless 0 (notDoubles s) (startAt s tol .number)
 
 abbrev pub shownAt : List ℕ → Float → List ℕ → List Float
 shownAt s tol rs = unless [] (notDoubles s) (inquiryNumbers (fedAll rs (startAt s tol .inquiry)))
+
+-- ---- the same with the replies put in at once, which proofs/Once.antt shows
+abbrev pub noReplies : Replies
+noReplies = record { reply = replicate 4 false; count = 0 }
+
+-- at most three questions are asked, so that the fourth reply is refused, if it is there, and each after it
+unfoldable pub firstReplies : List ℕ → Replies
+firstReplies rs = eachReply repliedBy (take 4 rs) noReplies
+
+abbrev pub given : Inquiry → Replies → Inquiry
+given q s = record { poly = q .poly; tol = q .tol; roots = q .roots; pairs = q .pairs; replies = s }
+
+abbrev pub seenNumbers : Seen → List Float
+seenNumbers s = let a = s .asked in shownNumbers (s .number) (a .asking) (a .place) (a .list)
+
+unfoldable pub numbersAfter : List ℕ → Inquiry → List Float
+numbersAfter rs q = seenNumbers (seenOf (given q (firstReplies rs)))

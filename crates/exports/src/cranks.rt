@@ -3,34 +3,17 @@
 ghost use mathlib.Core.Path.{_≡_};
 ghost use Rattle.crank.specs.Crank.{crankStartOf};
 ghost use Rattle.lent.specs.Bytes.{Answered};
-ghost use Rattle.exports.specs.Cranks.{crankFedAll, crankNumbers, shownAfter};
-use crate::inquiries::shown_numbers;
+ghost use Rattle.exports.specs.Cranks.{crankNumbersAfter, shownAfter};
+use crate::inquiries::numbers_after;
 use crank::CrankInquiry;
-use crank::CrankReplied;
 use lent::answer;
 
-// Each reply in turn.
-fn crank_fed(crank: CrankInquiry, replies: &[u8]) -> CrankReplied
-    ensures { λ r. ⌜ r ≡ crankFedAll (now (replies .entry)) crank ⌝ }
+fn crank_numbers_after(crank: CrankInquiry, replies: &[u8]) -> [f64; 13]
+    ensures { λ r. ⌜ r ≡ crankNumbersAfter (now (replies .entry)) crank ⌝ }
 {
-    let mut p = CrankReplied { number: 0, crank };
-    let mut i = 0;
-    while i < replies.len() {
-        let c = p.crank;
-        p = c.reply(replies[i] != 0);
-        i += 1;
-    }
-    p
-}
-
-fn crank_numbers(p: CrankReplied) -> [f64; 13]
-    ensures { λ r. ⌜ r ≡ crankNumbers p ⌝ }
-{
-    let c = p.crank;
-    let a = c.ask();
-    let shown = shown_numbers(p.number, a.asking, a.place, a.list);
+    let shown = numbers_after(crank.inquiry, replies);
     [
-        a.k as f64,
+        crank.k as f64,
         shown[0],
         shown[1],
         shown[2],
@@ -60,6 +43,5 @@ pub extern "C" fn crank_inquire(
     ensures { λ r. ⌜ Answered (crankStartOf confusion a2 b2 c1 d1 e .number) (shownAfter (now (replies .entry)) (crankStartOf confusion a2 b2 c1 d1 e)) (now (out .entry)) r (now (out .exit)) ⌝ }
 {
     let s = crank::start(confusion, a2, b2, c1, d1, e);
-    let p = crank_fed(s.crank, replies);
-    answer(out, s.number, &crank_numbers(p))
+    answer(out, s.number, &crank_numbers_after(s.crank, replies))
 }

@@ -4,32 +4,37 @@
 ghost use mathlib.Core.Path.{_≡_};
 ghost use Rattle.roots.specs.Listed.{Fits};
 ghost use Rattle.lent.specs.Bytes.{Answered};
-ghost use Rattle.exports.specs.Inquiries.{fedAll, shownNumbers, inquiryNumbers, inquiryRefusal, shownAt};
+ghost use Rattle.exports.specs.Inquiries.{shownNumbers, firstReplies, numbersAfter, inquiryRefusal, shownAt};
 use crate::lists::not_doubles;
 use clusters::root_numbers;
 use coefficients::short_at;
 use inquiry::Inquiry;
-use inquiry::Replied;
 use lent::answer;
 use lent::flag;
 use roots::Roots;
+use touching::Replies;
 
-// Each reply in turn.
-fn fed(inquiry: Inquiry, replies: &[u8]) -> Replied
-    ensures { λ r. ⌜ r ≡ fedAll (now (replies .entry)) inquiry ⌝ }
+// Those after the first four are left out: at most three questions are asked, so that each is refused, as the fourth is.
+fn first_replies(replies: &[u8]) -> Replies
+    ensures { λ r. ⌜ r ≡ firstReplies (now (replies .entry)) ⌝ }
 {
-    let mut p = Replied { number: 0, inquiry };
+    let mut first = Replies {
+        reply: [false; 4],
+        count: 0,
+    };
     let mut i = 0;
-    while i < replies.len() {
-        let q = p.inquiry;
-        p = q.reply(replies[i] != 0);
+    while i < 4 {
+        if replies.len() <= i {
+            return first;
+        }
+        first = first.with(replies[i] != 0);
         i += 1;
     }
-    p
+    first
 }
 
 // The last reply's number, whether there is a question, its place, and the list.
-pub fn shown_numbers(number: u32, asks: bool, place: f64, list: Roots) -> [f64; 12]
+fn shown_numbers(number: u32, asks: bool, place: f64, list: Roots) -> [f64; 12]
     requires { ⌜ Fits list ⌝ }
     ensures { λ r. ⌜ r ≡ shownNumbers number asks place list ⌝ }
 {
@@ -51,12 +56,16 @@ pub fn shown_numbers(number: u32, asks: bool, place: f64, list: Roots) -> [f64; 
     ]
 }
 
-fn inquiry_numbers(p: Replied) -> [f64; 12]
-    ensures { λ r. ⌜ r ≡ inquiryNumbers p ⌝ }
+// What an inquiry without replies shows after these, in one walk.
+pub fn numbers_after(inquiry: Inquiry, replies: &[u8]) -> [f64; 12]
+    ensures { λ r. ⌜ r ≡ numbersAfter (now (replies .entry)) inquiry ⌝ }
 {
-    let q = p.inquiry;
-    let a = q.ask();
-    shown_numbers(p.number, a.asking, a.place, a.list)
+    let first = first_replies(replies);
+    let mut given = inquiry;
+    given.replies = first;
+    let s = given.see();
+    let a = s.asked;
+    shown_numbers(s.number, a.asking, a.place, a.list)
 }
 
 #[no_mangle]
@@ -67,6 +76,5 @@ pub extern "C" fn inquire(coeffs: &[u8], tol: f64, replies: &[u8], out: &mut [u8
         return 0;
     }
     let s = inquiry::start(&short_at(coeffs), tol);
-    let p = fed(s.inquiry, replies);
-    answer(out, s.number, &inquiry_numbers(p))
+    answer(out, s.number, &numbers_after(s.inquiry, replies))
 }
