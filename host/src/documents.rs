@@ -109,6 +109,9 @@ const KINDS: [(&str, &str); 4] = [
 
 /// How a contract is told apart: none where it is one equation.
 fn kind(f: &Function) -> Option<String> {
+    if f.ensures.is_empty() {
+        return Some("nothing of the result: a first guess, or a program".to_string());
+    }
     let text = f.ensures.join(" ∗ ");
     let (result, fact) = text.split_once('.').unwrap_or(("", &text));
     let fact = fact.trim();
