@@ -18,7 +18,7 @@ use Rattle.cubic.specs.Cubic.{oneRootOf}
 use Rattle.quartic.specs.declared.QuarticFactor.{QuarticFactor}
 use Rattle.quartic.specs.Quartic.{quarticFactorOf}
 use Rattle.isolated.specs.declared.LoneRoot.the-variants.{At, None}
-use Rattle.isolated.specs.Isolated.{rootPairOf, isBetterOf, isolatedRootOf}
+use Rattle.isolated.specs.Isolated.{rootPairOf, isBetterOf, judgedOf, bestRootOf, isolatedRootOf}
 use Rattle.scaled.specs.Scaled.{scaledOf}
 use Rattle.split.specs.Hull.{hullAt, hullOf}
 use Rattle.split.specs.declared.Split.the-variants.{Gap}
@@ -85,8 +85,9 @@ pub record Quartics : Type 0 where
   pub not-isolated : isolatedRootOf (record { al = 1 /2^ 538; be = zero64; ga = neg (3 /2^ 502); de = neg (1 /2^ 1002) }) ≡ None
   -- 784, `disc.max(0.0)`: the root of t^3 + 2, though disc is said to be -1; not a discriminant below 0 (then it is NaN)
   pub no-root-below-zero : oneRootOf zero64 zero64 two64 (neg one64) ≡ record { root = neg one64 ∷ zero64 ∷ zero64 ∷ []; n = 1 }
-  -- 988, `iso > b`; not the first isolated root
-  pub better-isolated : isBetterOf (record { found = true; iso = one64; r = zero64 }) two64 zero64 ≡ true
+  -- 988, `iso > b`, where 0 is the best so far, with iso 1; not the first isolated root
+  pub better-isolated : let best = judgedOf (bestRootOf (record { al = nan; be = nan; ga = nan; de = nan })) zero64 zero64 one64 zero64 in
+      isBetterOf best two64 zero64 ≡ true
   -- the same, for the places -1 and 1 and two that are NaN; not the last of equally isolated quartic roots
   pub first-of-equals : isolatedRootOf (record { al = zero64; be = neg one64; ga = nan; de = nan }) ≡ At (neg one64)
   -- 522 and 523, for (y - 1) * y^3; not the cluster's root before the peeled one
