@@ -70,7 +70,7 @@ fn of_file(name: &str, text: &str) -> Vec<Function> {
     let mut found = Vec::new();
     for (at, line) in lines.iter().enumerate() {
         let Some(function) = public_name(line) else { continue };
-        let header = lines[at..].iter().take_while(|line| line.trim() != "{");
+        let header = lines[at..].iter().take_while(|line| !line.trim().starts_with('{'));
         let header = header.copied().collect::<Vec<_>>().join("\n");
         found.push(Function {
             name: format!("{name}::{function}"),

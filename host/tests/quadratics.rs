@@ -170,7 +170,7 @@ fn refusals() {
     let solved = |_: &[u8], out: &mut [u8]| exported::solve_quadratic(1.0, 0.0, 1.0, TOL, TOL, out);
     whole_or_nothing("solve_quadratic", 0, 24, solved);
     whole_or_nothing("shifted", 0, 24, |_, out| exported::shifted(1, 0.5, 0.0, 2.0, out));
-    let touching = |_: &[u8], out: &mut [u8]| exported::touching_at(0, 0.5, 1.0, 0.75, true, out);
+    let touching = |_: &[u8], out: &mut [u8]| exported::touching_at(0, 0.5, 1.0, 0.75, 1, out);
     whole_or_nothing("touching_at", 0, 24, touching);
     let front = |e, out: &mut [u8]| exported::crank_front(0.0, 0.0, 1.0, 0.0, e, out);
     whole_or_nothing("crank_front", 0, 48, |_, out| front(0.5, out));
@@ -179,4 +179,18 @@ fn refusals() {
         assert_eq!((said(f64::NAN, &mut out), front(f64::NAN, &mut out)), (1, 1));
         assert!(out.iter().all(|&byte| byte == 0x5A), "room for {room}");
     }
+}
+
+/// A reply is a number: 0 is no, and every other one yes.
+#[test]
+fn replies() {
+    let touching = |reply: u32| {
+        let mut out = [0; 24];
+        assert_eq!(exported::touching_at(4, 0.0, 0.0, 0.75, reply, &mut out), 24);
+        out
+    };
+    for reply in [1, 2, 256, 1 << 31, u32::MAX] {
+        assert_eq!(touching(reply), touching(1), "reply {reply}");
+    }
+    assert_ne!(touching(0), touching(1));
 }
