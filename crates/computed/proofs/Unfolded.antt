@@ -7,7 +7,7 @@ use Rattle.facts.specs.Turns.{turnsOf}
 use Rattle.facts.specs.Sort.{sortedBy, insertedAll, insertedBy}
 use Rattle.float.specs.Methods.{isFiniteOf, absOf, copysignOf, minOf, maxOf, totalLeOf, powiOf}
 use Rattle.float.specs.Floor.{floorOf}
-use Rattle.scale.specs.Scale.{ldexpOf}
+use Rattle.ldexp.specs.Scale.{ldexpOf}
 use Rattle.decode.specs.Exponent.{exponentOf}
 use Rattle.log2.specs.Log.{log2GridOf}
 use Rattle.sqrt.specs.Root.{sqrtOf}
@@ -27,7 +27,7 @@ use Rattle.scaled.specs.Scaled.{topOf, shiftOf, coefficientOf, coefficientsOf, 
 use Rattle.split.specs.Hull.{crossOf, poppedOf, hullStep, hullOf, magOf}
 use Rattle.split.specs.Gap.{exp2Of, splitFrom, magnitudeSplitOf}
 use Rattle.factors.specs.Factors.{pushLinOf, pushQuadOf}
-use Rattle.large.specs.Large.{quadUnitsOf, factorUnitsOf, endsOf, withUnit, largeFrom, largeOf}
+use Rattle.large_factors.specs.Large.{quadUnitsOf, factorUnitsOf, endsOf, withUnit, largeFrom, largeOf}
 use Rattle.quotient.specs.Quotient.{termOf, nextAt, mulOf, productOf, accOf, quotientOf, usableOf, mergedOf}
 use Rattle.factorize.specs.Factorize.{pairedOf, quarticFactorsOf, outOf, secondOf, factorsFrom, factorizeOf}
 use Rattle.roots.specs.Roots.{held, kept, paired}
@@ -40,7 +40,7 @@ use Rattle.finish.specs.Finish.{byValue}
 use Rattle.asking.specs.Asking.{answered, _then_, each}
 use Rattle.touching.specs.Touching.{touchesAt, pairOrder, ordered, linkAt, contactOf, emitted, itemTurn, chained, touching}
 use Rattle.equation.specs.Quadratic.{linearOf, isGrazingOf, twoOf, solveQuadraticOf}
-use Rattle.front.specs.Crank as cranks
+use Rattle.trig_quartic.specs.Crank as cranks
 
 -- doubles, loops, orders and leaves
 unfoldable pub arithmetic : ℕ

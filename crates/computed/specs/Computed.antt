@@ -10,7 +10,7 @@ use lib.ListN.{getD, replicate}
 use lib.Ieee.{Float, nan, neg}
 use Rattle.float.specs.Literals.{zero64, epsilon64, half64, one64, two64, three64, inf64}
 use Rattle.float.specs.Methods.{minOf, maxOf, powiOf}
-use Rattle.scale.specs.Scale.{ldexpOf}
+use Rattle.ldexp.specs.Scale.{ldexpOf}
 use Rattle.square.specs.Square.{scaleOf, solveSquareOf}
 use Rattle.refine.specs.Refine.{isSettledOf, advancedOf}
 use Rattle.refine.specs.Systems.{cubicResidualOf, cubicJacobianOf, peelResidualOf}
@@ -24,7 +24,7 @@ use Rattle.split.specs.Hull.{hullAt, hullOf}
 use Rattle.split.specs.declared.Split.the-variants.{Gap}
 use Rattle.split.specs.Gap.{magnitudeSplitOf}
 use Rattle.factors.specs.Factors.{quadOf}
-use Rattle.large.specs.Large.{unitOf, quadUnitsOf, largeOf}
+use Rattle.large_factors.specs.Large.{unitOf, quadUnitsOf, largeOf}
 use Rattle.quotient.specs.Quotient.{productOf, quotientOf, usableOf, mergedOf}
 use Rattle.factorize.specs.Factorize.{pairedOf, outOf, secondOf, factorizeOf}
 use Rattle.roots.specs.Roots.{root, kept, pair, paired}
@@ -36,7 +36,7 @@ use Rattle.asking.specs.Asking.{answered}
 use Rattle.touching.specs.Touching.{ordered, contactOf, touching}
 use Rattle.solution.specs.declared.QuadraticSolution.the-variants.{One, Empty}
 use Rattle.equation.specs.Quadratic.{solveQuadraticOf}
-use Rattle.front.specs.Crank.{sampleOf, quarticOf}
+use Rattle.trig_quartic.specs.Crank.{sampleOf, quarticOf}
 use Rattle.computed.specs.Values.{_*2^_, _/2^_, minusZero, minusInf, factors, monic}
 use Rattle.computed.specs.Steps.{Steps}
 

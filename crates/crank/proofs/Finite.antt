@@ -7,7 +7,7 @@ use lib.Dec.{eqb}
 use lib.Ieee.{Float, nan, inf, fin, binary64, unlike, add, mul}
 use Rattle.facts.specs.Cond.{first-holds}
 use Rattle.float.specs.Methods.{isFiniteOf, allFiniteOf}
-use Rattle.front.specs.Crank.{unitOf, quarticOf}
+use Rattle.trig_quartic.specs.Crank.{unitOf, quarticOf}
 
 -- an infinity or NaN, by a test
 not-finite : (b s t : Bool) → (isFiniteOf (cond b (inf s) nan) ≡ true → ⊥) × (isFiniteOf (cond b nan (inf t)) ≡ true → ⊥)

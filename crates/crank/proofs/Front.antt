@@ -17,8 +17,8 @@ use Rattle.poly.specs.Coefficients.{trimmedFrom, trimmedOf, refusalBy, refusalO
 use Rattle.poly.specs.Conditions.{Exactly}
 use Rattle.poly.proofs.Coefficients.{trimmed-most}
 use Rattle.asking.specs.Asking.{done}
-use Rattle.front.specs.declared.Crank.{Crank}
-use Rattle.front.specs.Crank.{fAtOf, sampledOf, sampleOf, quarticOf, noCrank, crankFrontOf}
+use Rattle.trig_quartic.specs.declared.Crank.{Crank}
+use Rattle.trig_quartic.specs.Crank.{fAtOf, sampledOf, sampleOf, quarticOf, noCrank, crankFrontOf}
 use Rattle.inquiry.specs.declared.Started.{Started}
 use Rattle.inquiry.specs.Start.{realRootsTouching, startOf}
 use Rattle.inquiry.proofs.Fresh.{start-number}

@@ -14,7 +14,7 @@ use Rattle.roots.proofs.Laws.{list-roots}
 use Rattle.roots.proofs.Sums.{within-none, within-more}
 use Rattle.poly.specs.Coefficients.{degreeLeft}
 use Rattle.asking.specs.Asking.{Asking, done, answered, placesAsked}
-use Rattle.front.specs.Crank.{sampleOf, crankFrontOf}
+use Rattle.trig_quartic.specs.Crank.{sampleOf, crankFrontOf}
 use Rattle.inquiry.specs.Start.{realRootsTouching}
 use Rattle.inquiry.proofs.Theorem.{start-most, start-list}
 use Rattle.crank.specs.declared.CrankInquiry.{CrankInquiry}

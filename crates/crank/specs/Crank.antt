@@ -6,7 +6,7 @@ use lib.Dec.{eqb}
 use lib.Ieee.{Float}
 use Rattle.roots.specs.declared.RealRoot.{RealRoot}
 use Rattle.roots.specs.Roots.{rootsOf, noRoots}
-use Rattle.front.specs.Crank.{sampleOf, quarticOf, crankFrontOf}
+use Rattle.trig_quartic.specs.Crank.{sampleOf, quarticOf, crankFrontOf}
 use Rattle.inquiry.specs.Inquiry.{askedOf, repliedOf}
 use Rattle.inquiry.specs.Start.{realRootsTouchingOf, placesTouchingOf, startOf}
 use Rattle.crank.specs.declared.CrankInquiry.{CrankInquiry}

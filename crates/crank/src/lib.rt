@@ -1,5 +1,5 @@
 // solve_trig of equation.rs up to its list, as an inquiry: k in eighths of a turn, and roots u, where t = k*PI/4 + 2*atan(u).
-// It rests on `front` (k, and the quartic in u) and on `inquiry`, which asks and lists as for any list; the programs rest on it.
+// It rests on `trig_quartic` (k, and the quartic in u) and on `inquiry`, which asks and lists as for any list; the programs rest on it.
 ghost use mathlib.Core.Path.{_≡_};
 ghost use Rattle.roots.specs.Roots.{listOf};
 ghost use Rattle.roots.specs.Listed.{Within};
@@ -43,7 +43,7 @@ pub struct CrankAnswer {
 pub fn start(confusion: f64, a2: f64, b2: f64, c1: f64, d1: f64, e: f64) -> CrankStarted
     ensures { λ r. ⌜ r ≡ crankStartOf confusion a2 b2 c1 d1 e ⌝ }
 {
-    let front = front::crank_front(a2, b2, c1, d1, e);
+    let front = trig_quartic::crank_front(a2, b2, c1, d1, e);
     let q = front.q;
     let s = inquiry::start(&q, confusion);
     let k = front.k as u32;

@@ -18,8 +18,8 @@ use Rattle.float.specs.Methods.{isSignNegativeOf}
 use Rattle.float.specs.Units.{unitsOf, Finite}
 use Rattle.rounding.specs.Rounded.{Rounded, rounded, same-fraction}
 use Rattle.nearest.proofs.Best.{units-of}
-use Rattle.scale.specs.Scale.{pow2Of, signed, scaledOf, ldexpOf}
-use Rattle.scale.proofs.Chain.{all-last, all-step}
+use Rattle.ldexp.specs.Scale.{pow2Of, signed, scaledOf, ldexpOf}
+use Rattle.ldexp.proofs.Chain.{all-last, all-step}
 use Rattle.demands.proofs.Nearest.{has-sign}
 use Rattle.demands.proofs.Doubles.{doubleOf, Held, held, double-value, itself, less-or}
 use Rattle.demands.proofs.Scale.{product-is}

@@ -5,11 +5,11 @@ use Prim.Native.Nat.{ℕ, _<_}
 use lib.ListN.{length}
 use borrow.Author.Tests.{lt-ltb}
 use Rattle.text.specs.Digits.{decimal}
-use Rattle.hall.specs.declared.records.Kind.the-variants.{Unknown}
-use Rattle.hall.specs.Refusals.{tooLong}
-use Rattle.hall.specs.Records.{endedOf}
-use Rattle.hall.specs.Lines.{lineOf}
-use Rattle.hall.specs.File.{listing}
+use Rattle.listing.specs.declared.records.Kind.the-variants.{Unknown}
+use Rattle.listing.specs.Refusals.{tooLong}
+use Rattle.listing.specs.Records.{endedOf}
+use Rattle.listing.specs.Lines.{lineOf}
+use Rattle.listing.specs.File.{listing}
 use Rattle.demands.specs.Example.{ascii, file, lines}
 use Rattle.demands.proofs.Unfolded.{arithmetic, leaves, evaluation, factoring, scaling, solving, asking, printing}
 

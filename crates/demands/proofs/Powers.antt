@@ -12,8 +12,8 @@ use lib.Ieee.Fits.{round-fits}
 use Rattle.float.specs.Methods.{isFiniteOf, isSignNegativeOf}
 use Rattle.float.specs.Units.{unitsOf, Finite}
 use Rattle.nearest.proofs.Best.{units-of}
-use Rattle.scale.specs.Scale.{ldexpOf}
-use Rattle.scale.proofs.Chain.{steady-special, all-steady}
+use Rattle.ldexp.specs.Scale.{ldexpOf}
+use Rattle.ldexp.proofs.Chain.{steady-special, all-steady}
 use Rattle.scaled.proofs.Digits.{units-under}
 use Rattle.demands.specs.Demands.{TimesPower, NearPower}
 use Rattle.demands.proofs.Nearest.{has-sign}

@@ -16,10 +16,10 @@ use Rattle.log2.specs.Log.{gridOf, log2GridOf}
 use Rattle.scaled.specs.Scaled.{scaledOf}
 use Rattle.scaled.proofs.Smallest.{exponent-holds, exponent-least, exponent-of-constant}
 use Rattle.scaled.proofs.Promise.{f-finite, f-held, f-leading}
-use Rattle.large.specs.Large.{unitOf, factorUnitsOf, noSmaller}
+use Rattle.large_factors.specs.Large.{unitOf, factorUnitsOf, noSmaller}
 use Rattle.factorize.specs.Factorize.{factorizeOf}
 use Rattle.factorize.proofs.Degree.{degrees-add}
-use Rattle.polishing.proofs.Polishing.{polishing}
+use Rattle.accuracy.proofs.Polishing.{polishing}
 use Rattle.roots.specs.Listed.{blank}
 use Rattle.finish.specs.Finish.{byValue, finishOf}
 use Rattle.finish.proofs.Simple.{simple-polished}
@@ -45,7 +45,7 @@ use Rattle.demands.proofs.Total as total
 use Rattle.demands.proofs.Sorts.{sorted-whole, sorted-keys}
 use Rattle.demands.proofs.Loops.{runs, chains}
 use Rattle.demands.proofs.Quadratics.{quadratics}
-use Rattle.hall.proofs.Bound.{listing-fits}
+use Rattle.listing.proofs.Bound.{listing-fits}
 use Rattle.demands.proofs.Example.{example, empty, too-long}
 use Rattle.demands.proofs.Entries.{given, stated, all-rows, agree}
 

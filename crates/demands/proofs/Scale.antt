@@ -13,8 +13,8 @@ use lib.Ieee.Fits.{down-pos}
 use lib.Ieee.Scale.{round-same}
 use Rattle.float.specs.Methods.{isFiniteOf, isSignNegativeOf}
 use Rattle.float.specs.Units.{unitsOf, Finite}
-use Rattle.scale.specs.Scale.{pow2Of, signed, chain, steps, scaledOf, ldexpOf}
-use Rattle.scale.proofs.Chain.{steady-special}
+use Rattle.ldexp.specs.Scale.{pow2Of, signed, chain, steps, scaledOf, ldexpOf}
+use Rattle.ldexp.proofs.Chain.{steady-special}
 use Rattle.scaled.proofs.Digits.{units-under}
 use Rattle.demands.specs.Demands.{TimesPower}
 use Rattle.demands.proofs.Doubles.{doubleOf, Held, held, double-value, itself, less-or, beyond}

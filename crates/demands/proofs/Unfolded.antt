@@ -7,7 +7,7 @@ use Rattle.facts.specs.Turns.{turnsOf}
 use Rattle.facts.specs.Sort.{sortedBy, insertedAll, insertedBy}
 use Rattle.float.specs.Methods.{isFiniteOf, absOf, copysignOf, minOf, maxOf, totalLeOf, powiOf}
 use Rattle.float.specs.Bytes.{f64At, bytesOf}
-use Rattle.scale.specs.Scale.{ldexpOf}
+use Rattle.ldexp.specs.Scale.{ldexpOf}
 use Rattle.decode.specs.Exponent.{exponentOf}
 use Rattle.log2.specs.Log.{log2GridOf}
 use Rattle.sqrt.specs.Root.{sqrtOf}
@@ -42,10 +42,10 @@ use Rattle.touching.specs.Touching.{touchesAt, pairOrder, allApart, pairAt, pai
 use Rattle.inquiry.specs.Start.{realRootsTouching, startOf}
 use Rattle.solution.specs.Solution.{valuesOf}
 use Rattle.equation.specs.Quadratic.{isGrazingOf, twoOf, solveQuadraticOf, quadraticOf}
-use Rattle.front.specs.Crank.{unitOf, fAtOf, sampleOf, quarticOf, crankFrontOf}
+use Rattle.trig_quartic.specs.Crank.{unitOf, fAtOf, sampleOf, quarticOf, crankFrontOf}
 use Rattle.crank.specs.Crank.{crankStartOf, crankOf}
 use Rattle.text.specs.Digits.{hexDigit, hexDigits, decimal}
-use Rattle.hall.specs.File.{listing}
+use Rattle.listing.specs.File.{listing}
 
 -- doubles, their bytes, loops and orders
 unfoldable pub arithmetic : ℕ

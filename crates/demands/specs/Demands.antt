@@ -17,7 +17,7 @@ use Rattle.float.specs.Methods.{isFiniteOf, isSignNegativeOf, totalLeOf}
 use Rattle.float.specs.Units.{unitsOf, Finite}
 use Rattle.order.specs.Order.{fallingOf}
 use Rattle.decode.specs.Exponent.{exponentOf, regularOf}
-use Rattle.scale.specs.Scale.{ldexpOf}
+use Rattle.ldexp.specs.Scale.{ldexpOf}
 use Rattle.sqrt.specs.Root.{sqrtOf}
 use Rattle.cbrt.specs.Root.{cbrtOf}
 use Rattle.angle.specs.Third.{thirdAngleOf}
@@ -25,13 +25,13 @@ use Rattle.log2.specs.Log.{log2GridOf}
 use Rattle.scaled.specs.declared.Scaled.{Scaled}
 use Rattle.scaled.specs.Scaled.{scaledOf}
 use Rattle.factors.specs.declared.Factors.{Factors}
-use Rattle.large.specs.Large.{unitOf, factorUnitsOf, noSmaller}
+use Rattle.large_factors.specs.Large.{unitOf, factorUnitsOf, noSmaller}
 use Rattle.factorize.specs.Factorize.{factorizeOf}
 use Rattle.roots.specs.declared.RealRoot.{RealRoot}
 use Rattle.roots.specs.Roots.{listOf, rootsOf, noRoots}
 use Rattle.roots.specs.Listed.{Fits, Within, blank}
 use Rattle.polish.specs.Polish.{polishOf}
-use Rattle.polishing.specs.Claims.{atMost, AllAtMost, Polished}
+use Rattle.accuracy.specs.Claims.{atMost, AllAtMost, Polished}
 use Rattle.finish.specs.Finish.{byValue, Ordered, nowhere, orderedOf, polishedOf, joinedOf}
 use Rattle.poly.specs.Coefficients.{trimmedOf, zerosOf, refusalOf, degreeLeft, polyOf}
 use Rattle.poly.specs.Solve.{candidatesOf, solveOf}
@@ -44,7 +44,7 @@ use Rattle.touching.specs.Touching.{chained}
 use Rattle.inquiry.specs.Start.{realRootsTouchingOf, placesTouchingOf, startOf}
 use Rattle.inquiry.specs.Claims.{Fed}
 use Rattle.crank.specs.Claims.{Cranks}
-use Rattle.hall.specs.File.{listing}
+use Rattle.listing.specs.File.{listing}
 use Rattle.demands.specs.Loops.{runsFrom, chainsFrom}
 use Rattle.demands.specs.Table.{Row, table, answerOf}
 use Rattle.demands.specs.Example.{ascii, file, lines}

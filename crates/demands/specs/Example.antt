@@ -6,7 +6,7 @@ use Prim.Native.String as text
 use Prim.Native.String.{String}
 use lib.Ieee.{Float, neg}
 use Rattle.float.specs.Literals.{zero64, one64, two64, three64}
-use Rattle.lent.specs.Bytes.{doublesBytes}
+use Rattle.lent_bytes.specs.Bytes.{doublesBytes}
 use Rattle.demands.specs.Table.{_/2^_}
 
 -- the characters of a text

@@ -22,7 +22,7 @@ use Rattle.split.specs.Gap.{Inside, magnitudeSplitOf}
 use Rattle.split.proofs.Gaps.{split-inside}
 use Rattle.factors.specs.declared.Factors.{Factors}
 use Rattle.factors.specs.Factors.{pushLinOf, pushQuadOf, degreeOf}
-use Rattle.large.specs.Large.{largeOf}
+use Rattle.large_factors.specs.Large.{largeOf}
 use Rattle.quotient.specs.Quotient.{productOf, quotientOf, usableOf, mergedOf}
 use Rattle.quotient.proofs.Counts.{merged-degree}
 use Rattle.factorize.specs.Factorize.{cubicFactorsOf, pairedOf, quarticFactorsOf, outOf, Second, secondAt, secondOf, factorsFrom}

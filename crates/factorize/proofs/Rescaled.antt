@@ -21,7 +21,7 @@ use Rattle.split.specs.Gap.{Inside, magnitudeSplitOf}
 use Rattle.split.proofs.Gaps.{split-inside}
 use Rattle.factors.specs.declared.Factors.{Factors}
 use Rattle.factors.specs.Factors.{degreeOf}
-use Rattle.large.specs.Large.{largeOf}
+use Rattle.large_factors.specs.Large.{largeOf}
 use Rattle.quotient.specs.declared.Monic.{Monic}
 use Rattle.quotient.specs.Quotient.{productOf, quotientOf, usableOf}
 use Rattle.quotient.proofs.Checked.{usable-finite, usable-last}

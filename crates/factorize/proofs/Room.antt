@@ -8,8 +8,8 @@ use Rattle.facts.specs.Sort.{sortedBy}
 use Rattle.scaled.specs.declared.Scaled.{Scaled}
 use Rattle.factors.specs.declared.Factors.{Factors}
 use Rattle.factors.specs.Factors.{noFactors, degreeOf}
-use Rattle.large.specs.Large.{factorUnitsOf, noSmaller}
-use Rattle.large.proofs.Room.{RoomForAll, large-room}
+use Rattle.large_factors.specs.Large.{factorUnitsOf, noSmaller}
+use Rattle.large_factors.proofs.Room.{RoomForAll, large-room}
 use Rattle.quotient.specs.Quotient.{backLin, backQuad}
 use Rattle.quotient.proofs.Counts.{lins-room, quads-room}
 use Rattle.factorize.specs.Factorize.{outOf, Second, secondOf, factorsFrom}

@@ -18,8 +18,8 @@ use Rattle.split.specs.Gap.{Inside, magnitudeSplitOf}
 use Rattle.split.proofs.Gaps.{split-inside}
 use Rattle.factors.specs.declared.Factors.{Factors}
 use Rattle.factors.specs.Factors.{degreeOf, Sized}
-use Rattle.large.specs.Large.{largeOf}
-use Rattle.large.proofs.Sizes.{large-sized}
+use Rattle.large_factors.specs.Large.{largeOf}
+use Rattle.large_factors.proofs.Sizes.{large-sized}
 use Rattle.factorize.specs.Factorize.{outOf, factorizeOf}
 use Rattle.factorize.proofs.Degree.{out-degree, degrees-add}
 

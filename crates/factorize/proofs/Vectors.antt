@@ -7,7 +7,7 @@ use lib.Ieee.{Float, binary64, ofBits, ofInt, size}
 use Rattle.facts.specs.Sort.{insertedBy, insertedAll, sortedBy}
 use Rattle.float.specs.Literals.{zero64}
 use Rattle.float.specs.Floor.{floorOf}
-use Rattle.scale.specs.Scale.{chain, scaledOf as timesPowerOf, ldexpOf}
+use Rattle.ldexp.specs.Scale.{chain, scaledOf as timesPowerOf, ldexpOf}
 use Rattle.nearest.specs.Greatest.{greatest}
 use Rattle.decode.specs.Exponent.{exponentOf}
 use Rattle.isolated.proofs.Vectors.{computes as factors-compute}
@@ -17,7 +17,7 @@ use Rattle.scaled.specs.Scaled.{topOf, shiftOf, coefficientOf, coefficientsOf, 
 use Rattle.split.specs.Hull.{crossOf, poppedOf, hullStep, hullOf, magOf}
 use Rattle.split.specs.Gap.{exp2Of, splitFrom, magnitudeSplitOf}
 use Rattle.factors.specs.Factors.{quadOf, pushLinOf, pushQuadOf}
-use Rattle.large.specs.Large.{quadUnitsOf, factorUnitsOf, endsOf, withUnit, largeFrom, largeOf}
+use Rattle.large_factors.specs.Large.{quadUnitsOf, factorUnitsOf, endsOf, withUnit, largeFrom, largeOf}
 use Rattle.quotient.specs.Quotient.{termOf, nextAt, mulOf, productOf, accOf, quotientOf, usableOf, mergedOf}
 use Rattle.factorize.specs.Factorize.{cubicFactorsOf, pairedOf, quarticFactorsOf, outOf, secondOf, factorsFrom, factorizeOf}
 

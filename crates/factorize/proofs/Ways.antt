@@ -22,7 +22,7 @@ use Rattle.split.specs.declared.Split.the-variants.{Gap, None}
 use Rattle.split.specs.Gap.{magnitudeSplitOf}
 use Rattle.factors.specs.declared.Factors.{Factors}
 use Rattle.factors.specs.Factors.{noFactors, pushLinOf, pushQuadOf, degreeOf}
-use Rattle.large.specs.Large.{largeOf}
+use Rattle.large_factors.specs.Large.{largeOf}
 use Rattle.quotient.specs.declared.Monic.{Monic}
 use Rattle.quotient.specs.Quotient.{productOf, quotientOf, usableOf, mergedOf}
 use Rattle.factorize.specs.Factorize.{pairedOf, quarticFactorsOf, outOf, secondOf, factorsFrom, factorizeOf}

@@ -1,5 +1,5 @@
 // factorize of poly.rs: the real factors of a scaled polynomial, and where a gap parts its roots by size, those of the small roots from a second scaling.
-// It rests on `cubic`, `quartic`, `isolated`, `scaled`, `split`, `factors`, `large` and `quotient`; solving rests on it.
+// It rests on `cubic`, `quartic`, `isolated`, `scaled`, `split`, `factors`, `large_factors` and `quotient`; solving rests on it.
 ghost use mathlib.Core.Path.{_≡_};
 ghost use Prim.Native.Nat.{_≤_, _<_};
 ghost use Rattle.factorize.specs.Factorize.{cubicFactorsOf, quarticFactorsOf, outOf, factorizeOf};
@@ -102,7 +102,7 @@ pub fn factorize_rooted(sc: scaled::Scaled, depth: u32) -> Rooted
     let split::Split::Gap(small, threshold) = gap else {
         return out;
     };
-    let large = large::large(out.f, d - small, threshold);
+    let large = large_factors::large(out.f, d - small, threshold);
     if large.degree() != d - small {
         return out;
     }

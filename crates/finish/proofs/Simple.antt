@@ -9,8 +9,8 @@ use Rattle.scaled.specs.declared.Scaled.{Scaled}
 use Rattle.roots.specs.Listed.{blank}
 use Rattle.roots.specs.declared.RealRoot.{RealRoot}
 use Rattle.polish.specs.Polish.{polishOf}
-use Rattle.polishing.specs.Claims.{atMost, AllAtMost, Polished}
-use Rattle.polishing.proofs.Polishing.{polishing}
+use Rattle.accuracy.specs.Claims.{atMost, AllAtMost, Polished}
+use Rattle.accuracy.proofs.Polishing.{polishing}
 use Rattle.finish.specs.Finish.{Ordered, nowhere, orderedOf, polishedAt, polishedOf}
 
 module _ (n : ℕ) (poly : Scaled) where

@@ -4,14 +4,14 @@ use mathlib.Core.Path.{_≡_}
 use Prim.Native.Nat.{ℕ}
 use lib.IntN.{ℤ}
 use lib.Ieee.{Float}
-use Rattle.scale.specs.Scale.{ldexpOf}
+use Rattle.ldexp.specs.Scale.{ldexpOf}
 use Rattle.decode.specs.Exponent.{exponentOf}
 use Rattle.log2.specs.Log.{log2GridOf}
 use Rattle.sqrt.specs.Root.{sqrtOf}
 use Rattle.cbrt.specs.Root.{cbrtOf}
 use Rattle.angle.specs.Third.{thirdAngleOf}
 use Rattle.angle.specs.declared.ThirdAngle.{ThirdAngle}
-use Rattle.leaves.specs.Total.{pow2OrNan}
+use Rattle.c_leaves.specs.Total.{pow2OrNan}
 use Rattle.leafcases.specs.Words.{sqrtWord, cbrtWord, thirdWord, log2Word, ldexpWord, exponentWord, pow2Word}
 use Rattle.leafcases.specs.Lines.{lineOf, answerOf}
 use Rattle.leafcases.specs.declared.lines.Word.the-variants.{Double, Whole, Nothing}

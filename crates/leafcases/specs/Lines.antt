@@ -9,13 +9,13 @@ use lib.ListN.{length, getD}
 use lib.Ieee.{Float, binary64, toBits}
 use Rattle.float.specs.Bytes.{u64At, f64At}
 use Rattle.text.specs.Digits.{hexDigits, signedDecimal}
-use Rattle.scale.specs.Scale.{signed, ldexpOf}
+use Rattle.ldexp.specs.Scale.{signed, ldexpOf}
 use Rattle.decode.specs.Exponent.{exponentOf}
 use Rattle.log2.specs.Log.{log2GridOf}
 use Rattle.sqrt.specs.Root.{sqrtOf}
 use Rattle.cbrt.specs.Root.{cbrtOf}
 use Rattle.angle.specs.Third.{thirdAngleOf}
-use Rattle.leaves.specs.Total.{pow2OrNan}
+use Rattle.c_leaves.specs.Total.{pow2OrNan}
 use Rattle.leafcases.specs.declared.lines.Word.{Word}
 use Rattle.leafcases.specs.declared.lines.Word.the-variants.{Double, Whole, Nothing}
 use Rattle.leafcases.specs.Words.{sqrtWord, cbrtWord, thirdWord, log2Word, ldexpWord, exponentWord, pow2Word, badLine}

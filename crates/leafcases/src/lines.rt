@@ -2,7 +2,7 @@
 ghost use mathlib.Core.Path.{_≡_};
 ghost use Prim.Native.Nat.{_+_, _^_, _<_, _≤_};
 ghost use lib.ListN.{length};
-ghost use Rattle.scale.specs.Scale.{signed};
+ghost use Rattle.ldexp.specs.Scale.{signed};
 ghost use Rattle.text.specs.Written.{Written};
 ghost use Rattle.leafcases.specs.Lines.{wordOf, lineOf, answerOf, isSign, recordOf, linesOf};
 
@@ -71,7 +71,7 @@ fn put_answer(out: &mut [u8], at: usize, letter: u8, x: f64, k: i32) -> usize
         return put_line(out, at, b"log2", asked, log, Word::Nothing);
     }
     if letter == b'd' {
-        let r = Word::Double(scale::ldexp(x, k));
+        let r = Word::Double(ldexp::ldexp(x, k));
         return put_line(out, at, b"ldexp", asked, scaled, r);
     }
     if letter == b'e' {
@@ -79,7 +79,7 @@ fn put_answer(out: &mut [u8], at: usize, letter: u8, x: f64, k: i32) -> usize
         return put_line(out, at, b"exponent", asked, e, Word::Nothing);
     }
     if letter == b'p' {
-        let r = Word::Double(leaves::leaf_pow2(k));
+        let r = Word::Double(c_leaves::leaf_pow2(k));
         return put_line(out, at, b"pow2", scaled, r, Word::Nothing);
     }
     at

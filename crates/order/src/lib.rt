@@ -1,5 +1,5 @@
 // The order of at most four keys, the largest first, as numbers of places: the sort of factorize, in which ties stay in their earlier order.
-// It rests on `float`; the large factors, `large`, rest on it.
+// It rests on `float`; the large factors, `large_factors`, rest on it.
 ghost use mathlib.Core.Path.{_≡_};
 ghost use mathlib.Core.List.{_++_};
 ghost use Prim.Native.Nat.{_+_, _≤_, _<_};

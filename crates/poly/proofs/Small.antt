@@ -13,7 +13,7 @@ use Rattle.float.specs.Methods.{allFiniteOf}
 use Rattle.scaled.specs.Scaled.{scaledOf}
 use Rattle.scaled.proofs.Promise.{f-small}
 use Rattle.decode.proofs.Class.{some-units}
-use Rattle.polishing.specs.Claims.{atMost, AllAtMost}
+use Rattle.accuracy.specs.Claims.{atMost, AllAtMost}
 use Rattle.poly.specs.declared.Solved.{Solved}
 use Rattle.poly.specs.Coefficients.{trimmedOf, zerosOf, refusalOf, middleAt, middleOf, polyOf}
 use Rattle.poly.specs.Solve.{finishedOf, solveOf}

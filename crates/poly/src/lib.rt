@@ -251,7 +251,7 @@ fn unscaled_at(s: roots::Roots, e: i32, k: usize, out: roots::Roots) -> roots::R
 {
     if k < s.len {
         let r = s.root[k];
-        return out.keep(scale::ldexp(r.value, e), r.multiplicity);
+        return out.keep(ldexp::ldexp(r.value, e), r.multiplicity);
     }
     out
 }

@@ -10,7 +10,7 @@ use Rattle.facts.specs.Arrays.{fromFn}
 use Rattle.facts.specs.Count.{countUp, countDown}
 use Rattle.float.specs.Literals.{zero64, one64}
 use Rattle.float.specs.Methods.{allFiniteOf}
-use Rattle.scale.specs.Scale.{ldexpOf}
+use Rattle.ldexp.specs.Scale.{ldexpOf}
 use Rattle.factors.specs.declared.Factors.{Factors}
 use Rattle.factors.specs.Factors.{pushLinOf, pushQuadOf, linAt, quadAt}
 use Rattle.quotient.specs.declared.Monic.{Monic}

@@ -1,5 +1,5 @@
 // What factorize does with the large factors: their product, the quotient of g by it, and the way back from a second scaling.
-// It rests on `scale` and `factors`; factorize rests on it.
+// It rests on `ldexp` and `factors`; factorize rests on it.
 ghost use mathlib.Core.Path.{_≡_};
 ghost use Prim.Native.Nat.{_+_, _^_, _≤_, _<_, min};
 ghost use lib.IntN.{natAbs};
@@ -128,13 +128,13 @@ pub fn merged(large: Factors, inner: Factors, e: i32) -> Factors
     let mut m = large;
     let mut i = 0;
     while i < inner.nlin {
-        m = m.push_lin(scale::ldexp(inner.lin[i], e));
+        m = m.push_lin(ldexp::ldexp(inner.lin[i], e));
         i += 1;
     }
     let mut k = 0;
     while k < inner.nquad {
         let q = inner.quad[k];
-        m = m.push_quad(scale::ldexp(q.al, e), scale::ldexp(q.be, 2 * e));
+        m = m.push_quad(ldexp::ldexp(q.al, e), ldexp::ldexp(q.be, 2 * e));
         k += 1;
     }
     m

@@ -7,7 +7,7 @@ use lib.IntN.{ℤ, negℤ}
 use lib.ListN.{getD, replicate}
 use lib.Ieee.{Float, nan, neg}
 use Rattle.float.specs.Literals.{one64, inf64}
-use Rattle.scale.specs.Scale.{ldexpOf}
+use Rattle.ldexp.specs.Scale.{ldexpOf}
 use Rattle.log2.specs.Log.{log2FiveOf}
 use Rattle.scaled.specs.Exponent.{scaleExponentOf}
 use Rattle.scaled.specs.Scaled.{topOf, coefficientOf, coefficientsOf, monicOf, sizesOf, logSizeOf, logSizesOf, scaledOf, withLogsOf}

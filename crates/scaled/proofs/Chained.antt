@@ -11,8 +11,8 @@ use lib.IntN.{pos, negsuc, _-ℤ_}
 use lib.Ieee.{Float, binary64, mul}
 use Rattle.algebra.specs.NatOrder.{le-or-lt, pow2-join}
 use Rattle.float.specs.Units.{unitsOf, Finite}
-use Rattle.scale.specs.Scale.{pow2Of, scaledOf, ldexpOf}
-use Rattle.scale.proofs.Chain.{all-last, all-step, by-sign}
+use Rattle.ldexp.specs.Scale.{pow2Of, scaledOf, ldexpOf}
+use Rattle.ldexp.proofs.Chain.{all-last, all-step, by-sign}
 use Rattle.scaled.proofs.Digits.{digits, units-under}
 use Rattle.scaled.proofs.Rounds.{times, kept-above, kept-below}
 use Rattle.scaled.proofs.Held.{above, below}

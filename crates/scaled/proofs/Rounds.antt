@@ -17,7 +17,7 @@ use Rattle.algebra.specs.NatOrder.{le-or-lt, pow2-finer, pow2-twice}
 use Rattle.rounding.specs.Rounded.{Rounded, rounded, same-fraction}
 use Rattle.float.specs.Methods.{isFiniteOf}
 use Rattle.float.specs.Units.{unitsOf, Finite}
-use Rattle.scale.specs.Scale.{pow2Of}
+use Rattle.ldexp.specs.Scale.{pow2Of}
 use Rattle.nearest.proofs.Best.{units-of}
 use Rattle.scaled.proofs.Digits.{units-fraction}
 

@@ -10,7 +10,7 @@ use lib.Ieee.{Float, nan, binary64, add, div, neg, ofInt}
 use Rattle.facts.specs.Arrays.{fromFn}
 use Rattle.float.specs.Literals.{zero64, one64, inf64}
 use Rattle.float.specs.Methods.{absOf}
-use Rattle.scale.specs.Scale.{ldexpOf}
+use Rattle.ldexp.specs.Scale.{ldexpOf}
 use Rattle.decode.specs.Exponent.{exponentOf}
 use Rattle.log2.specs.Log.{log2FiveOf}
 use Rattle.scaled.specs.Exponent.{scaleExponentOf}

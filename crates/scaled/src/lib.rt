@@ -78,7 +78,7 @@ fn coefficient(a: [f64; 5], d: usize, e: i32, top: i32, i: usize) -> f64
     ensures { λ r. ⌜ r ≡ coefficientOf a d e top i ⌝ }
 {
     if i <= d {
-        return scale::ldexp(a[i], shift(e, top, i));
+        return ldexp::ldexp(a[i], shift(e, top, i));
     }
     0.0
 }
@@ -173,7 +173,7 @@ impl Scaled {
         let f = coefficients(a, d, e, top);
         let g = monic(f, d);
         let lg = log_sizes(a, l, e, top);
-        let unit = scale::ldexp(1.0, -e);
+        let unit = ldexp::ldexp(1.0, -e);
         Scaled {
             f,
             g,

@@ -6,7 +6,7 @@ use lib.ListN.{getD}
 use lib.Ieee.{Float, binary64, add, sub, mul, lt, isNan, minus}
 use Rattle.float.specs.Literals.{half64, one64, eight64}
 use Rattle.float.specs.Floor.{floorOf}
-use Rattle.scale.specs.Scale.{ldexpOf}
+use Rattle.ldexp.specs.Scale.{ldexpOf}
 use Rattle.split.specs.Hull.{magOf, hullOf}
 use Rattle.split.specs.declared.Split.{Split}
 use Rattle.split.specs.declared.Split.the-variants.{Gap, None}

@@ -1,5 +1,5 @@
 // magnitude_split of poly.rs: the topmost gap of more than 8 bits between root sizes, read off what it calls the upper hull of the points (i, lg[i]).
-// It rests on `float` and `scale`; factorize, which hands it the logarithms of a scaled polynomial, rests on it.
+// It rests on `float` and `ldexp`; factorize, which hands it the logarithms of a scaled polynomial, rests on it.
 ghost use mathlib.Core.Path.{_≡_};
 ghost use Prim.Native.Nat.{_≤_, _<_, _+_};
 ghost use lib.ListN.{getD};
@@ -93,7 +93,7 @@ fn exp2(x: f64) -> f64
     if float::is_nan(x) {
         return 1.0;
     }
-    scale::ldexp_by(1.0, float::floor(x), 8192)
+    ldexp::ldexp_by(1.0, float::floor(x), 8192)
 }
 
 pub fn magnitude_split(lg: [f64; 5], d: usize) -> Split

@@ -91,7 +91,7 @@ pub fn emit(e: i32, out: roots::Roots, c: Chain) -> roots::Roots
         return out;
     }
     let y = contact(c);
-    let x = scale::ldexp(y, e);
+    let x = ldexp::ldexp(y, e);
     if float::is_finite(x) {
         let m = c.mult;
         return out.push(roots::RealRoot {

@@ -17,7 +17,7 @@ pub fn touches_at(e: i32, replies: Replies, used: usize, y: f64) -> Heard
     requires { ⌜ RepliesFit replies ⌝ }
     ensures { λ r. ⌜ heardAt replies r ≡ walked (leftOf replies used) (touchesAt e y) ⌝ }
 {
-    let x = scale::ldexp(y, e);
+    let x = ldexp::ldexp(y, e);
     if float::is_finite(x) {
         if used < replies.count {
             let yes = replies.reply[used];

@@ -41,7 +41,7 @@ macro_rules! exported {
     };
 }
 
-// ---- crates/leaves
+// ---- crates/c_leaves
 exported! {
     fn float_abs(x: f64) -> f64;
     fn float_copysign(x: f64, y: f64) -> f64;
@@ -67,7 +67,7 @@ exported! {
     fn leaf_log2_five(a: &[u8], out: &mut [u8]) -> u64;
 }
 
-// ---- crates/layers
+// ---- crates/c_layers
 exported! {
     /// The product, and its error.
     fn two_prod(a: f64, b: f64, out: &mut [u8]) -> u64;
@@ -110,7 +110,7 @@ exported! {
     fn newton_cubic(p0: f64, p1: f64, p2: f64, p3: f64, p4: f64, y: f64) -> f64;
 }
 
-// ---- crates/clusters
+// ---- crates/c_clusters
 exported! {
     fn noise(a: &[u8], d: u64, y: f64) -> f64;
     fn band(a: &[u8], d: u64, y: f64, tol: f64) -> f64;
@@ -129,7 +129,7 @@ exported! {
     fn finish(a: &[u8], d: u64, c: &[u8], n: u64, tol: f64, out: &mut [u8]) -> u64;
 }
 
-// ---- crates/exports
+// ---- crates/c_roots
 exported! {
     /// k of the crank equation, and then what its inquiry shows, as for a list, thirteen doubles.
     fn crank_inquire(confusion: f64, a2: f64, b2: f64, c1: f64, d1: f64, e: f64, replies: &[u8],
@@ -154,7 +154,7 @@ exported! {
     fn crank_front(a2: f64, b2: f64, c1: f64, d1: f64, e: f64, out: &mut [u8]) -> u64;
 }
 
-// ---- crates/halls
+// ---- crates/c_hall
 exported! {
     /// The listing of a hall file from the start of `out` on, as far as `out` reaches, and how many
     /// bytes the listing has.

@@ -1,6 +1,6 @@
 -- `angle::rough` is safe.
 use native.Mathlib.Omega.{arith}
-use Rattle.scale.proofs.Pack.{pack-not-nan}
+use Rattle.ldexp.proofs.Pack.{pack-not-nan}
 use Rattle.nearest.proofs.Digits.{at-least-not-nan}
 use borrow.Author.Needs.{needs}
 use Rattle.angle.proofs.rough.Statement.{statement}

@@ -3,7 +3,7 @@ use mathlib.Core.Path.{refl, subst⁻¹}
 use Prim.Native.Nat.{_<_}
 use borrow.Author.Tests.{eq-eqb, ne-eqb}
 use Rattle.facts.specs.Cond.{if-taken, if-left}
-use Rattle.front.specs.declared.Crank.{Crank}
+use Rattle.trig_quartic.specs.declared.Crank.{Crank}
 use Rattle.crank.proofs.Front.{front-below, start-with}
 use borrow.Author.Needs.{needs}
 use Rattle.crank.proofs.start.Statement.{statement}

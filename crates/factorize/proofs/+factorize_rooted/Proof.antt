@@ -16,7 +16,7 @@ use Rattle.factorize.proofs.+factorize_rooted.Lts-factorize_rooted as l
 use Rattle.factorize.proofs.out_of.Reads as out-of-reads
 use Rattle.factorize.proofs.with_discs.Reads as with-discs-reads
 use Rattle.factors.proofs.Factors.degree.Reads as degree-reads
-use Rattle.large.proofs.large.Reads as large-reads
+use Rattle.large_factors.proofs.large.Reads as large-reads
 use Rattle.quotient.proofs.merged.Reads as merged-reads
 use Rattle.quotient.proofs.product.Reads as product-reads
 use Rattle.quotient.proofs.quotient.Reads as quotient-reads

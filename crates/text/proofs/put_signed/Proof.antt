@@ -14,7 +14,7 @@ use lib.ListN.{length}
 use mir.Syntax.{w32, w64}
 use mir.Val.{Fits, SFits, toZ, ofZ}
 use mir.Facts.{toZ-ofZ}
-use Rattle.scale.proofs.Sign.{flipped, below, not-below, cast-pos}
+use Rattle.ldexp.proofs.Sign.{flipped, below, not-below, cast-pos}
 use Rattle.text.specs.Digits.{decimal, signedDecimal}
 use Rattle.text.proofs.Laws.{written-then, written-as}
 use Rattle.text.proofs.put_signed.Statement.{statement}

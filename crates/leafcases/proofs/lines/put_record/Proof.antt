@@ -12,7 +12,7 @@ use lib.Ieee.{Float}
 use mir.Syntax.{w32}
 use mir.Val.{toZ, ofZ}
 use mir.Facts.{toZ-ofZ}
-use Rattle.scale.specs.Scale.{signed}
+use Rattle.ldexp.specs.Scale.{signed}
 use Rattle.text.proofs.Laws.{written-none, written-as}
 use Rattle.leafcases.specs.Lines.{answerOf, sizeAt, recordOf}
 use Rattle.leafcases.proofs.Records.{too-short, too-large, no-sign, record-is}

@@ -9,7 +9,7 @@ use lib.IntN.{ℤ, pos, negsuc, _-ℤ_, +ℤ-idl}
 use mir.Syntax.{w32}
 use mir.Val.{SFits, toZ, ofZ}
 use mir.Facts.{toZ-pos, toZ-ofZ}
-use Rattle.scale.specs.Scale.{signed}
+use Rattle.ldexp.specs.Scale.{signed}
 use Rattle.leafcases.proofs.lines.with_sign.Statement.{statement}
 use Rattle.leafcases.proofs.lines.with_sign.Tie as tie
 

@@ -1,0 +1,19 @@
+-- `clusters::root_numbers` meets its contract, number by number.
+-- Assumes nothing.
+use borrow.Author.Needs.{needs}
+use native.Mathlib.Omega.{arith}
+use mathlib.Core.Path.{refl}
+use Rattle.float.proofs.Whole.{whole-exact}
+use Rattle.c_clusters.specs.Clustering.{rootNumbers}
+use Rattle.c_clusters.proofs.root_numbers.Statement.{statement}
+use Rattle.c_clusters.proofs.root_numbers.Tie as tie
+
+int-to-float-t16 : tie.Need-int-to-float-t16
+int-to-float-t16 c = whole-exact _ (omega (arith, c .before .before .before .before .before .before .pre .1))
+
+returns : tie.Need-returns
+unfolding rootNumbers
+returns c = refl
+
+pub root-numbers-spec : {M : Type 1} → statement M
+root-numbers-spec = tie.close (tie.spec (λ c. search needs) (λ c. search needs) (λ c. search needs) (λ c. search needs) int-to-float-t16 (λ c. search needs) (λ c. search needs) (λ c. search needs) (λ c. search needs) returns)

@@ -1,0 +1,24 @@
+-- `layers::evaluation::taylor` meets its contract: all the numbers of the answer, or none.
+-- Assumes nothing.
+use Rattle.lent_bytes.proofs.Five.{accepted}
+use Rattle.lent_bytes.proofs.Whole.{lacking, held}
+use borrow.Author.Needs.{needs}
+use Rattle.c_layers.proofs.evaluation.taylor.Statement.{statement}
+use Rattle.c_layers.proofs.evaluation.taylor.Tie as tie
+
+returns : tie.Need-returns
+returns c = lacking _ _ (c .before .lacks-five .ensures) (c .if1 .taken)
+
+five-at-requires : tie.Need-five-at-requires
+five-at-requires c κs = accepted _ _ (c .before .before .lacks-five .ensures) (c .before .if1 .left) .0
+
+taylor-requires : tie.Need-taylor-requires
+taylor-requires c κs = accepted _ _ (c .before .before .before .lacks-five .ensures) (c .before .before .if1 .left) .1
+
+returns-2 : tie.Need-returns-2
+returns-2 c =
+    let is = rw (c .before .before .before .before .before .five-at .ensures) at (c .before .before .before .before .taylor .ensures) in
+    held _ _ (c .before .before .before .before .before .before .before .before .lacks-five .ensures) (c .before .before .before .before .before .before .before .if1 .left) is (c .before .before .store .ensures)
+
+pub taylor-spec : {M : Type 1} → statement M
+taylor-spec = tie.close (tie.spec (λ c κs. search needs) returns five-at-requires taylor-requires (λ c. search needs) (λ c κs. search needs) (λ c. search needs) returns-2)

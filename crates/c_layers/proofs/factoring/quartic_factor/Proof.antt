@@ -1,0 +1,14 @@
+-- `layers::factoring::quartic_factor` meets its contract: all the numbers of the answer, or none.
+-- Assumes nothing.
+use mathlib.Core.Path.{ap}
+use Rattle.c_layers.specs.Numbers.{quarticNumbers}
+use Rattle.lent_bytes.proofs.Whole.{stored-as}
+use borrow.Author.Needs.{needs}
+use Rattle.c_layers.proofs.factoring.quartic_factor.Statement.{statement}
+use Rattle.c_layers.proofs.factoring.quartic_factor.Tie as tie
+
+returns : tie.Need-returns
+returns c = stored-as (ap quarticNumbers (c .before .before .before .before .before .quartic-factor .ensures)) (c .before .before .store .ensures)
+
+pub quartic-factor-spec : {M : Type 1} → statement M
+quartic-factor-spec = tie.close (tie.spec (λ c κs. search needs) (λ c. search needs) (λ c κs. search needs) (λ c. search needs) returns)

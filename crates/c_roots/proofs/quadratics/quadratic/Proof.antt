@@ -1,0 +1,17 @@
+-- `exports::quadratics::quadratic` meets its contract: all the numbers of the answer, or the refusal.
+-- Assumes nothing.
+use mathlib.Core.Path.{ap, _∙_}
+use Rattle.equation.specs.declared.QuadraticAnswer.{QuadraticAnswer}
+use Rattle.c_roots.specs.Quadratics.{solutionNumbers}
+use Rattle.lent_bytes.proofs.Whole.{answered-as}
+use borrow.Author.Needs.{needs}
+use Rattle.c_roots.proofs.quadratics.quadratic.Statement.{statement}
+use Rattle.c_roots.proofs.quadratics.quadratic.Tie as tie
+
+returns : tie.Need-returns
+returns c =
+    let is = c .before .before .before .before .before .before .quadratic .ensures in
+    answered-as (ap (λ (x : QuadraticAnswer). x .number) is) (c .before .before .before .before .solution-numbers .ensures ∙ ap (λ (x : QuadraticAnswer). solutionNumbers (x .solution)) is) (c .before .before .answer .ensures)
+
+pub quadratic-spec : {M : Type 1} → statement M
+quadratic-spec = tie.close (tie.spec (λ c κs. search needs) (λ c κs. search needs) (λ c. search needs) (λ c κs. search needs) (λ c. search needs) returns)

@@ -1,0 +1,29 @@
+-- What the export for cranks stores. Definitions only.
+use mathlib.Core.Bool.{Bool}
+use mathlib.Core.List.{List, _∷_}
+use Prim.Native.Nat.{ℕ}
+use lib.Ieee.{Float}
+use Rattle.crank.specs.declared.CrankInquiry.{CrankInquiry}
+use Rattle.crank.specs.declared.CrankStarted.{CrankStarted}
+use Rattle.crank.specs.declared.CrankReplied.{CrankReplied}
+use Rattle.crank.specs.Crank.{crankAskedOf, crankRepliedOf}
+use Rattle.lent_bytes.specs.Numbers.{number}
+use Rattle.c_roots.specs.Inquiries.{eachReply, shownNumbers, numbersAfter}
+
+abbrev pub nextCrank : CrankReplied → Bool → CrankReplied
+nextCrank p reply = crankRepliedOf (p .crank) reply
+
+-- each reply in turn; a refused one leaves the inquiry as it was
+abbrev pub crankFedAll : List ℕ → CrankInquiry → CrankReplied
+crankFedAll rs c = eachReply nextCrank rs (record { number = 0; crank = c })
+
+-- k, and then as for a list
+unfoldable pub crankNumbers : CrankReplied → List Float
+crankNumbers p = let a = crankAskedOf (p .crank) in number (a .k) ∷ shownNumbers (p .number) (a .asking) (a .place) (a .list)
+
+abbrev pub shownAfter : List ℕ → CrankStarted → List Float
+shownAfter rs s = crankNumbers (crankFedAll rs (s .crank))
+
+-- the same with the replies put in at once
+abbrev pub crankNumbersAfter : List ℕ → CrankInquiry → List Float
+crankNumbersAfter rs c = number (c .k) ∷ numbersAfter rs (c .inquiry)

@@ -1,0 +1,27 @@
+-- What the export for lists stores, and its refusal. Definitions only.
+use mathlib.Core.Bool.{Bool}
+use mathlib.Core.List.{List, []}
+use Prim.Native.Nat.{ℕ, _*_, _/_}
+use lib.Dec.{ltb}
+use lib.ListN.{length}
+use lib.Ieee.{Float}
+use Rattle.poly.specs.declared.Answer.{Answer}
+use Rattle.poly.specs.RealRoots.{realRootsOf}
+use Rattle.lent_bytes.specs.Bytes.{unless}
+use Rattle.lent_coefficients.specs.Coefficients.{coefficientsAt}
+use Rattle.c_clusters.specs.Clustering.{rootNumbers}
+
+-- the bytes are no whole doubles
+abbrev pub notDoubles : List ℕ → Bool
+notDoubles s = ltb (8 * (length s / 8)) (length s)
+
+-- the answer to the doubles in the bytes
+unfoldable pub answerAt : List ℕ → Float → Answer
+answerAt s tol = realRootsOf (coefficientsAt s) tol
+
+-- its refusal and its numbers: 0 and none where the bytes are no doubles
+abbrev pub listRefusal : List ℕ → Float → ℕ
+listRefusal s tol = unless 0 (notDoubles s) (answerAt s tol .number)
+
+abbrev pub listNumbers : List ℕ → Float → List Float
+listNumbers s tol = unless [] (notDoubles s) (rootNumbers (answerAt s tol .roots))

@@ -1,0 +1,16 @@
+-- `lent::answer` meets its contract: the whole answer, or the refusal.
+-- Assumes nothing.
+use mathlib.Core.Path.{refl, sym}
+use borrow.Author.Needs.{needs}
+use Rattle.lent_bytes.proofs.Whole.{answered-as, refused}
+use Rattle.lent_bytes.proofs.answer.Statement.{statement}
+use Rattle.lent_bytes.proofs.answer.Tie as tie
+
+returns : tie.Need-returns
+returns c = answered-as (sym (c .before .before .before .before .if1 .taken)) refl (c .before .before .store .ensures)
+
+returns-2 : tie.Need-returns-2
+returns-2 c = refused _ _ _ (c .if1 .left)
+
+pub answer-spec : {M : Type 1} → statement M
+answer-spec = tie.close (tie.spec (λ c κs. search needs) (λ c. search needs) returns returns-2)

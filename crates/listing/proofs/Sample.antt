@@ -1,0 +1,55 @@
+-- Listings of small files, computed from the definition: each refusal of the file's own, and a record refused under 2, after which reading goes on.
+-- Assumes nothing.
+use mathlib.Core.Path.{_≡_, refl}
+use mathlib.Core.List.{List, [], _∷_, _++_, map}
+use Prim.Native.Nat.{ℕ, _+_}
+use lib.ListN.{replicate}
+use Rattle.text.specs.Digits.{decimalWithin, decimal}
+use Rattle.poly.specs.Coefficients.{trimmedFrom, trimmedOf, refusalBy}
+use Rattle.poly.specs.Solve.{solveOf}
+use Rattle.poly.specs.RealRoots.{unscaledAll, answerOf, realRootsOf}
+use Rattle.lent_bytes.specs.Bytes.{f64sAt}
+use Rattle.listing.specs.Words.{pl, qd, tg, unknown, refused}
+use Rattle.listing.specs.Records.{isMark, kindAt, heldOf, polynomialRecord, recordOf, recordAt}
+use Rattle.listing.specs.Answers.{polynomialAt}
+use Rattle.listing.specs.Lines.{refusedText, polynomialText, markOf, answerText, wordsOf, lineOf}
+use Rattle.listing.specs.File.{linesFrom, listing}
+
+-- a file, and the mark and the number of its only line
+record Row : Type 0 where
+  file : List ℕ
+  mark : List ℕ
+  number : ℕ
+
+abbrev row : List ℕ → List ℕ → ℕ → Row
+row file mark number = record { file = file; mark = mark; number = number }
+
+-- `1`, the mark, `refused` and the number, which is a digit
+abbrev line : ℕ → List ℕ → ℕ → List ℕ
+line n mark number = (48 + n) ∷ 32 ∷ mark ++ (32 ∷ refused ++ ((48 + number) ∷ 10 ∷ []))
+
+rows : List Row
+rows =
+    row (80 ∷ []) unknown 7
+    ∷ row (88 ∷ 88 ∷ []) unknown 6
+    ∷ row (80 ∷ 68 ∷ 0 ∷ []) unknown 6
+    ∷ row pl pl 7
+    ∷ row (pl ++ 33 ∷ []) pl 8
+    ∷ row (pl ++ 32 ∷ []) pl 7
+    ∷ row (pl ++ replicate 8 0) pl 7
+    ∷ row (qd ++ replicate 39 0) qd 7
+    ∷ row (tg ++ replicate 47 0) tg 7
+    ∷ []
+
+refusals : map (λ (r : Row). listing (r .file)) rows ≡ map (λ (r : Row). line 1 (r .mark) (r .number)) rows
+unfolding rows listing linesFrom recordAt kindAt isMark recordOf polynomialRecord heldOf lineOf markOf wordsOf refusedText decimal decimalWithin
+refusals = refl
+
+-- the empty file, and a list of no coefficient before an unknown mark
+empty : listing [] ≡ []
+unfolding listing linesFrom
+empty = refl
+
+goes-on : listing (pl ++ (replicate 9 0 ++ (88 ∷ 88 ∷ []))) ≡ line 1 pl 2 ++ line 2 unknown 6
+unfolding listing linesFrom recordAt kindAt isMark recordOf polynomialRecord heldOf lineOf markOf wordsOf answerText polynomialText polynomialAt f64sAt realRootsOf answerOf unscaledAll solveOf refusalBy trimmedOf trimmedFrom refusedText decimal decimalWithin
+goes-on = refl

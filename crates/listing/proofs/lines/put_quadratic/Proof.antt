@@ -1,0 +1,27 @@
+-- `hall::lines::put_quadratic` meets its contract: a refusal, or the solution.
+-- Assumes nothing.
+use Rattle.text.proofs.Laws.{written-as}
+use Rattle.listing.specs.Lines.{quadraticText}
+use Rattle.listing.proofs.Texts.{answered, refusal}
+use borrow.Author.Needs.{needs}
+use Rattle.listing.proofs.lines.put_quadratic.Statement.{statement}
+use Rattle.listing.proofs.lines.put_quadratic.Tie as tie
+
+returns : tie.Need-returns
+unfolding quadraticText
+returns c = written-as (refusal _ _ (c .before .before .before .before .if1 .taken)) (c .before .before .put-refused .ensures)
+
+returns-2 : tie.Need-returns-2
+unfolding quadraticText
+returns-2 c = written-as (answered _ _ (c .before .before .before .before .if1 .left)) (c .before .before .put-solution .ensures)
+
+pub put-quadratic-spec : {M : Type 1} → statement M
+put-quadratic-spec =
+    tie.close
+    (tie.spec
+    (λ c κs. search needs)
+    (λ c. search needs)
+    returns
+    (λ c κs. search needs)
+    (λ c. search needs)
+    returns-2)

@@ -1,0 +1,26 @@
+-- `hall::lines::put_words` meets its contract: a refusal, or the answer to a record that stands whole.
+-- Assumes nothing.
+use Rattle.text.proofs.Laws.{written-as}
+use Rattle.listing.specs.Lines.{wordsOf}
+use Rattle.listing.proofs.Texts.{answered, refusal}
+use borrow.Author.Needs.{needs}
+use Rattle.listing.proofs.lines.put_words.Statement.{statement}
+use Rattle.listing.proofs.lines.put_words.Tie as tie
+
+returns : tie.Need-returns
+unfolding wordsOf
+returns c = written-as (refusal _ _ (c .before .before .before .before .if1 .taken)) (c .before .before .put-refused .ensures)
+
+put-answer-requires : tie.Need-put-answer-requires
+put-answer-requires c κs =
+    let start = c .before .before .before .before .before in
+    (start .pre .0, start .pre .1 .whole (c .before .if1 .left))
+
+returns-2 : tie.Need-returns-2
+unfolding wordsOf
+returns-2 c = written-as (answered _ _ (c .before .before .before .before .if1 .left)) (c .before .before .put-answer .ensures)
+
+pub put-words-spec : {M : Type 1} → statement M
+put-words-spec =
+    tie.close
+    (tie.spec (λ c κs. search needs) (λ c. search needs) returns put-answer-requires (λ c. search needs) returns-2)

@@ -1,0 +1,27 @@
+-- `hall::records::is_mark` meets its contract: the second byte is looked at where the first is the mark's.
+-- Assumes nothing.
+use borrow.Author.Tests.{eq-eqb, ne-eqb}
+use Rattle.listing.specs.Records.{isMark}
+use borrow.Author.Needs.{needs}
+use Rattle.listing.proofs.records.is_mark.Statement.{statement}
+use Rattle.listing.proofs.records.is_mark.Tie as tie
+
+returns : tie.Need-returns
+unfolding isMark
+returns c = simp (eq-eqb _ _ (c .before .before .if1 .taken))
+
+returns-2 : tie.Need-returns-2
+unfolding isMark
+returns-2 c = simp (ne-eqb _ _ (c .if1 .left))
+
+pub is-mark-spec : {M : Type 1} → statement M
+is-mark-spec =
+    tie.close
+    (tie.spec
+    (λ c. search needs)
+    (λ c. search needs)
+    (λ c. search needs)
+    (λ c. search needs)
+    (λ c. search needs)
+    returns
+    returns-2)

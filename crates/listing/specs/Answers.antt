@@ -1,0 +1,30 @@
+-- The solver's answers to the numbers of a record that stands whole. Definitions only.
+use mathlib.Core.List.{List}
+use Prim.Native.Nat.{ℕ, _+_}
+use Rattle.float.specs.Bytes.{f64At}
+use Rattle.lent_bytes.specs.Bytes.{f64sAt}
+use Rattle.poly.specs.declared.Answer.{Answer}
+use Rattle.equation.specs.declared.QuadraticAnswer.{QuadraticAnswer}
+use Rattle.crank.specs.declared.CrankAnswer.{CrankAnswer}
+use Rattle.poly.specs.RealRoots.{realRootsOf}
+use Rattle.equation.specs.Quadratic.{quadraticOf}
+use Rattle.crank.specs.Crank.{crankOf}
+use Rattle.listing.specs.Records.{countAt}
+
+-- 'PL: count byte, tolerance, that many coefficients'
+unfoldable pub polynomialAt : List ℕ → ℕ → Answer
+unfolding f64sAt
+polynomialAt s at = realRootsOf (f64sAt (countAt s at) s (at + 11)) (f64At s (at + 3))
+
+-- 'QD: confusion, angular, a, b, c'
+unfoldable pub quadraticAt : List ℕ → ℕ → QuadraticAnswer
+quadraticAt s at =
+    let confusion = f64At s (at + 2) in
+    let angular = f64At s (at + 10) in
+    quadraticOf (f64At s (at + 18)) (f64At s (at + 26)) (f64At s (at + 34)) confusion angular
+
+-- 'TG: confusion, a2, b2, c1, d1, e, every question replied no'
+unfoldable pub crankAt : List ℕ → ℕ → CrankAnswer
+crankAt s at =
+    let confusion = f64At s (at + 2) in
+    crankOf confusion (f64At s (at + 10)) (f64At s (at + 18)) (f64At s (at + 26)) (f64At s (at + 34)) (f64At s (at + 42))

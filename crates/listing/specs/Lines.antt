@@ -1,0 +1,97 @@
+-- The line of a record: 'its number from 1, its mark, then ..'. Definitions only.
+use mathlib.Core.Bool.{cond}
+use mathlib.Core.List.{List, [], _∷_, _++_, flatMap}
+use Prim.Native.Nat.{ℕ}
+use lib.Dec.{eqb}
+use lib.Ieee.{Float, binary64, toBits}
+use Rattle.text.specs.Digits.{hexDigits, decimal}
+use Rattle.roots.specs.declared.RealRoot.{RealRoot}
+use Rattle.roots.specs.declared.Roots.{Roots}
+use Rattle.roots.specs.Roots.{listOf}
+use Rattle.poly.specs.declared.Answer.{Answer}
+use Rattle.solution.specs.declared.QuadraticSolution.{QuadraticSolution}
+use Rattle.solution.specs.declared.QuadraticSolution.the-variants.{Two, One, Linear, Degenerate, Empty}
+use Rattle.equation.specs.declared.QuadraticAnswer.{QuadraticAnswer}
+use Rattle.crank.specs.declared.CrankAnswer.{CrankAnswer}
+use Rattle.listing.specs.declared.records.Kind.{Kind}
+use Rattle.listing.specs.declared.records.Kind.the-variants.{Polynomial, Quadratic, Crank, Unknown}
+use Rattle.listing.specs.declared.records.Record.{Record}
+use Rattle.listing.specs.Words.{pl, qd, tg, unknown, refused, ok, two, one, linear, degenerate, empty}
+use Rattle.listing.specs.Answers.{polynomialAt, quadraticAt, crankAt}
+
+-- ---- places and roots
+
+-- 'Places print as 16 hexadecimal digits of their bits', after a blank
+unfoldable pub placeText : Float → List ℕ
+placeText x = 32 ∷ hexDigits 16 (toBits binary64 x)
+
+-- 'place and multiplicity'
+unfoldable pub rootText : RealRoot → List ℕ
+unfolding placeText
+rootText r = placeText (r .value) ++ (32 ∷ decimal (r .multiplicity))
+
+-- 'how many roots, and place and multiplicity of each'
+unfoldable pub rootsText : Roots → List ℕ
+unfolding rootText
+rootsText r = decimal (r .len) ++ flatMap rootText (listOf r)
+
+-- ---- answers
+
+-- 'A refused record prints `refused` and the number'
+unfoldable pub refusedText : ℕ → List ℕ
+refusedText number = refused ++ decimal number
+
+-- t, or the refusal
+abbrev pub orRefused : ℕ → List ℕ → List ℕ
+orRefused number t = cond (eqb number 0) t (refusedText number)
+
+-- 'for PL `ok`, ..'
+unfoldable pub polynomialText : Answer → List ℕ
+unfolding rootsText refusedText
+polynomialText a = orRefused (a .number) (ok ++ rootsText (a .roots))
+
+-- 'for QD `two`, `one`, `linear`, `degenerate` or `empty`, then places'
+unfoldable pub solutionText : QuadraticSolution → List ℕ
+unfolding placeText
+solutionText (Two x y) = two ++ (placeText x ++ placeText y)
+solutionText (One x) = one ++ placeText x
+solutionText (Linear x) = linear ++ placeText x
+solutionText Degenerate = degenerate
+solutionText Empty = empty
+
+-- or `refused`
+unfoldable pub quadraticText : QuadraticAnswer → List ℕ
+unfolding solutionText refusedText
+quadraticText a = orRefused (a .number) (solutionText (a .solution))
+
+-- 'for TG the same with k after `ok`'
+unfoldable pub crankText : CrankAnswer → List ℕ
+unfolding rootsText refusedText
+crankText a = orRefused (a .number) (ok ++ (decimal (a .k) ++ (32 ∷ rootsText (a .roots))))
+
+-- ---- the line
+
+-- 'Where no whole known mark was read the mark prints as `--`'
+unfoldable pub markOf : Kind → List ℕ
+markOf Polynomial = pl
+markOf Quadratic = qd
+markOf Crank = tg
+markOf Unknown = unknown
+
+-- what the solver answers to a record that stands whole
+unfoldable pub answerText : Kind → List ℕ → ℕ → List ℕ
+unfolding polynomialText quadraticText crankText polynomialAt quadraticAt crankAt
+answerText Polynomial s at = polynomialText (polynomialAt s at)
+answerText Quadratic s at = quadraticText (quadraticAt s at)
+answerText Crank s at = crankText (crankAt s at)
+answerText Unknown s at = []
+
+-- what stands behind the mark
+unfoldable pub wordsOf : List ℕ → ℕ → Record → List ℕ
+unfolding answerText refusedText
+wordsOf s at found = orRefused (found .number) (answerText (found .kind) s at)
+
+-- the n-th line, that of the record at at
+unfoldable pub lineOf : ℕ → List ℕ → ℕ → Record → List ℕ
+unfolding markOf wordsOf
+lineOf n s at found = decimal n ++ (32 ∷ markOf (found .kind) ++ (32 ∷ wordsOf s at found ++ (10 ∷ [])))

@@ -1,0 +1,45 @@
+// What the solver answers to the numbers of a record that stands whole.
+ghost use mathlib.Core.Path.{_≡_};
+ghost use Rattle.listing.specs.Records.{Whole};
+ghost use Rattle.listing.specs.Answers.{polynomialAt, quadraticAt, crankAt};
+ghost use Rattle.listing.specs.declared.records.Kind.the-variants.{Polynomial, Quadratic, Crank};
+use crank::CrankAnswer;
+use equation::QuadraticAnswer;
+use float::f64_at;
+use lent_bytes::f64s_at;
+use poly::Answer;
+
+pub fn polynomial_at(s: &[u8], at: usize) -> Answer
+    requires { ⌜ Whole Polynomial (now s) at ⌝ }
+    ensures { λ r. ⌜ r ≡ polynomialAt (now (s .entry)) at ⌝ }
+{
+    let count = s[at + 2] as usize;
+    let coeffs = f64s_at(s, at + 11, count);
+    let tol = f64_at(s, at + 3);
+    poly::real_roots(&coeffs[..count], tol)
+}
+
+pub fn quadratic_at(s: &[u8], at: usize) -> QuadraticAnswer
+    requires { ⌜ Whole Quadratic (now s) at ⌝ }
+    ensures { λ r. ⌜ r ≡ quadraticAt (now (s .entry)) at ⌝ }
+{
+    let confusion = f64_at(s, at + 2);
+    let angular = f64_at(s, at + 10);
+    let a = f64_at(s, at + 18);
+    let b = f64_at(s, at + 26);
+    let c = f64_at(s, at + 34);
+    equation::quadratic(a, b, c, confusion, angular)
+}
+
+pub fn crank_at(s: &[u8], at: usize) -> CrankAnswer
+    requires { ⌜ Whole Crank (now s) at ⌝ }
+    ensures { λ r. ⌜ r ≡ crankAt (now (s .entry)) at ⌝ }
+{
+    let confusion = f64_at(s, at + 2);
+    let a2 = f64_at(s, at + 10);
+    let b2 = f64_at(s, at + 18);
+    let c1 = f64_at(s, at + 26);
+    let d1 = f64_at(s, at + 34);
+    let e = f64_at(s, at + 42);
+    crank::crank(confusion, a2, b2, c1, d1, e)
+}

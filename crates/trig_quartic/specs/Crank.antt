@@ -1,0 +1,74 @@
+-- `solve_trig` of equation.rs up to its quartic: a2*cos 2t + b2*sin 2t + c1*cos t + d1*sin t + e in u, where t = k*PI/4 + 2*atan(u). Definitions only.
+use mathlib.Core.Bool.{cond}
+use mathlib.Core.List.{List, [], _∷_}
+use Prim.Native.Nat.{ℕ, _+_, _*_, _%_}
+use lib.ListN.{getD, replicate}
+use lib.Ieee.{Float, nan, binary64, add, sub, mul, neg}
+use Rattle.facts.specs.Count.{countUp}
+use Rattle.float.specs.Literals.{zero64, rootHalf64, one64, two64, four64, six64}
+use Rattle.float.specs.Methods.{absOf, totalLeOf, allFiniteOf}
+use Rattle.trig_quartic.specs.declared.CosSin.{CosSin}
+use Rattle.trig_quartic.specs.declared.Crank.{Crank}
+
+-- an entry of UNIT: (cos, sin)
+abbrev pub cosSin : Float → Float → CosSin
+cosSin c s = record { cos = c; sin = s }
+
+-- UNIT: cos and sin of k*PI/4
+unfoldable pub unitOf : ℕ → CosSin
+unitOf k =
+    getD
+    (cosSin one64 zero64
+    ∷ cosSin rootHalf64 rootHalf64
+    ∷ cosSin zero64 one64
+    ∷ cosSin (neg rootHalf64) rootHalf64
+    ∷ cosSin (neg one64) zero64
+    ∷ cosSin (neg rootHalf64) (neg rootHalf64)
+    ∷ cosSin zero64 (neg one64)
+    ∷ cosSin rootHalf64 (neg rootHalf64)
+    ∷ [])
+    k
+    (cosSin nan nan)
+
+-- f_at(k): the equation's left side at k*PI/4
+unfoldable pub fAtOf : Float → Float → Float → Float → Float → ℕ → Float
+fAtOf a2 b2 c1 d1 e k =
+    let u1 = unitOf (k % 8) in
+    let u2 = unitOf (2 * k % 8) in
+    let double = add binary64 (mul binary64 a2 (u2 .cos)) (mul binary64 b2 (u2 .sin)) in
+    add binary64 (add binary64 (add binary64 double (mul binary64 c1 (u1 .cos))) (mul binary64 d1 (u1 .sin))) e
+
+-- (k, largest) after one more sample, at j: 'on equal sizes the last sample wins; a NaN counts as larger than infinity'
+abbrev pub sampledOf : Float → Float → Float → Float → Float → ℕ → ℕ × Float → ℕ × Float
+sampledOf a2 b2 c1 d1 e j s = let v = absOf (fAtOf a2 b2 c1 d1 e (j + 4)) in cond (totalLeOf (s .1) v) (j, v) s
+
+-- k: at k*PI/4 + PI, where u is infinite, the left side is largest in size
+unfoldable pub sampleOf : Float → Float → Float → Float → Float → ℕ
+sampleOf a2 b2 c1 d1 e = countUp 8 (sampledOf a2 b2 c1 d1 e) 7 (0, absOf (fAtOf a2 b2 c1 d1 e 4)) .0
+
+-- q, ascending: the equation in s = t - k*PI/4, and then in u
+unfoldable pub quarticOf : Float → Float → Float → Float → Float → ℕ → List Float
+quarticOf a2 b2 c1 d1 e k =
+    let u1 = unitOf k in
+    let u2 = unitOf (2 * k % 8) in
+    let a = add binary64 (mul binary64 a2 (u2 .cos)) (mul binary64 b2 (u2 .sin)) in
+    let b = sub binary64 (mul binary64 b2 (u2 .cos)) (mul binary64 a2 (u2 .sin)) in
+    let c = add binary64 (mul binary64 c1 (u1 .cos)) (mul binary64 d1 (u1 .sin)) in
+    let d = sub binary64 (mul binary64 d1 (u1 .cos)) (mul binary64 c1 (u1 .sin)) in
+    add binary64 (add binary64 a c) e
+    ∷ add binary64 (mul binary64 four64 b) (mul binary64 two64 d)
+    ∷ add binary64 (mul binary64 (neg six64) a) (mul binary64 two64 e)
+    ∷ add binary64 (mul binary64 (neg four64) b) (mul binary64 two64 d)
+    ∷ add binary64 (sub binary64 a c) e
+    ∷ []
+
+-- a refusal: its number, and no quartic
+abbrev pub noCrank : ℕ → Crank
+noCrank n = record { number = n; k = 0; q = replicate 5 zero64 }
+
+-- 'Crank start: 1, one of the five not finite; 5, a quartic coefficient not finite'; 0 where neither
+unfoldable pub crankFrontOf : Float → Float → Float → Float → Float → Crank
+crankFrontOf a2 b2 c1 d1 e =
+    let k = sampleOf a2 b2 c1 d1 e in
+    let q = quarticOf a2 b2 c1 d1 e k in
+    cond (allFiniteOf (a2 ∷ b2 ∷ c1 ∷ d1 ∷ e ∷ [])) (cond (allFiniteOf q) (record { number = 0; k = k; q = q }) (noCrank 5)) (noCrank 1)
