@@ -14,7 +14,7 @@ use lib.Ieee.Digits.{size-lt, size-reaches, size-le}
 use Rattle.algebra.specs.NatOrder.{le-or-lt, pow2-split}
 use Rattle.float.specs.Literals.{split64}
 use Rattle.rounding.specs.Units.{oneUnits}
-use Rattle.rounding.specs.Diff.{Diff, _⊞_, _⊟_, _⊡_, _≈_, Within, magnitude}
+use Rattle.rounding.specs.Diff.{Diff, _⊞_, _⊟_, _⊡_, _≈_, SizeAtMost, magnitude}
 use Rattle.rounding.proofs.Value.{one-pos, Val, plus-sign, minus-sign, Grid, on-grid}
 use Rattle.rounding.proofs.Exact.{restated}
 use Rattle.rounding.proofs.Diff.{same-parts, within-magnitude}
@@ -155,8 +155,8 @@ pub record Cut (A h l : Diff) (U : ℕ) : Type 0 where
   pub hi : h ≈ H ⊡ (2 ^ 27 * U)
   pub lo : l ≈ L ⊡ U
   pub whole : A ≈ H ⊡ 2 ^ 27 ⊞ L
-  pub H-few : Within H (2 ^ 26)
-  pub L-few : Within L (2 ^ 26)
+  pub H-few : SizeAtMost H (2 ^ 26)
+  pub L-few : SizeAtMost L (2 ^ 26)
 
 -- its digits A
 abbrev pub digitsOf : {x1 x2 : ℕ} → Full x1 x2 → Diff
@@ -165,21 +165,21 @@ digitsOf F = record { p = F .a; n = F .b }
 whole-of : (x h l A H L : Diff) (U : ℕ) → 0 < U → x ≈ A ⊡ U → h ≈ H ⊡ (2 ^ 27 * U) → l ≈ L ⊡ U → x ≈ h ⊞ l → A ≈ H ⊡ 2 ^ 27 ⊞ L
 whole-of x h l A H L U u e f g k = eq-of-mul-eq-mul-right U u (A .p + (H .n * 2 ^ 27 + L .n)) (A .n + (H .p * 2 ^ 27 + L .p)) (omega arith)
 
-low-few : (l L : Diff) (U : ℕ) → 0 < U → l ≈ L ⊡ U → (2 * l .p ≤ 2 * l .n + 2 ^ 27 * U) × (2 * l .n ≤ 2 * l .p + 2 ^ 27 * U) → Within L (2 ^ 26)
+low-few : (l L : Diff) (U : ℕ) → 0 < U → l ≈ L ⊡ U → (2 * l .p ≤ 2 * l .n + 2 ^ 27 * U) × (2 * l .n ≤ 2 * l .p + 2 ^ 27 * U) → SizeAtMost L (2 ^ 26)
 low-few l L U u e h = (halved (L .p) (L .n) (le-of-mul-le-mul-right (omega arith) u), halved (L .n) (L .p) (le-of-mul-le-mul-right (omega arith) u))
   where
     halved : (a b : ℕ) → 2 * a ≤ 2 * b + 2 ^ 27 → a ≤ b + 2 ^ 26
     halved a b h = omega arith
 
-high-few : (A H L : Diff) → A ≈ H ⊡ 2 ^ 27 ⊞ L → magnitude A < 2 ^ 53 → Within L (2 ^ 26) → Within H (2 ^ 26)
+high-few : (A H L : Diff) → A ≈ H ⊡ 2 ^ 27 ⊞ L → magnitude A < 2 ^ 53 → SizeAtMost L (2 ^ 26) → SizeAtMost H (2 ^ 26)
 high-few A H L e a l = (omega arith, omega arith)
 
 -- ---- a number in two parts, neither of them more than 3 X in size
 pub record Loose (x h l : Diff) (X : ℕ) : Type 0 where
   pub whole : x ≈ h ⊞ l
-  pub self : Within x X
-  pub high : Within h (3 * X)
-  pub low : Within l (3 * X)
+  pub self : SizeAtMost x X
+  pub high : SizeAtMost h (3 * X)
+  pub low : SizeAtMost l (3 * X)
 
 module _ {x : Diff} {h l : Float} {k : ℕ} (S : Pieces x h l k) where
   pub cut : (F : Full (x .p) (x .n)) → Cut (digitsOf F) (S .hi .v) (S .lo .v) (2 ^ F .i)
@@ -221,7 +221,7 @@ loose-full {x} {h} {l} F c =
     sums : (x y a b U : ℕ) → x ≡ a * U → y ≡ b * U → x + y ≡ (a + b) * U
     sums x y a b U e f = omega arith
 
-    grow : (x a : Diff) (k U : ℕ) → x ≈ a ⊡ U → Within a k → Within x (k * U)
+    grow : (x a : Diff) (k U : ℕ) → x ≈ a ⊡ U → SizeAtMost a k → SizeAtMost x (k * U)
     grow x a k U e h = (omega (arith, mul-le-mul-right U (h .0)), omega (arith, mul-le-mul-right U (h .1)))
 
     hi-room : (a b U : ℕ) → a ≤ b + 2 ^ 26 * (2 ^ 27 * U) → a ≤ b + 3 * (2 ^ 53 * U)

@@ -12,7 +12,7 @@ use lib.Pow.{pow-add, pow-mono}
 use lib.Ieee.{Float, binary64, mul}
 use Rattle.algebra.specs.NatOrder.{le-or-lt, pow2-split}
 use Rattle.rounding.specs.Units.{oneUnits}
-use Rattle.rounding.specs.Diff.{Diff, _⊞_, _⊟_, _⊠_, _⊡_, _≈_, Apart, Within, magnitude}
+use Rattle.rounding.specs.Diff.{Diff, _⊞_, _⊟_, _⊠_, _⊡_, _≈_, Apart, SizeAtMost, magnitude}
 use Rattle.rounding.proofs.Value.{one-pos, one-large}
 use Rattle.rounding.proofs.Exact.{restated}
 use Rattle.rounding.proofs.Diff.{same-parts, within-le, product-within, product-units, product-split}
@@ -66,7 +66,7 @@ unit-split π α β γ μ Z X Y y x e =
         → π ⊡ Z ≈ α ⊡ (2 ^ 54 * Z) ⊞ β ⊡ (2 ^ 27 * Z) ⊞ γ ⊡ (2 ^ 27 * Z) ⊞ μ ⊡ Z
     go π α β γ μ Z e = omega (arith, ap (λ (z : ℕ). z * Z) e)
 
-digits-few : {x1 x2 : ℕ} (F : Full x1 x2) → Within (digitsOf F) (2 ^ 53)
+digits-few : {x1 x2 : ℕ} (F : Full x1 x2) → SizeAtMost (digitsOf F) (2 ^ 53)
 digits-few F = (omega (arith, F .few), omega (arith, F .few))
 
 digits-are : {x : Diff} (F : Full (x .p) (x .n)) → x ≈ digitsOf F ⊡ 2 ^ F .i
@@ -161,7 +161,7 @@ loose-close a b ah al bh bl p e X Y Ch A B h =
         go : (m n s : ℕ) → n ≡ 9 * m → m ≤ 2 ^ 106 * s → n ≤ 2 ^ 110 * s
         go m n s e h = omega arith
 
-    within : (x : Diff) → Within x (3 * X * (3 * Y)) → Within x (2 ^ 110 * oneUnits)
+    within : (x : Diff) → SizeAtMost x (3 * X * (3 * Y)) → SizeAtMost x (2 ^ 110 * oneUnits)
     within x h = within-le x (3 * X * (3 * Y)) (2 ^ 110 * oneUnits) nine h
 
 -- ---- every case
@@ -286,8 +286,8 @@ product-num {a} {b} {k} {l} A B h m =
     product-size : (k l : ℕ) → k * l ≤ 2 ^ 40 → 2 * (k * l) + 1 ≤ 2 ^ 42
     product-size k l h = omega arith
 
-    error-size : (x p e : Diff) (k l s : ℕ) → 0 < s → 2 ^ 64 ≤ s → Within x (k * s * (l * s)) → magnitude p ≤ (2 * (k * l) + 1) * s
-        → Apart ((p ⊞ e) ⊡ s) x (2 ^ 64 * s) → Within e ((3 * (k * l) + 3) * s)
+    error-size : (x p e : Diff) (k l s : ℕ) → 0 < s → 2 ^ 64 ≤ s → SizeAtMost x (k * s * (l * s)) → magnitude p ≤ (2 * (k * l) + 1) * s
+        → Apart ((p ⊞ e) ⊡ s) x (2 ^ 64 * s) → SizeAtMost e ((3 * (k * l) + 3) * s)
     error-size x p e k l s S b X P c = (
       half (x .p) (x .n) (p .p) (p .n) (e .p) (e .n) (mul-le-mul-right s b) (X .0) (mul-le-mul-right s P) (c .0),
       half (x .n) (x .p) (p .n) (p .p) (e .n) (e .p) (mul-le-mul-right s b) (X .1) (mul-le-mul-right s (le-trans (le-of-eq (add-comm (p .n) (p .p))) P)) (c .1),

@@ -8,10 +8,10 @@ use lib.Ieee.{Float}
 use Rattle.algebra.specs.NatOrder.{dist-mul-right}
 use Rattle.float.specs.Methods.{isSignNegativeOf}
 use Rattle.float.specs.Units.{unitsOf}
-use Rattle.rounding.specs.Diff.{Diff, _⊡_, Apart, Within, magnitude}
-use Rattle.accuracy.specs.Terms.{signed, signedUnits, sizeOf}
+use Rattle.rounding.specs.Diff.{Diff, _⊡_, Apart, SizeAtMost, magnitude}
+use Rattle.accuracy.specs.Terms.{signedDiff, signedUnits, sizeOf}
 
-pub within-size : (x : Diff) → Within x (sizeOf x)
+pub within-size : (x : Diff) → SizeAtMost x (sizeOf x)
 within-size x = (omega arith, omega arith)
 
 pub size-times : (x : Diff) (D : ℕ) → sizeOf (x ⊡ D) ≡ sizeOf x * D
@@ -25,11 +25,11 @@ size-near x z a b c h =
     go x z h = omega arith
 
 -- ---- of a signed number and of a double
-pub signed-size : (s : Bool) (a : ℕ) → sizeOf (signed s a) ≡ a
+pub signed-size : (s : Bool) (a : ℕ) → sizeOf (signedDiff s a) ≡ a
 signed-size true a = omega arith
 signed-size false a = omega arith
 
-pub signed-magnitude : (s : Bool) (a : ℕ) → magnitude (signed s a) ≡ a
+pub signed-magnitude : (s : Bool) (a : ℕ) → magnitude (signedDiff s a) ≡ a
 signed-magnitude true a = omega arith
 signed-magnitude false a = omega arith
 

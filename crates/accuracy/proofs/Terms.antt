@@ -19,7 +19,7 @@ use Rattle.float.specs.Methods.{isSignNegativeOf}
 use Rattle.float.specs.Units.{unitsOf}
 use Rattle.rounding.specs.Units.{oneUnits}
 use Rattle.rounding.specs.Diff.{Diff, _⊞_, _⊠_, _⊡_, magnitude}
-use Rattle.accuracy.specs.Terms.{signed, signedUnits, sizeOf, termOf, exactOf, M}
+use Rattle.accuracy.specs.Terms.{signedDiff, signedUnits, sizeOf, termOf, exactOf, M}
 use Rattle.accuracy.proofs.Sizes.{signed-size, signed-magnitude}
 
 -- ---- pairs
@@ -27,11 +27,11 @@ abbrev pair : ℕ → ℕ → Diff
 pair a b = record { p = a; n = b }
 
 -- a signed number times another, and times a natural number
-signed-multiple : (s : Bool) (a c : ℕ) → signed s a ⊡ c ≡ signed s (a * c)
+signed-multiple : (s : Bool) (a c : ℕ) → signedDiff s a ⊡ c ≡ signedDiff s (a * c)
 signed-multiple true a c = ap (λ (z : ℕ). pair z (a * c)) (zero-mul c)
 signed-multiple false a c = ap (pair (a * c)) (zero-mul c)
 
-signed-times : (s t : Bool) (a b : ℕ) → signed s a ⊠ signed t b ≡ signed (unlike s t) (a * b)
+signed-times : (s t : Bool) (a b : ℕ) → signedDiff s a ⊠ signedDiff t b ≡ signedDiff (unlike s t) (a * b)
 signed-times true true a b = ap₂ pair (omega arith) (omega arith)
 signed-times true false a b = ap₂ pair (omega arith) (omega arith)
 signed-times false true a b = ap₂ pair (omega arith) (omega arith)
@@ -39,12 +39,12 @@ signed-times false false a b = ap₂ pair (omega arith) (omega arith)
 
 -- ---- Y^k
 abbrev powerOf : Float → ℕ → Diff
-powerOf y k = signed (isSignNegativeOf y && eqb (k % 2) 1) (unitsOf y ^ k)
+powerOf y k = signedDiff (isSignNegativeOf y && eqb (k % 2) 1) (unitsOf y ^ k)
 
 no-power : (y : Float) → powerOf y 0 ≡ pair 1 0
-no-power y = ap (signed (isSignNegativeOf y && false)) (pow-zero (unitsOf y)) ∙ go (isSignNegativeOf y)
+no-power y = ap (signedDiff (isSignNegativeOf y && false)) (pow-zero (unitsOf y)) ∙ go (isSignNegativeOf y)
   where
-    go : (s : Bool) → signed (s && false) 1 ≡ pair 1 0
+    go : (s : Bool) → signedDiff (s && false) 1 ≡ pair 1 0
     go true = refl
     go false = refl
 
@@ -58,7 +58,7 @@ sign-turns true k = elim (eq-zero-or-pos (k % 2)) [
 next-power : (y : Float) (k : ℕ) → powerOf y k ⊠ signedUnits y ≡ powerOf y (suc k)
 next-power y k =
     signed-times (isSignNegativeOf y && eqb (k % 2) 1) (isSignNegativeOf y) (unitsOf y ^ k) (unitsOf y)
-    ∙ ap₂ signed (sign-turns (isSignNegativeOf y) k) (sym (pow-suc (unitsOf y) k))
+    ∙ ap₂ signedDiff (sign-turns (isSignNegativeOf y) k) (sym (pow-suc (unitsOf y) k))
 
 module _ (f : List Float) (d : ℕ) (y : Float) where
   -- ---- the rule's value, of n coefficients from a_k on
@@ -74,8 +74,8 @@ module _ (f : List Float) (d : ℕ) (y : Float) where
   unfolding termOf
   term-is k = sym (go (isSignNegativeOf (getD f k nan)) (isSignNegativeOf y && eqb (k % 2) 1) (unitsOf (getD f k nan)) (unitsOf y ^ k) (oneUnits ^ (d - k)))
     where
-      go : (s t : Bool) (a b c : ℕ) → signed s a ⊡ c ⊠ signed t b ≡ signed (unlike s t) (a * b * c)
-      go s t a b c = ap (λ (x : Diff). x ⊠ signed t b) (signed-multiple s a c) ∙ signed-times s t (a * c) b ∙ ap (signed (unlike s t)) (omega arith)
+      go : (s t : Bool) (a b c : ℕ) → signedDiff s a ⊡ c ⊠ signedDiff t b ≡ signedDiff (unlike s t) (a * b * c)
+      go s t a b c = ap (λ (x : Diff). x ⊠ signedDiff t b) (signed-multiple s a c) ∙ signed-times s t (a * c) b ∙ ap (signedDiff (unlike s t)) (omega arith)
 
   terms-from : (n k : ℕ) → n + k ≡ d + 1 → total n k ≡ exactFrom n k ⊠ powerOf y k
   unfolding exactFrom
@@ -103,7 +103,7 @@ module _ (f : List Float) (d : ℕ) (y : Float) where
   unfolding termOf
   term-size k = go (unlike (isSignNegativeOf (getD f k nan)) (isSignNegativeOf y && eqb (k % 2) 1)) (unitsOf (getD f k nan) * unitsOf y ^ k * oneUnits ^ (d - k))
     where
-      go : (s : Bool) (a : ℕ) → sizeOf (signed s a) ≡ magnitude (signed s a)
+      go : (s : Bool) (a : ℕ) → sizeOf (signedDiff s a) ≡ magnitude (signedDiff s a)
       go s a = signed-size s a ∙ sym (signed-magnitude s a)
 
   sizes : (n k : ℕ) → sumOf sizeOf (fillFrom k n (termOf f d y)) ≡ magnitude (total n k)

@@ -18,15 +18,15 @@ use Rattle.rounding.specs.Units.{oneUnits}
 use Rattle.rounding.specs.Diff.{Diff}
 use Rattle.rounding.proofs.Value.{Val, plus-sign, minus-sign, value}
 use Rattle.rounding.proofs.Num.{Num}
-use Rattle.accuracy.specs.Terms.{signed, signedUnits}
+use Rattle.accuracy.specs.Terms.{signedDiff, signedUnits}
 use Rattle.accuracy.specs.Claims.{atMost}
 use Rattle.accuracy.proofs.Sizes.{signed-magnitude}
 
 -- ---- values and units
 pub val-units : {x : Float} {p n : ℕ} → Val x p n → signedUnits x ≡ record { p = p; n = n }
 unfolding isSignNegativeOf oneUnits
-val-units (plus-sign {p = p} {e = e} h) = ap (signed false) (ap (λ (z : ℕ). z / down e) h ∙ mul-div-cancel p (down-pos e))
-val-units (minus-sign {n = n} {e = e} h) = ap (signed true) (ap (λ (z : ℕ). z / down e) h ∙ mul-div-cancel n (down-pos e))
+val-units (plus-sign {p = p} {e = e} h) = ap (signedDiff false) (ap (λ (z : ℕ). z / down e) h ∙ mul-div-cancel p (down-pos e))
+val-units (minus-sign {n = n} {e = e} h) = ap (signedDiff true) (ap (λ (z : ℕ). z / down e) h ∙ mul-div-cancel n (down-pos e))
 
 pub num-units : {x : Float} {k : ℕ} (X : Num x k) → signedUnits x ≡ X .v
 num-units X = val-units (X .is)

@@ -16,12 +16,12 @@ use Rattle.rounding.specs.Units.{oneUnits}
 use Rattle.rounding.specs.Diff.{Diff}
 
 -- the whole number of size n, below 0 where s is true
-abbrev pub signed : Bool → ℕ → Diff
-signed s n = record { p = cond s 0 n; n = cond s n 0 }
+abbrev pub signedDiff : Bool → ℕ → Diff
+signedDiff s n = record { p = cond s 0 n; n = cond s n 0 }
 
 -- a finite double in units, with its sign
 abbrev pub signedUnits : Float → Diff
-signedUnits x = signed (isSignNegativeOf x) (unitsOf x)
+signedUnits x = signedDiff (isSignNegativeOf x) (unitsOf x)
 
 -- |x|
 abbrev pub sizeOf : Diff → ℕ
@@ -31,7 +31,7 @@ sizeOf x = dist (x .p) (x .n)
 unfoldable pub termOf : List Float → ℕ → Float → ℕ → Diff
 termOf f d y i =
     let a = getD f i nan in
-    signed (unlike (isSignNegativeOf a) (isSignNegativeOf y && eqb (i % 2) 1)) (unitsOf a * unitsOf y ^ i * oneUnits ^ (d - i))
+    signedDiff (unlike (isSignNegativeOf a) (isSignNegativeOf y && eqb (i % 2) 1)) (unitsOf a * unitsOf y ^ i * oneUnits ^ (d - i))
 
 -- the terms, for i from 0 to d
 abbrev pub termsOf : List Float → ℕ → Float → List Diff

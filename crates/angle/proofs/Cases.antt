@@ -15,11 +15,11 @@ use Rattle.float.specs.Units.{unitsOf}
 use Rattle.decode.specs.Exponent.{regularOf}
 use Rattle.decode.specs.Shape.{Normal, Decoded}
 use Rattle.decode.proofs.Class.{zero-is, not-zero, negative-view, positive-view, decoded-irregular, decoded-regular, decoded-normal}
-use Rattle.nearest.specs.Greatest.{greatest, nearestOf, Half}
+use Rattle.nearest.specs.Greatest.{greatest, nearestOf, NearestHalf}
 use Rattle.nearest.proofs.ByTest.{half-bounds}
 use Rattle.angle.specs.declared.ThirdAngle.{ThirdAngle}
 use Rattle.angle.specs.Third.{cosUnits, cosOf, sinOf, thirdAngleOf}
-use Rattle.angle.specs.Parts.{levelOf, cosLe, Digits}
+use Rattle.angle.specs.Parts.{levelOf, cosLe, CosineDigits}
 use Rattle.angle.proofs.Levels.{level-lt}
 use Rattle.angle.proofs.Cosine.{monotone, sized, nearestCos, cos-nearest}
 
@@ -28,10 +28,10 @@ angle c s = record { cos = c; sin = s }
 
 -- ---- what the function returns
 
-no-digits : (c : Float) → c ≡ nan → Digits c 0
+no-digits : (c : Float) → c ≡ nan → CosineDigits c 0
 no-digits c e = record { none = λ z. e; some = λ p. absurd (p refl) }
 
-all-digits : (c : Float) (m : ℕ) → 2 ^ 52 ≤ m → m ≤ 2 ^ 53 → c ≡ odd 54 false m 1021 1074 → Digits c m
+all-digits : (c : Float) (m : ℕ) → 2 ^ 52 ≤ m → m ≤ 2 ^ 53 → c ≡ odd 54 false m 1021 1074 → CosineDigits c m
 all-digits c m a b e = record { none = λ z. absurd (some m a z); some = λ p. (a, b, e) }
   where
     some : (m : ℕ) → 2 ^ 52 ≤ m → m ≡ 0 → ⊥
@@ -78,7 +78,7 @@ unfolding cosUnits nearestOf greatest round size units odd trailingZeros
 at-one true = refl
 at-one false = refl
 
-pub digits-zero : (v : Float) → eq v (fin false 0 (pos 0)) ≡ true → Digits (cosOf v) 7800463371553962
+pub digits-zero : (v : Float) → eq v (fin false 0 (pos 0)) ≡ true → CosineDigits (cosOf v) 7800463371553962
 digits-zero v z =
     let x = zero-is v z in
     let none : unitsOf (fin (x .0) 0 (x .1)) ≡ 0 = ap (λ (a : ℕ). a * 2 ^ 1074 / down (x .1)) (zero-mul (up (x .1))) ∙ zero-div (down (x .1)) in
@@ -88,7 +88,7 @@ digits-zero v z =
 -- ---- by the digits of v
 
 module _ (v : Float) (w k : ℕ) (d : Decoded v w k) where
-  pub digits-none : eq v (fin false 0 (pos 0)) ≡ false → w ≡ 0 → Digits (cosOf v) 0
+  pub digits-none : eq v (fin false 0 (pos 0)) ≡ false → w ≡ 0 → CosineDigits (cosOf v) 0
   digits-none e z = no-digits _ (cos-irregular v e (decoded-irregular v w k d z))
 
   module _ (z : w ≡ 0 → ⊥) where
@@ -115,16 +115,16 @@ module _ (v : Float) (w k : ℕ) (d : Decoded v w k) where
         go (inl l) = lt-of-lt-of-le (lit< tt) (mul-le-mul {n₁ = 2 ^ 52} {m₁ = 2 ^ 1075} (n .led) (pow-mono l))
         go (inr l) = lt-of-lt-of-le (mul-lt-mul-of-pos-right l (pow-pos 1074)) (mul-le-mul-left w (pow-mono a))
 
-    pub digits-inside : (s : Bool) → lt v (fin false 0 (pos 0)) ≡ s → k < 1074 → (m : ℕ) → Half (cosLe (levelOf s w k)) m → Digits (cosOf v) m
+    pub digits-inside : (s : Bool) → lt v (fin false 0 (pos 0)) ≡ s → k < 1074 → (m : ℕ) → NearestHalf (cosLe (levelOf s w k)) m → CosineDigits (cosOf v) m
     digits-inside s e l m q =
         let b = half-bounds _ (monotone (levelOf s w k)) (sized (levelOf s w k) (level-lt w k (n .short) l s)) m q in
         all-digits _ _ (b .0) (b .1)
         (cos-is v r (le-of-lt (units-below l)) ∙ ap (λ (s : Bool). nearestCos s (unitsOf v)) e ∙ cos-nearest s (unitsOf v) w k m n (le-of-lt (units-below l)) l q)
 
-    pub digits-above : 1074 ≤ k → (1074 < k) ⊎ (2 ^ 52 < w) → Digits (cosOf v) 0
+    pub digits-above : 1074 ≤ k → (1074 < k) ⊎ (2 ^ 52 < w) → CosineDigits (cosOf v) 0
     digits-above a c = no-digits _ (cos-above v (units-above a c))
 
-    pub digits-one : (s : Bool) → lt v (fin false 0 (pos 0)) ≡ s → 1074 ≤ k → k ≤ 1074 → w ≤ 2 ^ 52 → Digits (cosOf v) (cond s (2 ^ 52) (2 ^ 53))
+    pub digits-one : (s : Bool) → lt v (fin false 0 (pos 0)) ≡ s → 1074 ≤ k → k ≤ 1074 → w ≤ 2 ^ 52 → CosineDigits (cosOf v) (cond s (2 ^ 52) (2 ^ 53))
     digits-one s e a b l =
         all-digits _ _ (low s) (high s)
         (cos-is v r (le-of-eq (units-one a b l)) ∙ ap₂ (λ (s : Bool) (u : ℕ). nearestCos s u) e (units-one a b l) ∙ at-one s)

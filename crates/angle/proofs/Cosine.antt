@@ -9,10 +9,10 @@ use lib.Dec.{T, leb, eqb, leb→le, le→leb, lit<, lit≤}
 use lib.Pow.{pow-pos}
 use lib.Ieee.{Float, odd}
 use Rattle.decode.specs.Shape.{Normal}
-use Rattle.nearest.specs.Greatest.{nearestOf, Half}
+use Rattle.nearest.specs.Greatest.{nearestOf, NearestHalf}
 use Rattle.nearest.proofs.Search.{found}
 use Rattle.nearest.proofs.ByTest.{Monotone, Sized, apart, by-test}
-use Rattle.angle.specs.Third.{left, right, below, cosUnits}
+use Rattle.angle.specs.Third.{left, right, atMostSolution, cosUnits}
 use Rattle.angle.specs.Parts.{rise, levelOf, cosLe}
 use Rattle.angle.proofs.Rise as rises
 use Rattle.angle.proofs.Rise.{rise-ordered, rise-none, grid}
@@ -47,25 +47,25 @@ abbrev pub nearestCos : Bool → ℕ → Float
 nearestCos s n = let t = cosUnits s n in nearestOf t (eqb (left s n t) (right s n t))
 
 module _ (s : Bool) (n w k m : ℕ) (d : Normal n w k) (h : n ≤ 2 ^ 1074) (l : k < 1074) where
-  at : (b : ℕ) → below s n (b * 2 ^ 1020) ≡ cosLe (levelOf s w k) b
+  at : (b : ℕ) → atMostSolution s n (b * 2 ^ 1020) ≡ cosLe (levelOf s w k) b
   at b = grid s n w k b h d
 
-  mono : Monotone (below s n)
+  mono : Monotone (atMostSolution s n)
   mono = rises.monotone s n h
 
-  start : below s n 0 ≡ true
+  start : atMostSolution s n 0 ≡ true
   start = ap (λ (b : Bool). b || leb (left s n 0) (right s n 0)) (le-leb 0 (2 ^ 1073) zero-le)
 
-  half : below s n (2 ^ 53 * 2 ^ 1020) ≡ true
+  half : atMostSolution s n (2 ^ 53 * 2 ^ 1020) ≡ true
   half = at (2 ^ 53) ∙ half-passes (levelOf s w k) (2 ^ 53) (lit≤ tt)
 
-  one : below s n (2 ^ 54 * 2 ^ 1020) ≡ false
+  one : atMostSolution s n (2 ^ 54 * 2 ^ 1020) ≡ false
   one = at (2 ^ 54) ∙ one-fails (levelOf s w k) (level-lt w k (d .short) l s)
 
-  beyond : below s n (0 + 2 ^ 1075) ≡ false
-  beyond = go (below s n (0 + 2 ^ 1075)) (mono (2 ^ 54 * 2 ^ 1020) (0 + 2 ^ 1075) (lit≤ tt))
+  beyond : atMostSolution s n (0 + 2 ^ 1075) ≡ false
+  beyond = go (atMostSolution s n (0 + 2 ^ 1075)) (mono (2 ^ 54 * 2 ^ 1020) (0 + 2 ^ 1075) (lit≤ tt))
     where
-      go : (b : Bool) → (T b → T (below s n (2 ^ 54 * 2 ^ 1020))) → b ≡ false
+      go : (b : Bool) → (T b → T (atMostSolution s n (2 ^ 54 * 2 ^ 1020))) → b ≡ false
       go true f = absurd (subst T one (f tt))
       go false f = refl
 
@@ -73,15 +73,15 @@ module _ (s : Bool) (n w k m : ℕ) (d : Normal n w k) (h : n ≤ 2 ^ 1074) (l :
   middle : (b : ℕ) → b * 2 ^ 1020 ≡ cosUnits s n → 2 ^ 53 ≤ b
   unfolding cosUnits
   middle b e =
-      let f = found (below s n) 1075 0 (subst T (sym start) tt) (subst (λ (c : Bool). T (not c)) (sym beyond) tt) in
-      let g = apart (below s n) mono (2 ^ 53 * 2 ^ 1020) (suc (cosUnits s n)) (subst T (sym half) tt) (f .1) in
+      let f = found (atMostSolution s n) 1075 0 (subst T (sym start) tt) (subst (λ (c : Bool). T (not c)) (sym beyond) tt) in
+      let g = apart (atMostSolution s n) mono (2 ^ 53 * 2 ^ 1020) (suc (cosUnits s n)) (subst T (sym half) tt) (f .1) in
       le-of-mul-le-mul-right (subst (λ (x : ℕ). 2 ^ 53 * 2 ^ 1020 ≤ x) (sym e) (le-of-suc-le-suc g)) (pow-pos 1020)
 
-  pub cos-nearest : Half (cosLe (levelOf s w k)) m → nearestCos s n ≡ odd 54 false m 1021 1074
+  pub cos-nearest : NearestHalf (cosLe (levelOf s w k)) m → nearestCos s n ≡ odd 54 false m 1021 1074
   unfolding cosUnits
   cos-nearest q =
       let t = cosUnits s n in
-      by-test (below s n) mono 1075 0 1020 m (eqb (left s n t) (right s n t)) start beyond
+      by-test (atMostSolution s n) mono 1075 0 1020 m (eqb (left s n t) (right s n t)) start beyond
       (record { least = half; most = one })
       (record { some = q .some; low = at (2 * m - 1) ∙ q .low; high = at (2 * m + 1) ∙ q .high })
       (λ g x.

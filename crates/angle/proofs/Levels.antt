@@ -10,11 +10,11 @@ use lib.Dec.{ltb}
 use lib.Pow.{pow-add, pow-pos, pow-mono, pow-lt}
 use Rattle.algebra.specs.RingNat.{ring, _:+_, _:*_, _:=_}
 use Rattle.algebra.specs.NatOrder.{div-unique, div-mod-unique}
-use Rattle.angle.specs.Parts.{value, levelOf, Scaled}
+use Rattle.angle.specs.Parts.{value, levelOf, WholePart}
 
 -- ---- w * 2 ^ k / 2 ^ 966
 
-cut : (w k q r : ℕ) (rest : Bool) → w * 2 ^ k ≡ q * 2 ^ 966 + r → r < 2 ^ 966 → rest ≡ ltb 0 r → Scaled w k q rest
+cut : (w k q r : ℕ) (rest : Bool) → w * 2 ^ k ≡ q * 2 ^ 966 + r → r < 2 ^ 966 → rest ≡ ltb 0 r → WholePart w k q rest
 cut w k q r rest e l b =
     let d = div-mod-unique q r e l in
     record { whole = sym (d .0); left = b ∙ ap (λ (x : ℕ). ltb 0 x) (sym (d .1)) }
@@ -23,7 +23,7 @@ joined : (a b l : ℕ) → a + b ≡ l → 2 ^ a * 2 ^ b ≡ 2 ^ l
 joined a b l e = sym (pow-add 2 a b) ∙ ap (λ (x : ℕ). 2 ^ x) e
 
 -- nothing but a rest
-pub none : (w k : ℕ) → 0 < w → w < 2 ^ 53 → k < 903 → Scaled w k (value 0 0 0) true
+pub none : (w k : ℕ) → 0 < w → w < 2 ^ 53 → k < 903 → WholePart w k (value 0 0 0) true
 none w k p h l =
     cut w k 0 (w * 2 ^ k) true (sym (zero-add (w * 2 ^ k)))
     (lt-of-lt-of-le (mul-lt-mul-of-pos-right h (pow-pos k)) (subst (λ (x : ℕ). x ≤ 2 ^ 966) (pow-add 2 53 k) (pow-mono (let e : 53 + k ≤ 966 = omega arith in e))))
@@ -37,8 +37,8 @@ pub bit-pos : (d : ℕ) → d < 64 → 0 < 1 * 2 ^ d % 2 ^ 64
 bit-pos d h = subst (λ (x : ℕ). 0 < x) (sym (bit d h)) (pow-pos d)
 
 -- the digits from 2 ^ (966 - k) on, and the others
-pub low : (w k : ℕ) → 903 ≤ k → k < 966 → Scaled w k (value 0 0 (w / (1 * 2 ^ (966 - k) % 2 ^ 64))) (ltb 0 (w % (1 * 2 ^ (966 - k) % 2 ^ 64)))
-low w k a b = subst (λ (x : ℕ). Scaled w k (value 0 0 (w / x)) (ltb 0 (w % x))) (sym (bit (966 - k) (let e : 966 - k < 64 = omega arith in e))) digits
+pub low : (w k : ℕ) → 903 ≤ k → k < 966 → WholePart w k (value 0 0 (w / (1 * 2 ^ (966 - k) % 2 ^ 64))) (ltb 0 (w % (1 * 2 ^ (966 - k) % 2 ^ 64)))
+low w k a b = subst (λ (x : ℕ). WholePart w k (value 0 0 (w / x)) (ltb 0 (w % x))) (sym (bit (966 - k) (let e : 966 - k < 64 = omega arith in e))) digits
   where
     whole : 2 ^ (966 - k) * 2 ^ k ≡ 2 ^ 966
     whole = joined (966 - k) k 966 (let e : 966 - k + k ≡ 966 = omega arith in e)
@@ -54,25 +54,25 @@ low w k a b = subst (λ (x : ℕ). Scaled w k (value 0 0 (w / x)) (ltb 0 (w % x)
         go (inl e) = ap (λ (x : ℕ). ltb 0 x) (e ∙ sym (ap (λ (x : ℕ). x * y) e ∙ zero-mul y))
         go (inr h) = lt-ltb 0 r h ∙ sym (lt-ltb 0 (r * y) (mul-pos h p))
 
-    digits : Scaled w k (value 0 0 (w / 2 ^ (966 - k))) (ltb 0 (w % 2 ^ (966 - k)))
+    digits : WholePart w k (value 0 0 (w / 2 ^ (966 - k))) (ltb 0 (w % 2 ^ (966 - k)))
     digits =
-        subst (λ (x : ℕ). Scaled w k x (ltb 0 (w % 2 ^ (966 - k)))) (sym (zero-add (w / 2 ^ (966 - k))))
+        subst (λ (x : ℕ). WholePart w k x (ltb 0 (w % 2 ^ (966 - k)))) (sym (zero-add (w / 2 ^ (966 - k))))
         (cut w k (w / 2 ^ (966 - k)) (w % 2 ^ (966 - k) * 2 ^ k) (ltb 0 (w % 2 ^ (966 - k))) (sum w (2 ^ (966 - k)) (2 ^ k) (2 ^ 966) whole)
         (subst (λ (x : ℕ). w % 2 ^ (966 - k) * 2 ^ k < x) whole (mul-lt-mul-of-pos-right (mod-lt w (pow-pos (966 - k))) (pow-pos k)))
         (some-left (w % 2 ^ (966 - k)) (2 ^ k) (pow-pos k)))
 
 -- a whole number of them
-exact : (w k n : ℕ) → 966 ≤ k → n ≡ w * 2 ^ (k - 966) → Scaled w k n false
+exact : (w k n : ℕ) → 966 ≤ k → n ≡ w * 2 ^ (k - 966) → WholePart w k n false
 exact w k n a v =
-    subst (λ (x : ℕ). Scaled w k x false) (sym v)
+    subst (λ (x : ℕ). WholePart w k x false) (sym v)
     (cut w k (w * 2 ^ (k - 966)) 0 false
     (sym (add-zero (w * 2 ^ (k - 966) * 2 ^ 966) ∙ mul-assoc w (2 ^ (k - 966)) (2 ^ 966) ∙ ap (λ (x : ℕ). w * x) (joined (k - 966) 966 k (let e : k - 966 + 966 ≡ k = omega arith in e)))) (pow-pos 966) refl)
 
-pub mid : (w k h l : ℕ) → 966 ≤ k → k < 1030 → h * 2 ^ 64 + l ≡ w * (1 * 2 ^ (k - 966) % 2 ^ 64) → Scaled w k (value 0 h l) false
+pub mid : (w k h l : ℕ) → 966 ≤ k → k < 1030 → h * 2 ^ 64 + l ≡ w * (1 * 2 ^ (k - 966) % 2 ^ 64) → WholePart w k (value 0 h l) false
 mid w k h l a b e =
     exact w k (value 0 h l) a (ap (λ (x : ℕ). x * 2 ^ 64 + l) (zero-add h) ∙ e ∙ ap (λ (x : ℕ). w * x) (bit (k - 966) (let q : k - 966 < 64 = omega arith in q)))
 
-pub high : (w k h l : ℕ) → 1030 ≤ k → k < 1074 → h * 2 ^ 64 + l ≡ w * (1 * 2 ^ (k - 1030) % 2 ^ 64) → Scaled w k (value h l 0) false
+pub high : (w k h l : ℕ) → 1030 ≤ k → k < 1074 → h * 2 ^ 64 + l ≡ w * (1 * 2 ^ (k - 1030) % 2 ^ 64) → WholePart w k (value h l 0) false
 high w k h l a b e =
     exact w k (value h l 0) (let q : 966 ≤ k = omega arith in q)
     (add-zero ((h * 2 ^ 64 + l) * 2 ^ 64)
@@ -102,7 +102,7 @@ small : (w k : ℕ) → w < 2 ^ 53 → k < 1074 → w * 2 ^ k < 2 ^ 1126
 small w k h l = lt-of-lt-of-le (mul-lt-mul-of-pos-right h (pow-pos k)) (mul-le-mul-left (2 ^ 53) (pow-mono (let e : k ≤ 1073 = omega arith in e)))
 
 module _ (w k : ℕ) (h : w < 2 ^ 53) (l : k < 1074) where
-  pub part-lt : (n : ℕ) (rest : Bool) → Scaled w k n rest → n < 2 ^ 160
+  pub part-lt : (n : ℕ) (rest : Bool) → WholePart w k n rest → n < 2 ^ 160
   part-lt n rest s = subst (λ (x : ℕ). x < 2 ^ 160) (sym (s .whole)) (div-lt-iff-lt-mul (pow-pos 966) .1 (small w k h l))
 
   pub level-lt : (s : Bool) → levelOf s w k < 2 ^ 161
@@ -112,7 +112,7 @@ module _ (w k : ℕ) (h : w < 2 ^ 53) (l : k < 1074) where
       twice u a h = omega arith
   level-lt true = div-lt-iff-lt-mul (pow-pos 966) .1 (lt-of-le-of-lt (sub-le (2 ^ 1126) (w * 2 ^ k)) (pow-lt (let e : 1126 < 1127 = omega arith in e)))
 
-  pub level-above : (hi mid lo : ℕ) (rest : Bool) → Scaled w k (value hi mid lo) rest → value (2 ^ 32 + hi) mid lo ≡ levelOf false w k
+  pub level-above : (hi mid lo : ℕ) (rest : Bool) → WholePart w k (value hi mid lo) rest → value (2 ^ 32 + hi) mid lo ≡ levelOf false w k
   level-above hi mid lo rest s = sym (sum (2 ^ 32) 0 0 hi mid lo refl (zero-add mid) (zero-add lo)) ∙ ap (λ (x : ℕ). 2 ^ 160 + x) (s .whole) ∙ sym (mul-add-div-right (pow-pos 966) (2 ^ 160) (w * 2 ^ k))
 
 -- B * G - a has one more than q whole parts G below B where nothing is left of a
@@ -133,7 +133,7 @@ less-div B G a q p e = go (eq-zero-or-pos (a % G))
         let b : q * G + a / G * G + 1 * G ≡ B * G = subst (λ (b : Bool). q * G + a / G * G + cond b 1 0 * G ≡ B * G) (lt-ltb 0 (a % G) r) parts in
         div-unique G q (omega arith) (omega arith)
 
-pub level-below : (w k n : ℕ) (rest : Bool) (q : ℕ) → Scaled w k n rest → q + n + cond rest 1 0 ≡ 2 ^ 160 → q ≡ levelOf true w k
+pub level-below : (w k n : ℕ) (rest : Bool) (q : ℕ) → WholePart w k n rest → q + n + cond rest 1 0 ≡ 2 ^ 160 → q ≡ levelOf true w k
 level-below w k n rest q s e =
     sym (less-div (2 ^ 160) (2 ^ 966) (w * 2 ^ k) q (pow-pos 966) (ap₂ (λ (x : ℕ) (b : Bool). q + x + cond b 1 0) (sym (s .whole)) (sym (s .left)) ∙ e))
 

@@ -13,7 +13,7 @@ use Rattle.algebra.specs.RingNat.{ring, #, _:+_, _:*_, _:=_}
 use Rattle.decode.specs.Shape.{Normal}
 use Rattle.nearest.proofs.ByTest.{Monotone}
 use Rattle.nearest.proofs.Powers.{leb-scaled}
-use Rattle.angle.specs.Third.{left, right, below}
+use Rattle.angle.specs.Third.{left, right, atMostSolution}
 use Rattle.angle.specs.Parts.{rise, onePlus, levelOf, cosLe}
 
 -- two tests with the same answer
@@ -71,7 +71,7 @@ module _ (H U n t : ℕ) (e : U ≡ 4 * (H * H)) (l : H ≤ t) where
       moved X A B C R Q c d = leb-same (4 * X + 4 * C) (4 * (3 * A)) R Q (λ q. omega arith) (λ q. omega arith)
 
 -- for every t, for a v from -1 to 1
-pub below-is : (s : Bool) (n t : ℕ) → n ≤ 2 ^ 1074 → below s n t ≡ leb (rise (2 ^ 1073) t) (onePlus s (2 ^ 1074) n * (2 ^ 1073 * 2 ^ 1073))
+pub below-is : (s : Bool) (n t : ℕ) → n ≤ 2 ^ 1074 → atMostSolution s n t ≡ leb (rise (2 ^ 1073) t) (onePlus s (2 ^ 1074) n * (2 ^ 1073 * 2 ^ 1073))
 below-is s n t h = go (leb t (2 ^ 1073)) refl
   where
     side : (s : Bool) → 2 ^ 1073 ≤ t → leb (left s n t) (right s n t) ≡ leb (rise (2 ^ 1073) t) (onePlus s (2 ^ 1074) n * (2 ^ 1073 * 2 ^ 1073))
@@ -82,7 +82,7 @@ below-is s n t h = go (leb t (2 ^ 1073)) refl
     go true e = sym (ap (λ (x : ℕ). leb x (onePlus s (2 ^ 1074) n * (2 ^ 1073 * 2 ^ 1073))) (rise-none (2 ^ 1073) t (leb-true t (2 ^ 1073) e)) ∙ le-leb 0 (onePlus s (2 ^ 1074) n * (2 ^ 1073 * 2 ^ 1073)) zero-le)
     go false e = side s (le-of-lt (leb-false t (2 ^ 1073) e))
 
-pub monotone : (s : Bool) (n : ℕ) → n ≤ 2 ^ 1074 → Monotone (below s n)
+pub monotone : (s : Bool) (n : ℕ) → n ≤ 2 ^ 1074 → Monotone (atMostSolution s n)
 monotone s n h a b l t =
     let Q = onePlus s (2 ^ 1074) n * (2 ^ 1073 * 2 ^ 1073) in
     subst T (sym (below-is s n a h)) (le→leb (rise (2 ^ 1073) a) Q (le-trans (rise-ordered (2 ^ 1073) a b l) (leb→le (rise (2 ^ 1073) b) Q (subst T (below-is s n b h) t))))
@@ -97,7 +97,7 @@ on-level f Q K Y P Z G k p g eg ez =
     ∙ ap₂ leb (mul-assoc f Y P ∙ ap (λ (x : ℕ). f * x) (sym eg)) ez
     ∙ leb-div f Z G g
 
-pub grid : (s : Bool) (n w k t : ℕ) → n ≤ 2 ^ 1074 → Normal n w k → below s n (t * 2 ^ 1020) ≡ cosLe (levelOf s w k) t
+pub grid : (s : Bool) (n w k t : ℕ) → n ≤ 2 ^ 1074 → Normal n w k → atMostSolution s n (t * 2 ^ 1020) ≡ cosLe (levelOf s w k) t
 grid s n w k t h d =
     below-is s n (t * 2 ^ 1020) h
     ∙ ap (λ (x : ℕ). leb x (onePlus s (2 ^ 1074) n * (2 ^ 1073 * 2 ^ 1073))) (rise-scaled (2 ^ 53) t (2 ^ 1020))

@@ -10,8 +10,8 @@ use Rattle.angle.specs.declared.Triple.{Triple}
 abbrev pub value : ℕ → ℕ → ℕ → ℕ
 value hi mid lo = (hi * 2 ^ 64 + mid) * 2 ^ 64 + lo
 
-abbrev pub whole : Triple → ℕ
-whole t = value (t .hi) (t .mid) (t .lo)
+abbrev pub tripleOf : Triple → ℕ
+tripleOf t = value (t .hi) (t .mid) (t .lo)
 
 -- With x = 2c - 1 the equation 4c³ - 3c = v is x²(x + 3) = 2(1 + v), whose left side grows from x = 0 on. Where c is t of 1 / 2h, x is t - h of 1 / h, and the
 -- left side of 1 / h³ is
@@ -32,12 +32,12 @@ abbrev pub cosLe : ℕ → ℕ → Bool
 cosLe level t = leb (rise (2 ^ 53) t) level
 
 -- n is the whole part of w * 2 ^ k / 2 ^ 966, and `rest` says whether something is left
-pub record Scaled (w k n : ℕ) (rest : Bool) : Type 0 where
+pub record WholePart (w k n : ℕ) (rest : Bool) : Type 0 where
   pub whole : n ≡ w * 2 ^ k / 2 ^ 966
   pub left : rest ≡ ltb 0 (w * 2 ^ k % 2 ^ 966)
 
 -- c is m / 2 ^ 53, or no number where m is 0
-pub record Digits (c : Float) (m : ℕ) : Type 0 where
+pub record CosineDigits (c : Float) (m : ℕ) : Type 0 where
   pub none : m ≡ 0 → c ≡ nan
   pub some : (m ≡ 0 → ⊥) → (2 ^ 52 ≤ m) × (m ≤ 2 ^ 53) × (c ≡ odd 54 false m 1021 1074)
 

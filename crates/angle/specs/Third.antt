@@ -19,13 +19,13 @@ right false n t = (3 * t + n) * 2 ^ 2148
 right true n t = 3 * t * 2 ^ 2148
 
 -- Whether t is at most the greatest solution, which is a half at least: from a half on 4c³ - 3c grows.
-abbrev pub below : Bool → ℕ → ℕ → Bool
-below s n t = leb t (2 ^ 1073) || leb (left s n t) (right s n t)
+abbrev pub atMostSolution : Bool → ℕ → ℕ → Bool
+atMostSolution s n t = leb t (2 ^ 1073) || leb (left s n t) (right s n t)
 
 -- the units of the greatest solution, rounded down
 unfoldable pub cosUnits : Bool → ℕ → ℕ
 unfolding greatest
-cosUnits s n = greatest (below s n) 1075 0
+cosUnits s n = greatest (atMostSolution s n) 1075 0
 
 -- c is 'the double nearest the greatest real solution of 4c³ − 3c = v, for v in [−1, 1]'. NaN for a NaN, and for a v outside.
 unfoldable pub cosOf : Float → Float

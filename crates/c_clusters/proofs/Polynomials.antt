@@ -17,7 +17,7 @@ use Rattle.roots.specs.Roots.{rootsOf}
 use Rattle.roots.specs.Listed.{multiplicities, Fits, PairsFit}
 use Rattle.roots.proofs.Laws.{roots-fit, kept-fits, paired-fits}
 use Rattle.push.specs.declared.Found.{Found}
-use Rattle.push.specs.Quadratic.{Factor, double, apart, complex, quadraticOf, pushFactorIn, pushQuadraticIn}
+use Rattle.push.specs.Quadratic.{Factor, double, apart, complex, quadraticRootsOf, pushFactorIn, pushQuadraticIn}
 use Rattle.finish.specs.Finish.{finishOf}
 use Rattle.finish.proofs.Counts.{finish-counts}
 use Rattle.lent_bytes.proofs.Five.{none-holds}
@@ -64,7 +64,7 @@ pub quadratic-fits : (poly : Scaled) (al be tol : Float) (c : List ℕ) (n m : �
     → s ≡ pushQuadraticIn poly al be tol out pairs → Fits (s .roots) × PairsFit (s .pairs)
 unfolding pushQuadraticIn
 quadratic-fits poly al be tol c n m h k o p e =
-    let fit = factor-fits (record { roots = candidatesAt c n; pairs = pairsAt c m }) (quadraticOf poly al be tol) (candidates-fit c n h) (pairs-fit c m k) in
+    let fit = factor-fits (record { roots = candidatesAt c n; pairs = pairsAt c m }) (quadraticRootsOf poly al be tol) (candidates-fit c n h) (pairs-fit c m k) in
     rw (e, o, p) fit
 
 pub finish-fits : (poly : Scaled) (c : List RealRoot) (tol : Float) {s : Roots} → s ≡ rootsOf (finishOf poly c tol) → Fits s

@@ -7,10 +7,10 @@ ghost use Rattle.lent_bytes.specs.Bytes.{Answered};
 ghost use Rattle.c_roots.specs.Inquiries.{shownNumbers, firstReplies, numbersAfter, inquiryRefusal, shownAt};
 use crate::lists::not_doubles;
 use c_clusters::root_numbers;
-use lent_coefficients::short_at;
 use inquiry::Inquiry;
 use lent_bytes::answer;
 use lent_bytes::flag;
+use lent_coefficients::short_at;
 use roots::Roots;
 use touching::Replies;
 

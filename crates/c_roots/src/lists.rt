@@ -5,8 +5,8 @@ ghost use mathlib.Core.Path.{_≡_};
 ghost use Rattle.lent_bytes.specs.Bytes.{Answered};
 ghost use Rattle.c_roots.specs.Lists.{notDoubles, listRefusal, listNumbers};
 use c_clusters::root_numbers;
-use lent_coefficients::short_at;
 use lent_bytes::answer;
+use lent_coefficients::short_at;
 
 // The bytes are no whole doubles.
 pub fn not_doubles(s: &[u8]) -> bool

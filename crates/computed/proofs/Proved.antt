@@ -1,10 +1,10 @@
 -- The proof of specs/Computed: each value is what the definition computes to. Assumes nothing.
 use mathlib.Core.Path.{refl}
-use Rattle.computed.specs.Computed.{Computed, Doubles, Squares, Quartics, Scaling, Splitting, Factors, Factorizing, Bands, Polishing, Inquiring, Equations}
+use Rattle.computed.specs.Computed.{Computed, DoubleValues, Squares, Quartics, Scaling, Splitting, FactorValues, Factorizing, Bands, PolishValues, Inquiring, Equations}
 use Rattle.computed.proofs.Unfolded.{arithmetic, evaluation, factoring, scaling, solving}
 use Rattle.computed.proofs.Steps.{steps}
 
-doubles : Doubles
+doubles : DoubleValues
 unfolding arithmetic
 doubles = record {
   max-of-zeros = refl;
@@ -48,7 +48,7 @@ splitting : Splitting
 unfolding arithmetic scaling
 splitting = record { on-an-edge = refl; middle-down = refl }
 
-factors : Factors
+factors : FactorValues
 unfolding arithmetic evaluation factoring scaling
 factors = record {
   at-threshold = refl;
@@ -85,7 +85,7 @@ bands = record {
   finite-middle = refl;
 }
 
-polishing : Polishing
+polishing : PolishValues
 unfolding arithmetic evaluation solving
 polishing = record { infinite-step = refl; small-step = refl; small-where-it-ends = refl }
 

@@ -15,7 +15,7 @@ use Rattle.float.specs.Methods.{isFiniteOf, allFiniteOf, absOf}
 use Rattle.horner.specs.Loops.{atPlace}
 use Rattle.horner.specs.Product.{splitHigh, productError}
 use Rattle.horner.specs.Horner.{Horner, sumError, compensatedStep, compensatedOf, valueSlopeCompensatedOf}
-use Rattle.square.specs.Square.{sizesOf}
+use Rattle.square.specs.Square.{sizeSumOf}
 use Rattle.refine.specs.Refine.{System, overOf, weightedOf, normOf, noLessOf, keptOf}
 use Rattle.refine.specs.Systems.{size3Of, size4Of, cubicSystem, quarticSystem, peelSystem}
 use Rattle.refine.specs.Newton.{flatOf, noGainOf}
@@ -237,7 +237,7 @@ module _ (n : ℕ) (sys : System) (current : Float) (f : isFiniteOf current ≡ 
   not-kept y h = rw (no-less current _ f h) refl
 
 cubic : (b c d : Float) → NeverKept 3 (cubicSystem b c d)
-unfolding normOf weightedOf sizesOf countUp
+unfolding normOf weightedOf sizeSumOf countUp
 cubic b c d x (s ∷ t ∷ u ∷ []) current e f h =
     let p = sub binary64 (getD x 0 nan) s in
     let q = sub binary64 (getD x 1 nan) t in
@@ -265,7 +265,7 @@ module _ (sys : System) (x : List Float) (current : Float) (f : isFiniteOf curre
   four found step e h = not-kept 4 sys current f (moved 4 x step) (of-four Found found step e h)
 
 quartic : (b c d e : Float) → NeverKept 4 (quarticSystem b c d e)
-unfolding normOf weightedOf sizesOf countUp Found
+unfolding normOf weightedOf sizeSumOf countUp Found
 quartic b c d e x step current n f h = four (quarticSystem b c d e) x current f found step n h
   where
     found : (s t u v : Float) → Found (quarticSystem b c d e) x current f (s ∷ t ∷ u ∷ v ∷ [])
@@ -281,7 +281,7 @@ quartic b c d e x step current n f h = four (quarticSystem b c d e) x current f 
         (λ g. absurd (true≢false g)))))
 
 peeled : (b c d e : Float) → NeverKept 4 (peelSystem b c d e)
-unfolding normOf weightedOf sizesOf countUp Found
+unfolding normOf weightedOf sizeSumOf countUp Found
 peeled b c d e x step current n f h = four (peelSystem b c d e) x current f found step n h
   where
     found : (s t u v : Float) → Found (peelSystem b c d e) x current f (s ∷ t ∷ u ∷ v ∷ [])

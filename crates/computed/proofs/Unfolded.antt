@@ -16,7 +16,7 @@ use Rattle.horner.specs.Loops.{downTo}
 use Rattle.horner.specs.Product.{splitHigh, productError, twoProdOf, discriminantOf}
 use Rattle.horner.specs.Horner.{hornerStep, valueSlopeOf, sumError, compensatedStep, compensatedOf, valueSlopeCompensatedOf}
 use Rattle.horner.specs.Taylor.{derivsStep, derivs12Of}
-use Rattle.square.specs.Square as square
+use Rattle.square.specs.Square.{sizeSumOf, scaleOf, leastPivotOf, largerOf, pivotOf, swapPivotOf, loseOf, reduceStep, reduceOf, remainderOf, substituteStep, substituteOf, solveFrom, solveSquareOf}
 use Rattle.refine.specs.Refine.{overOf, weightedOf, normOf, isSettledOf, weighRowOf, weighRowsOf, advancedOf, trialOf, noLessOf, keptOf, nextOf, refineOf}
 use Rattle.refine.specs.Newton.{flatOf, noGainOf, newtonNext, newtonCubicOf}
 use Rattle.cubic.specs.Cubic.{oneRootOf, depressedRootsOf, cubicClosedFormOf, isolationOf, betterOf, mostIsolatedOf, cubicFactorOf}
@@ -28,19 +28,19 @@ use Rattle.split.specs.Hull.{crossOf, poppedOf, hullStep, hullOf, magOf}
 use Rattle.split.specs.Gap.{exp2Of, splitFrom, magnitudeSplitOf}
 use Rattle.factors.specs.Factors.{pushLinOf, pushQuadOf}
 use Rattle.large_factors.specs.Large.{quadUnitsOf, factorUnitsOf, endsOf, withUnit, largeFrom, largeOf}
-use Rattle.quotient.specs.Quotient.{termOf, nextAt, mulOf, productOf, accOf, quotientOf, usableOf, mergedOf}
+use Rattle.quotient.specs.Quotient.{productTermOf, nextAt, mulOf, productOf, accOf, quotientOf, usableOf, mergedOf}
 use Rattle.factorize.specs.Factorize.{pairedOf, quarticFactorsOf, outOf, secondOf, factorsFrom, factorizeOf}
 use Rattle.roots.specs.Roots.{held, kept, paired}
 use Rattle.band.specs.Band.{magnitudeStep, magnitudeOf, budgetOf, baseOf, withinBandOf}
 use Rattle.critical.specs.Critical.{criticalNext, criticalPointOf, extremumOf}
-use Rattle.push.specs.Quadratic as push
+use Rattle.push.specs.Quadratic.{quadraticRootsOf, pushFactor, pushQuadraticOf}
 use Rattle.polish.specs.Polish.{isLongOf, isSmallOf, polishNext, polishOf}
 use Rattle.poly.specs.Solve.{zeroRootsOf, candidatesOf}
 use Rattle.finish.specs.Finish.{byValue}
 use Rattle.asking.specs.Asking.{answered, _then_, each}
 use Rattle.touching.specs.Touching.{touchesAt, pairOrder, ordered, linkAt, contactOf, emitted, itemTurn, chained, touching}
 use Rattle.equation.specs.Quadratic.{linearOf, isGrazingOf, twoOf, solveQuadraticOf}
-use Rattle.trig_quartic.specs.Crank as cranks
+use Rattle.trig_quartic.specs.Crank.{eighthOf, fAtOf, sampleOf, quarticOf}
 
 -- doubles, loops, orders and leaves
 unfoldable pub arithmetic : ℕ
@@ -49,7 +49,7 @@ arithmetic = 0
 
 -- layers 2 and 3
 unfoldable pub evaluation : ℕ
-unfolding downTo splitHigh productError twoProdOf discriminantOf hornerStep valueSlopeOf sumError compensatedStep compensatedOf valueSlopeCompensatedOf derivsStep derivs12Of square.sizesOf square.scaleOf square.leastOf square.largerOf square.pivotOf square.swapPivotOf square.loseOf square.reduceStep square.reduceOf square.restOf square.substituteStep square.substituteOf square.solveFrom square.solveSquareOf overOf weightedOf normOf isSettledOf weighRowOf weighRowsOf advancedOf trialOf noLessOf keptOf nextOf refineOf flatOf noGainOf newtonNext newtonCubicOf
+unfolding downTo splitHigh productError twoProdOf discriminantOf hornerStep valueSlopeOf sumError compensatedStep compensatedOf valueSlopeCompensatedOf derivsStep derivs12Of sizeSumOf scaleOf leastPivotOf largerOf pivotOf swapPivotOf loseOf reduceStep reduceOf remainderOf substituteStep substituteOf solveFrom solveSquareOf overOf weightedOf normOf isSettledOf weighRowOf weighRowsOf advancedOf trialOf noLessOf keptOf nextOf refineOf flatOf noGainOf newtonNext newtonCubicOf
 evaluation = 0
 
 -- layer 4
@@ -59,10 +59,10 @@ factoring = 0
 
 -- layer 5
 unfoldable pub scaling : ℕ
-unfolding scaleExponentOf topOf shiftOf coefficientOf coefficientsOf monicAt monicOf sizesOf logSizeOf logSizesOf scaledOf crossOf poppedOf hullStep hullOf magOf exp2Of splitFrom magnitudeSplitOf pushLinOf pushQuadOf quadUnitsOf factorUnitsOf endsOf withUnit largeFrom largeOf termOf nextAt mulOf productOf accOf quotientOf usableOf mergedOf pairedOf quarticFactorsOf outOf secondOf factorsFrom factorizeOf
+unfolding scaleExponentOf topOf shiftOf coefficientOf coefficientsOf monicAt monicOf sizesOf logSizeOf logSizesOf scaledOf crossOf poppedOf hullStep hullOf magOf exp2Of splitFrom magnitudeSplitOf pushLinOf pushQuadOf quadUnitsOf factorUnitsOf endsOf withUnit largeFrom largeOf productTermOf nextAt mulOf productOf accOf quotientOf usableOf mergedOf pairedOf quarticFactorsOf outOf secondOf factorsFrom factorizeOf
 scaling = 0
 
 -- layer 6
 unfoldable pub solving : ℕ
-unfolding held kept paired zeroRootsOf candidatesOf byValue touchesAt magnitudeStep magnitudeOf budgetOf baseOf withinBandOf criticalNext criticalPointOf extremumOf push.quadraticOf push.pushFactor push.pushQuadraticOf isLongOf isSmallOf polishNext polishOf answered _then_ each pairOrder ordered linkAt contactOf emitted itemTurn chained touching linearOf isGrazingOf twoOf solveQuadraticOf cranks.unitOf cranks.fAtOf cranks.sampleOf cranks.quarticOf
+unfolding held kept paired zeroRootsOf candidatesOf byValue touchesAt magnitudeStep magnitudeOf budgetOf baseOf withinBandOf criticalNext criticalPointOf extremumOf quadraticRootsOf pushFactor pushQuadraticOf isLongOf isSmallOf polishNext polishOf answered _then_ each pairOrder ordered linkAt contactOf emitted itemTurn chained touching linearOf isGrazingOf twoOf solveQuadraticOf eighthOf fAtOf sampleOf quarticOf
 solving = 0

@@ -37,10 +37,11 @@ use Rattle.touching.specs.Touching.{ordered, contactOf, touching}
 use Rattle.solution.specs.declared.QuadraticSolution.the-variants.{One, Empty}
 use Rattle.equation.specs.Quadratic.{solveQuadraticOf}
 use Rattle.trig_quartic.specs.Crank.{sampleOf, quarticOf}
-use Rattle.computed.specs.Values.{_*2^_, _/2^_, minusZero, minusInf, factors, monic}
+use Rattle.float.specs.Dyadic.{_*2^_, _/2^_}
+use Rattle.computed.specs.Values.{minusZero, minusInf, factors, monic}
 use Rattle.computed.specs.Steps.{Steps}
 
-pub record Doubles : Type 0 where
+pub record DoubleValues : Type 0 where
   -- Document 01: '`min`, `max`: of two zeros with unlike signs, the first'; not max(-0, 0) = +0
   pub max-of-zeros : maxOf minusZero zero64 ≡ minusZero
   -- the same; not the last of two zeros
@@ -104,7 +105,7 @@ pub record Splitting : Type 0 where
   -- gap's lower end (2^-10)
   pub middle-down : magnitudeSplitOf (neg (11 /2^ 0) ∷ neg one64 ∷ zero64 ∷ replicate 2 minusInf) 2 ≡ Gap 1 (1 /2^ 6)
 
-pub record Factors : Type 0 where
+pub record FactorValues : Type 0 where
   -- 567, `m < threshold * f64::EPSILON`; not: a unit at the threshold is small
   pub at-threshold : largeOf (factors (epsilon64 ∷ []) []) 1 one64 ≡ factors (epsilon64 ∷ []) []
   -- the same, below it; not: a small unit never ends the loop
@@ -171,7 +172,7 @@ pub record Bands : Type 0 where
   -- 351, `mid.is_finite()`; not a pair with a middle that is not finite
   pub finite-middle : paired [] (pair inf64 one64) ≡ []
 
-pub record Polishing : Type 0 where
+pub record PolishValues : Type 0 where
   -- 396, `step.abs() > 0.25 * gap || step.is_nan()`, both infinite; not an infinite polishing step refused
   pub infinite-step : isLongOf inf64 inf64 ≡ false
   -- 408, `step.abs() <= f64::EPSILON * y.abs()`: a step of 2^-52, to 1; not: polishing goes on after a small step (then to 1 - 2^-53)
@@ -205,15 +206,15 @@ pub record Equations : Type 0 where
       ≡ 3 *2^ 1022 ∷ nan ∷ nan ∷ minusInf ∷ 3 *2^ 1022 ∷ []
 
 pub record Computed : Type 0 where
-  pub doubles : Doubles
+  pub doubles : DoubleValues
   pub squares : Squares
   pub quartics : Quartics
   pub scaling : Scaling
   pub splitting : Splitting
-  pub factors : Factors
+  pub factors : FactorValues
   pub factorizing : Factorizing
   pub bands : Bands
-  pub polishing : Polishing
+  pub polishing : PolishValues
   pub inquiring : Inquiring
   pub equations : Equations
   pub steps : Steps

@@ -5,8 +5,9 @@ use mathlib.Core.List.{List}
 use mathlib.Core.Option.{none, some}
 use Prim.Native.Nat.{ℕ}
 use lib.ListN.{length, getD}
-use lib.Ieee.{Float, nan, binary64, sub, div}
+use lib.Ieee.{Float, nan}
 use Rattle.facts.specs.Arrays.{fromFn}
+use Rattle.float.specs.Rounded.{_-ᶠ_, _/ᶠ_}
 use Rattle.float.specs.Methods.{isFiniteOf, allFiniteOf}
 use Rattle.horner.specs.Horner.{valueSlopeCompensatedOf}
 use Rattle.refine.specs.Refine.{System, keptOf}
@@ -15,7 +16,7 @@ use Rattle.polish.specs.Polish.{Place, polishNext}
 
 -- x - step
 abbrev pub moved : ℕ → List Float → List Float → List Float
-moved n x step = fromFn n (λ i. sub binary64 (getD x i nan) (getD step i nan))
+moved n x step = fromFn n (λ i. getD x i nan -ᶠ getD step i nan)
 
 -- at a place with a finite norm (another ends the turns before)
 abbrev pub NeverKept : ℕ → System → Type 0
@@ -23,7 +24,7 @@ NeverKept n sys = (x step : List Float) (current : Float) → length step ≡ n 
 
 -- the step of `polish` from y
 abbrev pub stepAt : List Float → ℕ → Float → Float
-stepAt f d y = let v = valueSlopeCompensatedOf f d y in div binary64 (v .value) (v .slope)
+stepAt f d y = let v = valueSlopeCompensatedOf f d y in v .value /ᶠ v .slope
 
 pub record Steps : Type 0 where
   -- 832, `.filter(|s| s.iter().all(|v| v.is_finite()))`: without it `refine` gives the same.

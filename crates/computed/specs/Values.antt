@@ -11,15 +11,6 @@ use Rattle.factors.specs.declared.Quad.{Quad}
 use Rattle.factors.specs.declared.Factors.{Factors}
 use Rattle.factors.specs.Factors.{quadOf}
 
--- m * 2^k and m / 2^k themselves, for an odd m
-infix 70 _*2^_
-abbrev pub _*2^_ : ℕ → ℕ → Float
-m *2^ k = fin false m (pos k)
-
-infix 70 _/2^_
-abbrev pub _/2^_ : ℕ → ℕ → Float
-m /2^ k = fin false m (minus 0 k)
-
 -- -0, and minus infinity
 abbrev pub minusZero : Float
 minusZero = neg zero64

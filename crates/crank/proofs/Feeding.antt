@@ -25,7 +25,7 @@ use Rattle.crank.specs.declared.CrankInquiry.{CrankInquiry}
 use Rattle.crank.specs.declared.CrankAsked.{CrankAsked}
 use Rattle.crank.specs.declared.CrankReplied.{CrankReplied}
 use Rattle.crank.specs.Crank.{crankAskedOf, crankRepliedOf, crankFed}
-use Rattle.crank.specs.Claims.{Fed}
+use Rattle.crank.specs.Claims.{CrankFed}
 
 -- ---- k beside an inquiry
 abbrev with : ℕ → Inquiry → CrankInquiry
@@ -50,7 +50,7 @@ module _ (touches : ℕ → Float → Bool) (k : ℕ) (coeffs : List Float) (tol
   unfolding crankAskedOf
   asked-is n e = ap crankAskedOf (fed-is touches n k q) ∙ ap asked e
 
-  pub fed-so : Fed touches (with k q) (placesTouchingOf (touches k) coeffs tol) (realRootsTouchingOf (touches k) coeffs tol)
+  pub fed-so : CrankFed touches (with k q) (placesTouchingOf (touches k) coeffs tol) (realRootsTouchingOf (touches k) coeffs tol)
   unfolding crankRepliedOf
   fed-so =
       let f = start-fed (touches k) coeffs tol in

@@ -7,7 +7,7 @@ use lib.Dec.{eqb}
 use lib.Ieee.{Float, nan, inf, fin, binary64, unlike, add, mul}
 use Rattle.facts.specs.Cond.{first-holds}
 use Rattle.float.specs.Methods.{isFiniteOf, allFiniteOf}
-use Rattle.trig_quartic.specs.Crank.{unitOf, quarticOf}
+use Rattle.trig_quartic.specs.Crank.{eighthOf, quarticOf}
 
 -- an infinity or NaN, by a test
 not-finite : (b s t : Bool) → (isFiniteOf (cond b (inf s) nan) ≡ true → ⊥) × (isFiniteOf (cond b nan (inf t)) ≡ true → ⊥)
@@ -43,8 +43,8 @@ turned-finite x y cos sin h = let s = sum-finite (mul binary64 x cos) (mul binar
 pub numbers-finite : (a2 b2 c1 d1 e : Float) (k : ℕ) → allFiniteOf (quarticOf a2 b2 c1 d1 e k) ≡ true → allFiniteOf (a2 ∷ b2 ∷ c1 ∷ d1 ∷ e ∷ []) ≡ true
 unfolding quarticOf
 numbers-finite a2 b2 c1 d1 e k h =
-    let u1 = unitOf k in
-    let u2 = unitOf (2 * k % 8) in
+    let u1 = eighthOf k in
+    let u2 = eighthOf (2 * k % 8) in
     let a = turned a2 b2 (u2 .cos) (u2 .sin) in
     let c = turned c1 d1 (u1 .cos) (u1 .sin) in
     let whole = sum-finite (add binary64 a c) e (first-holds (isFiniteOf (add binary64 (add binary64 a c) e)) _ h) in

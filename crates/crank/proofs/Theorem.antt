@@ -19,7 +19,7 @@ use Rattle.inquiry.specs.Start.{realRootsTouching}
 use Rattle.inquiry.proofs.Theorem.{start-most, start-list}
 use Rattle.crank.specs.declared.CrankInquiry.{CrankInquiry}
 use Rattle.crank.specs.Crank.{trigQuarticOf, solveTrigOf, placesTrigOf, crankStartOf, crankOf}
-use Rattle.crank.specs.Claims.{Fed, Cranks}
+use Rattle.crank.specs.Claims.{CrankFed, Cranks}
 use Rattle.crank.proofs.Front.{front-below, quartic-five, same-asking, same-k, start-numbers, started, refused-nothing}
 use Rattle.crank.proofs.Feeding as feeding
 use Rattle.crank.proofs.Answer as answers
@@ -44,7 +44,7 @@ module _ (confusion a2 b2 c1 d1 e : Float) where
         → read (touches (crankFrontOf a2 b2 c1 d1 e .k)) (realRootsTouching (crankFrontOf a2 b2 c1 d1 e .q) confusion) ≡ read (touches k) (realRootsTouching q confusion)
     by-front read none = same-reading touches read _ _ _ _ none (same-asking a2 b2 c1 d1 e confusion) (same-k a2 b2 c1 d1 e confusion)
 
-    fed-so : Fed touches (crankStartOf confusion a2 b2 c1 d1 e .crank) (placesTrigOf touches confusion a2 b2 c1 d1 e) (solveTrigOf touches confusion a2 b2 c1 d1 e .1)
+    fed-so : CrankFed touches (crankStartOf confusion a2 b2 c1 d1 e .crank) (placesTrigOf touches confusion a2 b2 c1 d1 e) (solveTrigOf touches confusion a2 b2 c1 d1 e .1)
     unfolding crankStartOf answered placesAsked
     fed-so =
         rw (sym (by-front placesAsked (λ f g. refl)), sym (by-front answered (λ f g. refl)))

@@ -3,8 +3,9 @@ use mathlib.Core.Bool.{Bool, cond, not, _&&_}
 use mathlib.Core.List.{List}
 use mathlib.Core.Option.{Option, none, some}
 use Prim.Native.Nat.{ℕ}
-use lib.Ieee.{Float, binary64, add, sub, mul, div, le}
+use lib.Ieee.{Float, le}
 use Rattle.facts.specs.Turns.{turnsOf}
+use Rattle.float.specs.Rounded.{_+ᶠ_, _-ᶠ_, _*ᶠ_, _/ᶠ_}
 use Rattle.float.specs.Methods.{absOf}
 use Rattle.horner.specs.Taylor.{derivs12Of}
 use Rattle.refine.specs.Newton.{flatOf, noGainOf}
@@ -21,7 +22,7 @@ isBetweenOf lo x hi = le lo x && le x hi
 unfoldable pub criticalNext : List Float → ℕ → Float → Float → Float → Option Float
 criticalNext f d lo hi y =
     let v = derivs12Of f d y in
-    let next = sub binary64 y (div binary64 (v .d1) (v .d2)) in
+    let next = y -ᶠ v .d1 /ᶠ v .d2 in
     let u = derivs12Of f d next in
     cond (flatOf (v .d1) (v .d2)) none (cond (not (isBetweenOf lo next hi)) none (cond (noGainOf (v .d1) (u .d1)) none (some next)))
 
@@ -31,11 +32,11 @@ criticalPointOf poly y lo hi = turnsOf (criticalNext (poly .f) (poly .d) lo hi) 
 
 -- where a double root within the band about mid is: where these turns end within it
 abbrev pub doubleAt : Scaled → Float → Float → Float
-doubleAt poly mid tol = let band = bandOf poly mid tol in criticalPointOf poly mid (sub binary64 mid band) (add binary64 mid band)
+doubleAt poly mid tol = let band = bandOf poly mid tol in criticalPointOf poly mid (mid -ᶠ band) (mid +ᶠ band)
 
 -- `extremum`: the place where these turns end, if Newton's step |d1 / d2| from there is within the caller's band: |d1| <= tol * (unit + |y|) * |d2|
 unfoldable pub extremumOf : Scaled → Float → Float → Float → Float → TurningPoint
 extremumOf poly y lo hi tol =
     let at = criticalPointOf poly y lo hi in
     let v = derivs12Of (poly .f) (poly .d) at in
-    cond (le (absOf (v .d1)) (mul binary64 (baseOf (poly .unit) at tol) (absOf (v .d2)))) (At at) None
+    cond (le (absOf (v .d1)) (baseOf (poly .unit) at tol *ᶠ absOf (v .d2))) (At at) None

@@ -11,14 +11,14 @@ use Rattle.sqrt.specs.Root.{sqrtOf}
 use Rattle.cbrt.specs.Root.{cbrtOf}
 use Rattle.angle.specs.Third.{thirdAngleOf}
 use Rattle.horner.proofs.Vectors.{computes as evaluates}
-use Rattle.square.specs.Square.{sizesOf, scaleOf, leastOf, largerOf, pivotOf, swapPivotOf, loseOf, reduceStep, reduceOf, restOf, substituteStep, substituteOf, solveFrom, solveSquareOf}
+use Rattle.square.specs.Square.{sizeSumOf, scaleOf, leastPivotOf, largerOf, pivotOf, swapPivotOf, loseOf, reduceStep, reduceOf, remainderOf, substituteStep, substituteOf, solveFrom, solveSquareOf}
 use Rattle.refine.specs.Refine.{overOf, weightedOf, normOf, isSettledOf, weighRowOf, weighRowsOf, advancedOf, trialOf, noLessOf, keptOf, nextOf, refineOf}
 use Rattle.refine.specs.Newton.{flatOf, noGainOf, newtonNext, newtonCubicOf}
 use Rattle.cubic.specs.Cubic.{oneRootOf, threeRootsOf, depressedRootsOf, cubicClosedFormOf, isolationOf, betterOf, mostIsolatedOf, cubicFactorOf}
 
 -- what has to unfold for the definitions to compute: a fact says `unfolding computes`
 unfoldable pub computes : ℕ
-unfolding evaluates Option·elim add sub mul div neg lt le eq ne isNan ofBits countUp countDown turnsOf absOf isFiniteOf isSignNegativeOf withSign copysignOf minOf maxOf clampOf totalLeOf sqrtOf cbrtOf thirdAngleOf sizesOf scaleOf leastOf largerOf pivotOf swapPivotOf loseOf reduceStep reduceOf restOf substituteStep substituteOf solveFrom solveSquareOf overOf weightedOf normOf isSettledOf weighRowOf weighRowsOf advancedOf trialOf noLessOf keptOf nextOf refineOf flatOf noGainOf newtonNext newtonCubicOf oneRootOf threeRootsOf depressedRootsOf cubicClosedFormOf isolationOf betterOf mostIsolatedOf cubicFactorOf
+unfolding evaluates Option·elim add sub mul div neg lt le eq ne isNan ofBits countUp countDown turnsOf absOf isFiniteOf isSignNegativeOf withSign copysignOf minOf maxOf clampOf totalLeOf sqrtOf cbrtOf thirdAngleOf sizeSumOf scaleOf leastPivotOf largerOf pivotOf swapPivotOf loseOf reduceStep reduceOf remainderOf substituteStep substituteOf solveFrom solveSquareOf overOf weightedOf normOf isSettledOf weighRowOf weighRowsOf advancedOf trialOf noLessOf keptOf nextOf refineOf flatOf noGainOf newtonNext newtonCubicOf oneRootOf threeRootsOf depressedRootsOf cubicClosedFormOf isolationOf betterOf mostIsolatedOf cubicFactorOf
 computes = 0
 
 abbrev pub bits : ℕ → Float

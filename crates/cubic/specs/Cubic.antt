@@ -6,8 +6,9 @@ use mathlib.Core.List.{List, [], _∷_}
 use Prim.Native.Nat.{ℕ, _-_}
 use lib.Dec.{eqb}
 use lib.ListN.{getD}
-use lib.Ieee.{Float, nan, binary64, add, sub, mul, div, neg, lt, le, ne}
+use lib.Ieee.{Float, nan, neg, lt, le, ne}
 use Rattle.facts.specs.Count.{countUp}
+use Rattle.float.specs.Rounded.{_+ᶠ_, _-ᶠ_, _*ᶠ_, _/ᶠ_}
 use Rattle.float.specs.Literals.{zero64, half64, one64, threeHalves64, two64, three64, nine64, twentySeven64, inf64}
 use Rattle.float.specs.Methods.{absOf, copysignOf, minOf, maxOf, clampOf, totalLeOf}
 use Rattle.sqrt.specs.Root.{sqrtOf}
@@ -21,26 +22,26 @@ use Rattle.cubic.specs.declared.CubicFactor.{CubicFactor}
 
 -- the sum of Cardano's two terms: a, and -p / (3a) from their product -p/3 (no cancellation)
 abbrev pub cardanoOf : Float → Float → Float
-cardanoOf p a = cond (ne a zero64) (sub binary64 a (div binary64 p (mul binary64 three64 a))) zero64
+cardanoOf p a = cond (ne a zero64) (a -ᶠ p /ᶠ (three64 *ᶠ a)) zero64
 
 -- One real root, by Cardano. The square root takes the sign of q, so a is the term of larger size. (A NaN has no sign here; a q that is one makes the sum a NaN.)
 -- The places of the array that are left are 0.
 unfoldable pub oneRootOf : Float → Float → Float → Float → CubicRoots
 oneRootOf shift p q disc =
-    let a = neg (cbrtOf (add binary64 (mul binary64 half64 q) (copysignOf (sqrtOf (maxOf disc zero64)) q))) in
-    record { root = add binary64 (cardanoOf p a) shift ∷ zero64 ∷ zero64 ∷ []; n = 1 }
+    let a = neg (cbrtOf (half64 *ᶠ q +ᶠ copysignOf (sqrtOf (maxOf disc zero64)) q)) in
+    record { root = cardanoOf p a +ᶠ shift ∷ zero64 ∷ zero64 ∷ []; n = 1 }
 
 -- Three, by the trigonometric form: m * cos(θ), and m * cos(θ ∓ 2π/3) = m * (-cos(θ)/2 ± sin(θ)*√3/2), where θ is a third of the angle whose cosine is cos3.
 -- A cos3 that is a NaN (0 times infinity, for a tiny p) stays one, and so do the roots.
 unfoldable pub threeRootsOf : Float → Float → Float → CubicRoots
 threeRootsOf shift p q =
-    let m = mul binary64 two64 (sqrtOf (div binary64 (neg p) three64)) in
-    let cos3 = clampOf (mul binary64 (div binary64 (mul binary64 threeHalves64 q) p) (sqrtOf (div binary64 (neg three64) p))) (neg one64) one64 in
+    let m = two64 *ᶠ sqrtOf (neg p /ᶠ three64) in
+    let cos3 = clampOf (threeHalves64 *ᶠ q /ᶠ p *ᶠ sqrtOf (neg three64 /ᶠ p)) (neg one64) one64 in
     let third = thirdAngleOf cos3 in
-    let a = mul binary64 (neg half64) (third .cos) in
-    let b = mul binary64 (mul binary64 half64 (sqrtOf three64)) (third .sin) in
+    let a = neg half64 *ᶠ third .cos in
+    let b = half64 *ᶠ sqrtOf three64 *ᶠ third .sin in
     record {
-      root = add binary64 (mul binary64 m (third .cos)) shift ∷ add binary64 (mul binary64 m (add binary64 a b)) shift ∷ add binary64 (mul binary64 m (sub binary64 a b)) shift ∷ [];
+      root = m *ᶠ third .cos +ᶠ shift ∷ m *ᶠ (a +ᶠ b) +ᶠ shift ∷ m *ᶠ (a -ᶠ b) +ᶠ shift ∷ [];
       n = 3;
     }
 
@@ -51,12 +52,12 @@ depressedRootsOf shift p q disc = cond (lt zero64 disc || le zero64 p) (oneRootO
 -- `cubic_closed_form`: with y = t + shift the cubic is t^3 + p*t + q
 unfoldable pub cubicClosedFormOf : Float → Float → Float → CubicRoots
 cubicClosedFormOf b c d =
-    let shift = div binary64 (neg b) three64 in
-    let p = sub binary64 c (div binary64 (mul binary64 b b) three64) in
-    let q = add binary64 d (div binary64 (mul binary64 b (sub binary64 (mul binary64 (mul binary64 two64 b) b) (mul binary64 nine64 c))) twentySeven64) in
-    let h = mul binary64 half64 q in
-    let k = div binary64 p three64 in
-    let disc = add binary64 (mul binary64 h h) (mul binary64 (mul binary64 k k) k) in
+    let shift = neg b /ᶠ three64 in
+    let p = c -ᶠ b *ᶠ b /ᶠ three64 in
+    let q = d +ᶠ b *ᶠ (two64 *ᶠ b *ᶠ b -ᶠ nine64 *ᶠ c) /ᶠ twentySeven64 in
+    let h = half64 *ᶠ q in
+    let k = p /ᶠ three64 in
+    let disc = h *ᶠ h +ᶠ k *ᶠ k *ᶠ k in
     depressedRootsOf shift p q disc
 
 -- how many roots there are
@@ -65,11 +66,11 @@ OneOrThree n = (n ≡ 1) ⊎ (n ≡ 3)
 
 -- `isolation`: how far root i is from the nearest of the others, infinity where there is none. It is never a NaN: the minimum passes a NaN over.
 unfoldable pub isolationOf : List Float → ℕ → ℕ → Float
-isolationOf roots n i = countUp n (λ j near. cond (eqb j i) near (minOf near (absOf (sub binary64 (getD roots i nan) (getD roots j nan))))) n inf64
+isolationOf roots n i = countUp n (λ j near. cond (eqb j i) near (minOf near (absOf (getD roots i nan -ᶠ getD roots j nan)))) n inf64
 
 -- the same of a, among three with b and c
 abbrev pub isolationAmong : Float → Float → Float → Float
-isolationAmong a b c = minOf (minOf inf64 (absOf (sub binary64 a b))) (absOf (sub binary64 a c))
+isolationAmong a b c = minOf (minOf inf64 (absOf (a -ᶠ b))) (absOf (a -ᶠ c))
 
 -- `max_by` keeps the best so far only where that is strictly more isolated than root j, so it takes the last of equals
 unfoldable pub betterOf : List Float → ℕ → ℕ → ℕ → ℕ
@@ -81,7 +82,7 @@ mostIsolatedOf roots n = getD roots (countUp n (betterOf roots n) (n - 1) 0) nan
 
 -- x / z, and `other` where z is a zero
 abbrev pub overOr : Float → Float → Float → Float
-overOr x z other = cond (ne z zero64) (div binary64 x z) other
+overOr x z other = cond (ne z zero64) (x /ᶠ z) other
 
 -- `cubic_factor`: f, the product of the other two roots, is relative-accurate as -d/r
 unfoldable pub cubicFactorOf : Float → Float → Float → CubicFactor
@@ -89,5 +90,5 @@ cubicFactorOf b c d =
     let s = cubicClosedFormOf b c d in
     let r = newtonCubicOf (d ∷ c ∷ b ∷ one64 ∷ zero64 ∷ []) (mostIsolatedOf (s .root) (s .n)) in
     let f = overOr (neg d) r c in
-    let x = refineOf 3 (cubicSystem b c d) (r ∷ add binary64 b r ∷ f ∷ []) in
+    let x = refineOf 3 (cubicSystem b c d) (r ∷ b +ᶠ r ∷ f ∷ []) in
     record { r = getD x 0 nan; e = getD x 1 nan; f = getD x 2 nan }

@@ -13,7 +13,7 @@ use lib.Count.{leadingZeros, leading-top}
 use lib.Ieee.Digits.{size-le, size-reaches}
 use lib.Ieee.Fits.{and-l, and-r, kept-lt}
 use Rattle.float.specs.Units.{unitsOf}
-use Rattle.decode.specs.Shape.{Whole, Normal}
+use Rattle.decode.specs.Shape.{Significand, Normal}
 
 pow-le-back : (a l : ℕ) → 2 ^ a ≤ 2 ^ l → a ≤ l
 pow-le-back a l h = le-of-suc-le-suc (lt-of-not-le (λ (g : suc l ≤ a). lt-irrefl (2 ^ l) (lt-of-lt-of-le (pow-lt g) h)))
@@ -88,7 +88,7 @@ led-digit p n = go (eq-zero-or-pos (size n - suc p))
 pub record Shape (s : Bool) (m : ℕ) (e : ℤ) : Type 0 where
   pub w : ℕ
   pub k : ℕ
-  pub whole : Whole (unitsOf (fin s m e)) w k
+  pub whole : Significand (unitsOf (fin s m e)) w k
   pub bits : toBits binary64 (fin s m e) ≡ cond s (2 ^ 63) 0 + k * 2 ^ 52 + w
 
 bits-at : (s : Bool) (m : ℕ) (e : ℤ) → let n = unitsOf (fin s m e) in toBits binary64 (fin s m e) ≡ cond s (2 ^ 63) 0 + (size n - 53) * 2 ^ 52 + n / 2 ^ (size n - 53)
@@ -149,7 +149,7 @@ sign-off false a h = omega arith
 
 -- An infinity's, or digits and the exponent's field above them.
 abbrev pub Pattern : Float → ℕ → Type 0
-Pattern x b = ((b ≡ 2047 * 2 ^ 52) × (unitsOf x ≡ 0)) ⊎ ((w : ℕ) × (k : ℕ) × (b ≡ k * 2 ^ 52 + w) × Whole (unitsOf x) w k)
+Pattern x b = ((b ≡ 2047 * 2 ^ 52) × (unitsOf x ≡ 0)) ⊎ ((w : ℕ) × (k : ℕ) × (b ≡ k * 2 ^ 52 + w) × Significand (unitsOf x) w k)
 
 pub pattern : (x : Float) → fits binary64 x ≡ true → T (not (isNan x)) → Pattern x (toBits binary64 x % 2 ^ 63)
 unfolding toBits isNan
@@ -162,7 +162,7 @@ pattern (fin s m e) f t = inr (h .w, h .k, ap (λ (b : ℕ). b % 2 ^ 63) (h .bit
 
 -- ---- what the fields of such a pattern say
 
-module _ (n w k b : ℕ) (e : b ≡ k * 2 ^ 52 + w) (h : Whole n w k) where
+module _ (n w k b : ℕ) (e : b ≡ k * 2 ^ 52 + w) (h : Significand n w k) where
   pub not-top : b / 2 ^ 52 ≡ 2047 → ⊥
   not-top z = omega (arith, h .short, h .reach)
 

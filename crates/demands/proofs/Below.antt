@@ -18,7 +18,7 @@ use Rattle.float.specs.Methods.{isSignNegativeOf}
 use Rattle.float.specs.Units.{unitsOf, Finite}
 use Rattle.rounding.specs.Rounded.{Rounded, rounded, same-fraction}
 use Rattle.nearest.proofs.Best.{units-of}
-use Rattle.ldexp.specs.Scale.{pow2Of, signed, scaledOf, ldexpOf}
+use Rattle.ldexp.specs.Scale.{pow2Of, signed, timesPowerOf, ldexpOf}
 use Rattle.ldexp.proofs.Chain.{all-last, all-step}
 use Rattle.demands.proofs.Nearest.{has-sign}
 use Rattle.demands.proofs.Doubles.{doubleOf, Held, held, double-value, itself, less-or}
@@ -197,7 +197,7 @@ last-off n i r b t p h (inr o) R =
     ⊎-elim (λ x. half-exact n (2 ^ i) r t (2 ^ b) two (o .1) x) (λ x. half-half n (2 ^ i) r t (2 ^ b) two (o .1) (x .1)) (exact-or-half r b t h R)
 
 abbrev Lowered : Bool → ℕ → ℕ → ℕ → ℕ → Type 0
-Lowered s m n I r = (t : ℕ) × (scaledOf true m (doubleOf s r) ≡ doubleOf s t) × Held t × Off 3 n (I * 2 ^ m) t
+Lowered s m n I r = (t : ℕ) × (timesPowerOf true m (doubleOf s r) ≡ doubleOf s t) × Held t × Off 3 n (I * 2 ^ m) t
 
 lowered-from : (f m i n r : ℕ) (s : Bool) → m ≤ f → 0 < m → Held r → Kept n (2 ^ i) r → Lowered s m n (2 ^ i) r
 lowered-from zero m i n r s l p h g = absurd (omega (arith, l, p))
@@ -217,7 +217,7 @@ lowered-from (suc f) m i n r s l p h g =
     more : 1001 ≤ m → Lowered s (m - 1000) n (2 ^ (i + 1000)) (cut s r 1000 h) → Lowered s m n (2 ^ i) r
     more d rest = (
       rest .0,
-      all-step true m (doubleOf s r) d ∙ ap (scaledOf true (m - 1000)) (cut-is s r 1000 h) ∙ rest .1,
+      all-step true m (doubleOf s r) d ∙ ap (timesPowerOf true (m - 1000)) (cut-is s r 1000 h) ∙ rest .1,
       rest .2,
       subst (λ (I : ℕ). Off 3 n I (rest .0)) (powers-add i m d) (rest .3),
     )
@@ -232,4 +232,4 @@ unfolding ldexpOf
 lowered-is x N f =
     let a = unitsOf x in
     let l = lowered-from (suc N) (suc N) 0 a a (isSignNegativeOf x) (omega arith) (omega arith) (held x f) (inl (mul-one a)) in
-    (l .0, ap (scaledOf true (suc N)) (itself x f) ∙ l .1, l .2, subst (λ (I : ℕ). Off 3 a I (l .0)) (one-mul (2 ^ suc N)) (l .3))
+    (l .0, ap (timesPowerOf true (suc N)) (itself x f) ∙ l .1, l .2, subst (λ (I : ℕ). Off 3 a I (l .0)) (one-mul (2 ^ suc N)) (l .3))

@@ -15,7 +15,7 @@ use Rattle.float.specs.Units.{unitsOf, Finite}
 use Rattle.nearest.specs.Greatest.{nearestOf}
 use Rattle.nearest.proofs.Search.{found}
 use Rattle.sqrt.specs.Root.{nearestSqrt}
-use Rattle.angle.specs.Third.{left, right, below, cosUnits, cosOf, sinOf}
+use Rattle.angle.specs.Third.{left, right, atMostSolution, cosUnits, cosOf, sinOf}
 use Rattle.demands.specs.Demands.{Nearest, cubeSide, lineSide, AtMostSolution, AtLeastSolution}
 use Rattle.demands.proofs.Nearest.{nearest-of}
 
@@ -72,7 +72,7 @@ neither true b t = absurd t
 
 -- ---- c
 
-under-whole : (s : Bool) (n t : ℕ) → T (below s n t) → AtMostSolution s n (2 * t)
+under-whole : (s : Bool) (n t : ℕ) → T (atMostSolution s n t) → AtMostSolution s n (2 * t)
 under-whole s n t y =
     ⊎-elim (λ h. inl (mul-le-mul-left 2 (leb→le t (2 ^ 1073) h)))
     (λ h. inr (rw (lines-twice s n t, cubes-twice s n t) (mul-le-mul-left 2 (leb→le (left s n t) (right s n t) h))))
@@ -95,7 +95,7 @@ past s n h l g u = ⊎-elim (λ k. not-le-of-lt (lt-of-le-of-lt k (lit< tt)) (le
 cos-nearest : (s : Bool) (n : ℕ) → n ≤ 2 ^ 1074 → let t = cosUnits s n in Nearest false (AtMostSolution s n) (AtLeastSolution s n) (nearestOf t (eqb (left s n t) (right s n t)))
 unfolding cosUnits
 cos-nearest s n l =
-    let p = below s n in
+    let p = atMostSolution s n in
     let t = cosUnits s n in
     let fails : (t : ℕ) → 2 ^ 1075 ≤ t → T (p t) → ⊥ = λ t g y. past s n (2 * t) l (lt-of-lt-of-le (lit< tt) (mul-le-mul-left 2 g)) (under-whole s n t y) in
     let g = found p 1075 0 tt (not-T (p (0 + 2 ^ 1075)) (fails (2 ^ 1075) (lit≤ tt))) in

@@ -5,16 +5,16 @@ use mathlib.Core.List.{List, [], _∷_, map, List·Memᴰ, List·Memᴰ·not-nil
 use lib.Ieee.{Float}
 use Rattle.angle.specs.Third.{thirdAngleOf}
 use Rattle.demands.proofs.Unfolded.{arithmetic, leaves, scaling, solving}
-use Rattle.demands.specs.Table.{Row, Answer, table, answerOf}
+use Rattle.demands.specs.Table.{Row, RowAnswer, table, rowAnswerOf}
 
-abbrev pub given : Row → Answer
-given row = answerOf (row .call)
+abbrev pub given : Row → RowAnswer
+given row = rowAnswerOf (row .call)
 
-abbrev pub stated : Row → Answer
+abbrev pub stated : Row → RowAnswer
 stated row = row .answer
 
 pub all-rows : (tol : Float) → map given (table tol) ≡ map stated (table tol)
-unfolding table answerOf thirdAngleOf arithmetic leaves scaling solving
+unfolding table rowAnswerOf thirdAngleOf arithmetic leaves scaling solving
 all-rows tol = refl
 
 -- two functions that agree along a list agree at each of its members

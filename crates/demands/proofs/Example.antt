@@ -10,11 +10,11 @@ use Rattle.listing.specs.Refusals.{tooLong}
 use Rattle.listing.specs.Records.{endedOf}
 use Rattle.listing.specs.Lines.{lineOf}
 use Rattle.listing.specs.File.{listing}
-use Rattle.demands.specs.Example.{ascii, file, lines}
+use Rattle.demands.specs.Example.{ascii, exampleFile, exampleListing}
 use Rattle.demands.proofs.Unfolded.{arithmetic, leaves, evaluation, factoring, scaling, solving, asking, printing}
 
-pub example : listing file ≡ lines
-unfolding file lines arithmetic leaves evaluation factoring scaling solving asking printing
+pub example : listing exampleFile ≡ exampleListing
+unfolding exampleFile exampleListing arithmetic leaves evaluation factoring scaling solving asking printing
 example = refl
 
 pub empty : listing [] ≡ []

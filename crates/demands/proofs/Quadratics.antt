@@ -13,7 +13,7 @@ use Rattle.solution.specs.declared.QuadraticSolution.{QuadraticSolution}
 use Rattle.solution.specs.declared.QuadraticSolution.the-variants.{Two, One, Linear, Degenerate, Empty}
 use Rattle.solution.specs.Solution.{numberOf, valuesOf}
 use Rattle.equation.specs.declared.QuadraticAnswer.{QuadraticAnswer}
-use Rattle.equation.specs.Quadratic.{solveQuadraticOf, refusedBy, quadraticOf}
+use Rattle.equation.specs.Quadratic.{solveQuadraticOf, refusedQuadratic, quadraticOf}
 use Rattle.poly.specs.Conditions.{Exactly}
 use Rattle.poly.proofs.Refusals.{some-not, finite-all, not-all}
 use Rattle.demands.specs.Demands.{QuadraticNumbers, Quadratics}
@@ -31,7 +31,7 @@ apart l e f = true≢false (sym e ∙ f)
 
 -- s is the Rust's answer
 abbrev answeredBy : Bool → Bool → QuadraticSolution → QuadraticAnswer
-answeredBy f g s = cond f (cond g (record { number = 0; solution = s }) (refusedBy 5)) (refusedBy 1)
+answeredBy f g s = cond f (cond g (record { number = 0; solution = s }) (refusedQuadratic 5)) (refusedQuadratic 1)
 
 module _ (handed : List Float) (s : QuadraticSolution) where
   numbers-so : (f g : Bool) → allFiniteOf handed ≡ f → allFiniteOf (valuesOf s) ≡ g → QuadraticNumbers (answeredBy f g s .number) handed (valuesOf s)

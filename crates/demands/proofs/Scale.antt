@@ -13,7 +13,7 @@ use lib.Ieee.Fits.{down-pos}
 use lib.Ieee.Scale.{round-same}
 use Rattle.float.specs.Methods.{isFiniteOf, isSignNegativeOf}
 use Rattle.float.specs.Units.{unitsOf, Finite}
-use Rattle.ldexp.specs.Scale.{pow2Of, signed, chain, steps, scaledOf, ldexpOf}
+use Rattle.ldexp.specs.Scale.{pow2Of, signed, chain, steps, timesPowerOf, ldexpOf}
 use Rattle.ldexp.proofs.Chain.{steady-special}
 use Rattle.scaled.proofs.Digits.{units-under}
 use Rattle.demands.specs.Demands.{TimesPower}
@@ -55,8 +55,8 @@ module _ (below : Bool) (N : ℕ) (E : ℕ → Float) (step : (i b : ℕ) → i 
   along zero i h = ap E (let q : i ≡ i + 0 * 1000 = omega arith in q)
   along (suc j) i h = ap (chain j (pow2Of (signed below 1000))) (step i 1000 (omega arith)) ∙ along j (i + 1000) (omega arith) ∙ ap E (let q : i + 1000 + j * 1000 ≡ i + suc j * 1000 = omega arith in q)
 
-  whole : scaledOf below N (E 0) ≡ E N
-  unfolding scaledOf
+  whole : timesPowerOf below N (E 0) ≡ E N
+  unfolding timesPowerOf
   whole =
       let l : steps N * 1000 ≤ N = omega arith in
       ap (λ (x : Float). mul binary64 x (pow2Of (signed below (N - steps N * 1000)))) (along (steps N) 0 (rw zero-add l) ∙ ap E (zero-add (steps N * 1000)))
@@ -87,10 +87,10 @@ module _ (s : Bool) (a : ℕ) (h : Held a) where
       infinite : (s : Bool) → isFiniteOf (inf s) ≡ false
       infinite s = refl
 
-  pub raised : (N : ℕ) → scaledOf false N (doubleOf s (a * 2 ^ 0)) ≡ doubleOf s (a * 2 ^ N)
+  pub raised : (N : ℕ) → timesPowerOf false N (doubleOf s (a * 2 ^ 0)) ≡ doubleOf s (a * 2 ^ N)
   raised N = whole false N (λ i. doubleOf s (a * 2 ^ i)) (λ i b l. raised-by i b)
 
-  lowered : (N : ℕ) → a * 2 ^ N < 2 ^ 2098 → scaledOf true N (doubleOf s (a * 2 ^ (N - 0))) ≡ doubleOf s (a * 2 ^ (N - N))
+  lowered : (N : ℕ) → a * 2 ^ N < 2 ^ 2098 → timesPowerOf true N (doubleOf s (a * 2 ^ (N - 0))) ≡ doubleOf s (a * 2 ^ (N - N))
   lowered N top =
       whole true N (λ i. doubleOf s (a * 2 ^ (N - i)))
       (λ i b l. product s (a * 2 ^ (N - i)) (a * 2 ^ (N - (i + b))) (signed true b)
@@ -107,7 +107,7 @@ unfolding ldexpOf
 raised-is x N f =
     let b = isSignNegativeOf x in
     let a = unitsOf x in
-    ap (scaledOf false N) (itself x f ∙ ap (doubleOf b) (sym (mul-one a))) ∙ raised b a (held x f) N
+    ap (timesPowerOf false N) (itself x f ∙ ap (doubleOf b) (sym (mul-one a))) ∙ raised b a (held x f) N
 
 pub scale : (x : Float) (k : ℤ) (y : Float) → TimesPower x k y → ldexpOf x k ≡ y
 unfolding ldexpOf
@@ -118,7 +118,7 @@ scale x (negsuc N) y t =
     let b = isSignNegativeOf y in
     let a = unitsOf y in
     let q : unitsOf x ≡ a * 2 ^ suc N = sym (mul-one (unitsOf x)) ∙ sym (t .amount) in
-    ap (scaledOf true (suc N)) (itself x (t .from) ∙ ap₂ doubleOf (t .sign) (q ∙ ap (λ (n : ℕ). a * 2 ^ n) (sym (sub-zero (suc N)))))
+    ap (timesPowerOf true (suc N)) (itself x (t .from) ∙ ap₂ doubleOf (t .sign) (q ∙ ap (λ (n : ℕ). a * 2 ^ n) (sym (sub-zero (suc N)))))
     ∙ lowered b a (held y (t .to)) (suc N) (rw q at (units-under x (t .from)))
     ∙ ap (doubleOf b) (ap (λ (n : ℕ). a * 2 ^ n) (sub-self (suc N)) ∙ mul-one a)
     ∙ sym (itself y (t .to))

@@ -16,7 +16,7 @@ use Rattle.horner.specs.Loops.{downTo}
 use Rattle.horner.specs.Product.{splitHigh, productError, twoProdOf, discriminantOf}
 use Rattle.horner.specs.Horner.{hornerStep, valueSlopeOf, sumError, compensatedStep, compensatedOf, valueSlopeCompensatedOf}
 use Rattle.horner.specs.Taylor.{derivsStep, derivs12Of}
-use Rattle.square.specs.Square as square
+use Rattle.square.specs.Square.{sizeSumOf}
 use Rattle.refine.specs.Refine.{overOf, weightedOf, normOf, isSettledOf, nextOf, refineOf}
 use Rattle.refine.specs.Newton.{flatOf, noGainOf, newtonNext, newtonCubicOf}
 use Rattle.cubic.specs.Cubic.{oneRootOf, depressedRootsOf, cubicClosedFormOf}
@@ -31,7 +31,7 @@ use Rattle.factorize.specs.Factorize.{pairedOf, quarticFactorsOf, outOf, second
 use Rattle.roots.specs.Roots.{kept, paired}
 use Rattle.band.specs.Band.{magnitudeStep, magnitudeOf, budgetOf, baseOf, withinBandOf}
 use Rattle.critical.specs.Critical.{criticalNext, criticalPointOf, extremumOf}
-use Rattle.push.specs.Quadratic as push
+use Rattle.push.specs.Quadratic.{quadraticRootsOf, pushFactor, pushQuadraticOf}
 use Rattle.polish.specs.Polish.{polishNext, polishOf}
 use Rattle.finish.specs.Finish.{byValue, orderedAt, orderedOf, polishedAt, polishedOf, isNearOf, joinedFrom, joinedOf, finishOf}
 use Rattle.poly.specs.Coefficients.{trimmedFrom, trimmedOf, zerosOf, refusalBy, middleAt, middleOf, polyOf}
@@ -42,7 +42,7 @@ use Rattle.touching.specs.Touching.{touchesAt, pairOrder, allApart, pairAt, pai
 use Rattle.inquiry.specs.Start.{realRootsTouching, startOf}
 use Rattle.solution.specs.Solution.{valuesOf}
 use Rattle.equation.specs.Quadratic.{isGrazingOf, twoOf, solveQuadraticOf, quadraticOf}
-use Rattle.trig_quartic.specs.Crank.{unitOf, fAtOf, sampleOf, quarticOf, crankFrontOf}
+use Rattle.trig_quartic.specs.Crank.{eighthOf, fAtOf, sampleOf, quarticOf, crankFrontOf}
 use Rattle.crank.specs.Crank.{crankStartOf, crankOf}
 use Rattle.text.specs.Digits.{hexDigit, hexDigits, decimal}
 use Rattle.listing.specs.File.{listing}
@@ -59,7 +59,7 @@ leaves = 0
 
 -- layers 2 and 3
 unfoldable pub evaluation : ℕ
-unfolding downTo splitHigh productError twoProdOf discriminantOf hornerStep valueSlopeOf sumError compensatedStep compensatedOf valueSlopeCompensatedOf derivsStep derivs12Of square.sizesOf overOf weightedOf normOf isSettledOf nextOf refineOf flatOf noGainOf newtonNext newtonCubicOf
+unfolding downTo splitHigh productError twoProdOf discriminantOf hornerStep valueSlopeOf sumError compensatedStep compensatedOf valueSlopeCompensatedOf derivsStep derivs12Of sizeSumOf overOf weightedOf normOf isSettledOf nextOf refineOf flatOf noGainOf newtonNext newtonCubicOf
 evaluation = 0
 
 -- layer 4
@@ -74,12 +74,12 @@ scaling = 0
 
 -- layer 6: a list
 unfoldable pub solving : ℕ
-unfolding kept paired magnitudeStep magnitudeOf budgetOf baseOf withinBandOf criticalNext criticalPointOf extremumOf push.quadraticOf push.pushFactor push.pushQuadraticOf polishNext polishOf byValue orderedAt orderedOf polishedAt polishedOf isNearOf joinedFrom joinedOf finishOf trimmedFrom trimmedOf zerosOf refusalBy middleAt middleOf polyOf zeroRootsOf candidatesOf finishedOf solveOf unscaledAll answerOf realRootsOf
+unfolding kept paired magnitudeStep magnitudeOf budgetOf baseOf withinBandOf criticalNext criticalPointOf extremumOf quadraticRootsOf pushFactor pushQuadraticOf polishNext polishOf byValue orderedAt orderedOf polishedAt polishedOf isNearOf joinedFrom joinedOf finishOf trimmedFrom trimmedOf zerosOf refusalBy middleAt middleOf polyOf zeroRootsOf candidatesOf finishedOf solveOf unscaledAll answerOf realRootsOf
 solving = 0
 
 -- an inquiry, a quadratic and a crank
 unfoldable pub asking : ℕ
-unfolding answered touchesAt pairOrder allApart pairAt pairTurn ordered contactOf emitted itemTurn chained touching realRootsTouching startOf valuesOf isGrazingOf twoOf solveQuadraticOf quadraticOf unitOf fAtOf sampleOf quarticOf crankFrontOf crankStartOf crankOf
+unfolding answered touchesAt pairOrder allApart pairAt pairTurn ordered contactOf emitted itemTurn chained touching realRootsTouching startOf valuesOf isGrazingOf twoOf solveQuadraticOf quadraticOf eighthOf fAtOf sampleOf quarticOf crankFrontOf crankStartOf crankOf
 asking = 0
 
 -- layer 7

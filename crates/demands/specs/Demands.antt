@@ -46,8 +46,8 @@ use Rattle.inquiry.specs.Claims.{Fed}
 use Rattle.crank.specs.Claims.{Cranks}
 use Rattle.listing.specs.File.{listing}
 use Rattle.demands.specs.Loops.{runsFrom, chainsFrom}
-use Rattle.demands.specs.Table.{Row, table, answerOf}
-use Rattle.demands.specs.Example.{ascii, file, lines}
+use Rattle.demands.specs.Table.{Row, table, rowAnswerOf}
+use Rattle.demands.specs.Example.{ascii, exampleFile, exampleListing}
 
 -- ---- words
 
@@ -309,14 +309,14 @@ pub record SimpleRoots : Type 0 where
 
 -- what the definitions answer to a row's call is the row's answer, for every row that stands in the table, whatever the tolerance of its lists
 pub record Entries : Type 0 where
-  pub every : (tol : Float) (row : Row) → List·Memᴰ row (table tol) → answerOf (row .call) ≡ row .answer
+  pub every : (tol : Float) (row : Row) → List·Memᴰ row (table tol) → rowAnswerOf (row .call) ≡ row .answer
 
 -- ---- 'The hall file'
 
 -- Document 01's file has the listing that stands there, byte for byte. 'An empty file prints nothing.' '9, over 65,536 bytes, the only line then being
 -- `0 -- refused 9`.' No listing has more bytes than the program lends for it.
 pub record HallFile : Type 0 where
-  pub example : listing file ≡ lines
+  pub example : listing exampleFile ≡ exampleListing
   pub empty : listing [] ≡ []
   pub too-long : (s : List ℕ) → 65536 < length s → listing s ≡ ascii "0 -- refused 9\n"
   pub room : (s : List ℕ) → length (listing s) ≤ 163860

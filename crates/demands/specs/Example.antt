@@ -7,7 +7,7 @@ use Prim.Native.String.{String}
 use lib.Ieee.{Float, neg}
 use Rattle.float.specs.Literals.{zero64, one64, two64, three64}
 use Rattle.lent_bytes.specs.Bytes.{doublesBytes}
-use Rattle.demands.specs.Table.{_/2^_}
+use Rattle.float.specs.Dyadic.{_/2^_}
 
 -- the characters of a text
 unfoldable pub ascii : String → List ℕ
@@ -19,18 +19,18 @@ abbrev tol : Float
 tol = 1 /2^ 30
 
 -- 'PL (tolerance 2^-30; 2, −3, 1), PL (count 0, 2^-30), QD (2^-30, 2^-30, 1, −3, 2), TG (2^-30, 0, 0, 1, 0, 0), then `XX`'
-unfoldable pub file : List ℕ
+unfoldable pub exampleFile : List ℕ
 unfolding ascii
-file =
+exampleFile =
     ascii "PL" ++ 3 ∷ doublesBytes (tol ∷ two64 ∷ neg three64 ∷ one64 ∷ [])
     ++ ascii "PL" ++ 0 ∷ doublesBytes (tol ∷ [])
     ++ ascii "QD" ++ doublesBytes (tol ∷ tol ∷ one64 ∷ neg three64 ∷ two64 ∷ [])
     ++ ascii "TG" ++ doublesBytes (tol ∷ zero64 ∷ zero64 ∷ one64 ∷ zero64 ∷ zero64 ∷ [])
     ++ ascii "XX"
 
-unfoldable pub lines : List ℕ
+unfoldable pub exampleListing : List ℕ
 unfolding ascii
-lines =
+exampleListing =
     ascii "1 PL ok 2 3FF0000000000000 1 4000000000000000 1\n"
     ++ ascii "2 PL refused 2\n"
     ++ ascii "3 QD two 3FF0000000000000 4000000000000000\n"

@@ -8,7 +8,8 @@ use Prim.Native.Nat.{ℕ, zero, suc, _+_}
 use lib.Dec.{ltb, eqb}
 use lib.IntN.{pos}
 use lib.ListN.{length}
-use lib.Ieee.{Float, binary64, add, sub, mul, div, ofInt, lt}
+use lib.Ieee.{Float, binary64, ofInt, lt}
+use Rattle.float.specs.Rounded.{_+ᶠ_, _-ᶠ_, _*ᶠ_, _/ᶠ_}
 use Rattle.float.specs.Literals.{half64}
 use Rattle.float.specs.Methods.{isFiniteOf}
 use Rattle.scaled.specs.declared.Scaled.{Scaled}
@@ -30,8 +31,8 @@ meanOf v r k =
     let y = r .value in
     let m = r .multiplicity in
     let total = m + multiplicityAt v k in
-    let terms = add binary64 (mul binary64 y (ofInt binary64 (pos m))) (mul binary64 (valueAt v k) (ofInt binary64 (pos (multiplicityAt v k)))) in
-    root (div binary64 terms (ofInt binary64 (pos total))) total
+    let terms = y *ᶠ ofInt binary64 (pos m) +ᶠ valueAt v k *ᶠ ofInt binary64 (pos (multiplicityAt v k)) in
+    root (terms /ᶠ ofInt binary64 (pos total)) total
 
 module _ (poly : Scaled) (tol : Float) (v : List RealRoot) where
   -- while k + 1 < n && self.within_band(0.5 * (value[k + 1] - y), 0.5 * (value[k + 1] + y), tol): where k ends, and (y, m)
@@ -39,7 +40,7 @@ module _ (poly : Scaled) (tol : Float) (v : List RealRoot) where
   runFrom zero k r = (k, r)
   runFrom (suc turns) k r =
       let next = valueAt v (k + 1) in
-      let within = withinBandOf poly (mul binary64 half64 (sub binary64 next (r .value))) (mul binary64 half64 (add binary64 next (r .value))) tol in
+      let within = withinBandOf poly (half64 *ᶠ (next -ᶠ r .value)) (half64 *ᶠ (next +ᶠ r .value)) tol in
       cond (ltb (k + 1) (length v) && within) (runFrom turns (k + 1) (meanOf v r (k + 1))) (k, r)
 
   -- while k < n: the inner loop from (value[k], mult[k]) on; out.push(y, m); k += 1
@@ -73,13 +74,13 @@ abbrev pub grown : Linked → ℕ → Float → Linked
 grown c m y = record { first = c .first; mult = c .mult + m; touching = c .touching + (1 + isDouble m); at = y }
 
 -- match touching { 0 => first, 1 => at, _ => 0.5 * (first + items[k].0) }
-abbrev pub middleOf : List RealRoot → ℕ → Linked → Float
-middleOf v k c =
-    cond (eqb (c .touching) 0) (c .first) (cond (eqb (c .touching) 1) (c .at) (mul binary64 half64 (add binary64 (c .first) (valueAt v k))))
+abbrev pub chainPlaceOf : List RealRoot → ℕ → Linked → Float
+chainPlaceOf v k c =
+    cond (eqb (c .touching) 0) (c .first) (cond (eqb (c .touching) 1) (c .at) (half64 *ᶠ (c .first +ᶠ valueAt v k)))
 
 -- if let Some(r) = poly.unscaled(y, mult) { out.push(r) }
 abbrev pub pushed : Scaled → List RealRoot → List RealRoot → ℕ → Linked → List RealRoot
-pushed poly v out k c = let x = unscaledOf (poly .e) (middleOf v k c) in cond (isFiniteOf x) (out ++ root x (c .mult) ∷ []) out
+pushed poly v out k c = let x = unscaledOf (poly .e) (chainPlaceOf v k c) in cond (isFiniteOf x) (out ++ root x (c .mult) ∷ []) out
 
 module _ (poly : Scaled) (tol : Float) (v : List RealRoot) where
   -- let (lo, hi) = (items[k].0, items[k + 1].0); poly.extremum(0.5 * (lo + hi), lo, hi, tol), filtered
@@ -87,7 +88,7 @@ module _ (poly : Scaled) (tol : Float) (v : List RealRoot) where
   linkAfter k =
       let lo = valueAt v k in
       let hi = valueAt v (k + 1) in
-      filtered poly lo hi (extremumOf poly (mul binary64 half64 (add binary64 lo hi)) lo hi tol)
+      filtered poly lo hi (extremumOf poly (half64 *ᶠ (lo +ᶠ hi)) lo hi tol)
 
   -- while k + 1 < n && items[k + 1].1 > 0, until there is no link: where k ends, and the variables
   unfoldable pub linksFrom : ℕ → ℕ → Linked → Asking (ℕ × Linked)

@@ -7,6 +7,7 @@ use lib.IntN.{ℤ, pos}
 use lib.ListN.{length}
 use lib.Ieee.{Float, nan, inf, fin, neg, minus}
 use Rattle.float.specs.Literals.{one64, two64, three64}
+use Rattle.float.specs.Dyadic.{_/2^_}
 use Rattle.sqrt.specs.Root.{sqrtOf}
 use Rattle.cbrt.specs.Root.{cbrtOf}
 use Rattle.angle.specs.Third.{thirdAngleOf}
@@ -25,36 +26,31 @@ pub data Call : Type 0 where
   list : List Float → Float → Call
 
 -- a number, c and s, or e; the roots of a list, or the number of its refusal
-pub data Answer : Type 0 where
-  number : Float → Answer
-  pair : Float → Float → Answer
-  power : ℤ → Answer
-  roots : List RealRoot → Answer
-  refused : ℕ → Answer
+pub data RowAnswer : Type 0 where
+  number : Float → RowAnswer
+  pair : Float → Float → RowAnswer
+  power : ℤ → RowAnswer
+  roots : List RealRoot → RowAnswer
+  refused : ℕ → RowAnswer
 
 -- what the definitions give
-unfoldable pub answerOf : Call → Answer
+unfoldable pub rowAnswerOf : Call → RowAnswer
 unfolding sqrtOf cbrtOf thirdAngleOf log2GridOf scaledOf realRootsOf
-answerOf (squareRoot x) = number (sqrtOf x)
-answerOf (cubeRoot x) = number (cbrtOf x)
-answerOf (thirdAngle v) = pair (thirdAngleOf v .cos) (thirdAngleOf v .sin)
-answerOf (logarithm x) = number (log2GridOf x)
-answerOf (exponent a) = power (scaledOf a (length a - 1) .e)
-answerOf (list coeffs tol) = let r = realRootsOf coeffs tol in cond (eqb (r .number) 0) (roots (listOf (r .roots))) (refused (r .number))
+rowAnswerOf (squareRoot x) = number (sqrtOf x)
+rowAnswerOf (cubeRoot x) = number (cbrtOf x)
+rowAnswerOf (thirdAngle v) = pair (thirdAngleOf v .cos) (thirdAngleOf v .sin)
+rowAnswerOf (logarithm x) = number (log2GridOf x)
+rowAnswerOf (exponent a) = power (scaledOf a (length a - 1) .e)
+rowAnswerOf (list coeffs tol) = let r = realRootsOf coeffs tol in cond (eqb (r .number) 0) (roots (listOf (r .roots))) (refused (r .number))
 
 -- a call and its answer
 pub record Row : Type 0 where
   pub call : Call
-  pub answer : Answer
+  pub answer : RowAnswer
 
 infix 68 _gives_
-abbrev pub _gives_ : Call → Answer → Row
+abbrev pub _gives_ : Call → RowAnswer → Row
 c gives a = record { call = c; answer = a }
-
--- m / 2^k itself, not rounded, for an odd m; 0 is 0 / 2^0
-infix 70 _/2^_
-abbrev pub _/2^_ : ℕ → ℕ → Float
-m /2^ k = fin false m (minus 0 k)
 
 -- 0
 abbrev pub o : Float

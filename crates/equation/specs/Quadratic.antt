@@ -3,7 +3,8 @@
 use mathlib.Core.Bool.{Bool, cond, _&&_}
 use mathlib.Core.List.{[], _∷_}
 use Prim.Native.Nat.{ℕ}
-use lib.Ieee.{Float, binary64, add, sub, mul, div, neg, lt, le}
+use lib.Ieee.{Float, neg, lt, le}
+use Rattle.float.specs.Rounded.{_+ᶠ_, _-ᶠ_, _*ᶠ_, _/ᶠ_}
 use Rattle.float.specs.Literals.{zero64, epsilon64, half64, one64, two64, four64}
 use Rattle.float.specs.Methods.{absOf, isFiniteOf, copysignOf, minOf, maxOf, allFiniteOf}
 use Rattle.sqrt.specs.Root.{sqrtOf}
@@ -16,7 +17,7 @@ use Rattle.equation.specs.declared.QuadraticAnswer.{QuadraticAnswer}
 
 -- mid, and `quadratic_centre`'s t0: -b / (2.0 * a)
 abbrev pub midOf : Float → Float → Float
-midOf a b = div binary64 (neg b) (mul binary64 two64 a)
+midOf a b = neg b /ᶠ (two64 *ᶠ a)
 
 -- `quadratic_centre`: 0 where the equation is near linear, or t0 not finite
 unfoldable pub quadraticCentreOf : Float → Float → Float → Float
@@ -24,36 +25,36 @@ quadraticCentreOf a b angular = let t0 = midOf a b in cond (lt angular (absOf a)
 
 -- where |a| <= angular: b*t + c = 0. It never looks at c alone, so (0, 0, 5) is degenerate.
 unfoldable pub linearOf : Float → Float → Float → QuadraticSolution
-linearOf b c confusion = cond (le (absOf b) confusion) Degenerate (Linear (div binary64 (neg c) b))
+linearOf b c confusion = cond (le (absOf b) confusion) Degenerate (Linear (neg c /ᶠ b))
 
 -- disc: b * b - 4.0 * a * c
-abbrev pub discOf : Float → Float → Float → Float
-discOf a b c = sub binary64 (mul binary64 b b) (mul binary64 (mul binary64 four64 a) c)
+abbrev pub quadraticDiscOf : Float → Float → Float → Float
+quadraticDiscOf a b c = b *ᶠ b -ᶠ four64 *ᶠ a *ᶠ c
 
 -- noise: (4.0 * f64::EPSILON * (b * b + 4.0 * (a * c).abs())).sqrt() / (2.0 * a.abs())
-abbrev pub noiseOf : Float → Float → Float → Float
-noiseOf a b c =
-    let sum = add binary64 (mul binary64 b b) (mul binary64 four64 (absOf (mul binary64 a c))) in
-    div binary64 (sqrtOf (mul binary64 (mul binary64 four64 epsilon64) sum)) (mul binary64 two64 (absOf a))
+abbrev pub quadraticNoiseOf : Float → Float → Float → Float
+quadraticNoiseOf a b c =
+    let sum = b *ᶠ b +ᶠ four64 *ᶠ absOf (a *ᶠ c) in
+    sqrtOf (four64 *ᶠ epsilon64 *ᶠ sum) /ᶠ (two64 *ᶠ absOf a)
 
 -- sep <= tol.confusion * (1.0 + mid.abs()) + noise, where sep = root / (2.0 * a.abs()): the roots count as one
 unfoldable pub isGrazingOf : Float → Float → Float → Float → Float → Float → Bool
 isGrazingOf a b c mid root confusion =
-    let sep = div binary64 root (mul binary64 two64 (absOf a)) in
-    le sep (add binary64 (mul binary64 confusion (add binary64 one64 (absOf mid))) (noiseOf a b c))
+    let sep = root /ᶠ (two64 *ᶠ absOf a) in
+    le sep (confusion *ᶠ (one64 +ᶠ absOf mid) +ᶠ quadraticNoiseOf a b c)
 
 -- Two roots, the smaller first: q / a and c / q, where q = -0.5 * (b + root.copysign(b)). `min` and `max` pass a NaN over.
 unfoldable pub twoOf : Float → Float → Float → Float → QuadraticSolution
 twoOf a b c root =
-    let q = mul binary64 (neg half64) (add binary64 b (copysignOf root b)) in
-    let r1 = div binary64 q a in
-    let r2 = div binary64 c q in
+    let q = neg half64 *ᶠ (b +ᶠ copysignOf root b) in
+    let r1 = q /ᶠ a in
+    let r2 = c /ᶠ q in
     Two (minOf r1 r2) (maxOf r1 r2)
 
 -- `solve_quadratic`: sep is taken from disc.abs().sqrt(), two places from disc.sqrt()
 unfoldable pub solveQuadraticOf : Float → Float → Float → Float → Float → QuadraticSolution
 solveQuadraticOf a b c confusion angular =
-    let disc = discOf a b c in
+    let disc = quadraticDiscOf a b c in
     let mid = midOf a b in
     cond (le (absOf a) angular) (linearOf b c confusion)
     (cond (isGrazingOf a b c mid (sqrtOf (absOf disc)) confusion) (One mid)
@@ -62,11 +63,11 @@ solveQuadraticOf a b c confusion angular =
 -- ---- what document 01 refuses
 
 -- a refusal: its number, and no answer
-abbrev pub refusedBy : ℕ → QuadraticAnswer
-refusedBy n = record { number = n; solution = Empty }
+abbrev pub refusedQuadratic : ℕ → QuadraticAnswer
+refusedQuadratic n = record { number = n; solution = Empty }
 
 -- 'Quadratic: 1, one of a, b, c not finite; 5, a number in the Rust's answer is not finite'; 0 where it is answered
 unfoldable pub quadraticOf : Float → Float → Float → Float → Float → QuadraticAnswer
 quadraticOf a b c confusion angular =
     let s = solveQuadraticOf a b c confusion angular in
-    cond (allFiniteOf (a ∷ b ∷ c ∷ [])) (cond (allFiniteOf (valuesOf s)) (record { number = 0; solution = s }) (refusedBy 5)) (refusedBy 1)
+    cond (allFiniteOf (a ∷ b ∷ c ∷ [])) (cond (allFiniteOf (valuesOf s)) (record { number = 0; solution = s }) (refusedQuadratic 5)) (refusedQuadratic 1)

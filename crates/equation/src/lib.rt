@@ -1,7 +1,7 @@
 // equation.rs on all bits: quadratics with a caller's tolerances.
 // It rests on `float`, `sqrt` and `solution`; the hall file and the C functions rest on it.
 ghost use mathlib.Core.Path.{_≡_};
-ghost use Rattle.equation.specs.Quadratic.{quadraticCentreOf, linearOf, isGrazingOf, twoOf, solveQuadraticOf, refusedBy, quadraticOf};
+ghost use Rattle.equation.specs.Quadratic.{quadraticCentreOf, linearOf, isGrazingOf, twoOf, solveQuadraticOf, refusedQuadratic, quadraticOf};
 use solution::QuadraticSolution;
 
 // The middle of the roots, and 0 where the equation is near linear.
@@ -73,7 +73,7 @@ pub struct QuadraticAnswer {
 }
 
 fn refused(number: u32) -> QuadraticAnswer
-    ensures { λ r. ⌜ r ≡ refusedBy number ⌝ }
+    ensures { λ r. ⌜ r ≡ refusedQuadratic number ⌝ }
 {
     QuadraticAnswer {
         number,

@@ -7,7 +7,7 @@ use lib.Ieee.{Float, binary64, ofBits, ofInt, size}
 use Rattle.facts.specs.Sort.{insertedBy, insertedAll, sortedBy}
 use Rattle.float.specs.Literals.{zero64}
 use Rattle.float.specs.Floor.{floorOf}
-use Rattle.ldexp.specs.Scale.{chain, scaledOf as timesPowerOf, ldexpOf}
+use Rattle.ldexp.specs.Scale.{chain, timesPowerOf, ldexpOf}
 use Rattle.nearest.specs.Greatest.{greatest}
 use Rattle.decode.specs.Exponent.{exponentOf}
 use Rattle.isolated.proofs.Vectors.{computes as factors-compute}
@@ -18,12 +18,12 @@ use Rattle.split.specs.Hull.{crossOf, poppedOf, hullStep, hullOf, magOf}
 use Rattle.split.specs.Gap.{exp2Of, splitFrom, magnitudeSplitOf}
 use Rattle.factors.specs.Factors.{quadOf, pushLinOf, pushQuadOf}
 use Rattle.large_factors.specs.Large.{quadUnitsOf, factorUnitsOf, endsOf, withUnit, largeFrom, largeOf}
-use Rattle.quotient.specs.Quotient.{termOf, nextAt, mulOf, productOf, accOf, quotientOf, usableOf, mergedOf}
+use Rattle.quotient.specs.Quotient.{productTermOf, nextAt, mulOf, productOf, accOf, quotientOf, usableOf, mergedOf}
 use Rattle.factorize.specs.Factorize.{cubicFactorsOf, pairedOf, quarticFactorsOf, outOf, secondOf, factorsFrom, factorizeOf}
 
 -- what has to unfold for the definitions to compute: a fact says `unfolding computes`
 unfoldable pub computes : ℕ
-unfolding factors-compute flatMap ofInt size insertedBy insertedAll sortedBy floorOf chain timesPowerOf ldexpOf greatest exponentOf heldAt heldBelow tooSmall scaleExponentOf topOf shiftOf coefficientOf coefficientsOf monicAt monicOf scaledOf crossOf poppedOf hullStep hullOf magOf exp2Of splitFrom magnitudeSplitOf pushLinOf pushQuadOf quadUnitsOf factorUnitsOf endsOf withUnit largeFrom largeOf termOf nextAt mulOf productOf accOf quotientOf usableOf mergedOf cubicFactorsOf pairedOf quarticFactorsOf outOf secondOf factorsFrom factorizeOf
+unfolding factors-compute flatMap ofInt size insertedBy insertedAll sortedBy floorOf chain timesPowerOf ldexpOf greatest exponentOf heldAt heldBelow tooSmall scaleExponentOf topOf shiftOf coefficientOf coefficientsOf monicAt monicOf scaledOf crossOf poppedOf hullStep hullOf magOf exp2Of splitFrom magnitudeSplitOf pushLinOf pushQuadOf quadUnitsOf factorUnitsOf endsOf withUnit largeFrom largeOf productTermOf nextAt mulOf productOf accOf quotientOf usableOf mergedOf cubicFactorsOf pairedOf quarticFactorsOf outOf secondOf factorsFrom factorizeOf
 computes = 0
 
 abbrev bits : ℕ → Float

@@ -1,4 +1,4 @@
--- A rule of a table holds at each of its entries, by one test that the checker computes over the whole table: `at f xs tt k h`. Assumes nothing.
+-- A rule of a table holds at each of its entries, by one test that the checker computes over the whole table: `every-at f xs tt k h`. Assumes nothing.
 use mathlib.Core.Path.{_∙_, subst, sym}
 use mathlib.Core.Bool.{Bool, true, _&&_}
 use mathlib.Core.List.{List, [], _∷_}
@@ -20,5 +20,5 @@ from f (x ∷ xs) i t (suc k) h =
     subst (λ (m : ℕ). T (f m (getD xs k 0))) (suc-add i k ∙ sym (add-suc i k))
     (from f xs (suc i) (and-r (f i x) (every f (suc i) xs) t) k (le-of-suc-le-suc h))
 
-pub at : (f : ℕ → ℕ → Bool) (xs : List ℕ) → T (every f 0 xs) → (k : ℕ) → k < length xs → T (f k (getD xs k 0))
-at f xs t k h = subst (λ (m : ℕ). T (f m (getD xs k 0))) (zero-add k) (from f xs 0 t k h)
+pub every-at : (f : ℕ → ℕ → Bool) (xs : List ℕ) → T (every f 0 xs) → (k : ℕ) → k < length xs → T (f k (getD xs k 0))
+every-at f xs t k h = subst (λ (m : ℕ). T (f m (getD xs k 0))) (zero-add k) (from f xs 0 t k h)

@@ -5,9 +5,10 @@ use Prim.Native.Nat.{ℕ, _+_, _-_}
 use lib.Dec.{ltb, eqb}
 use lib.IntN.{pos}
 use lib.ListN.{length, getD}
-use lib.Ieee.{Float, nan, binary64, add, sub, mul, div, ofInt}
+use lib.Ieee.{Float, nan, binary64, ofInt}
 use Rattle.facts.specs.Arrays.{fromFn}
 use Rattle.facts.specs.Sort.{sortedBy}
+use Rattle.float.specs.Rounded.{_+ᶠ_, _-ᶠ_, _*ᶠ_, _/ᶠ_}
 use Rattle.float.specs.Literals.{half64, inf64}
 use Rattle.float.specs.Methods.{minOf, totalLeOf}
 use Rattle.scaled.specs.declared.Scaled.{Scaled}
@@ -31,11 +32,11 @@ byValue c = sortedBy (λ a b. totalLeOf (a .value) (b .value)) c
 
 -- `below`: vals[k] - vals[k - 1], infinite at the first place
 unfoldable pub belowOf : List RealRoot → ℕ → Float
-belowOf l k = cond (ltb 0 k) (sub binary64 (valueAt l k) (valueAt l (k - 1))) inf64
+belowOf l k = cond (ltb 0 k) (valueAt l k -ᶠ valueAt l (k - 1)) inf64
 
 -- `above`: vals[k + 1] - vals[k], infinite at the last
 unfoldable pub aboveOf : List RealRoot → ℕ → Float
-aboveOf l k = cond (ltb (k + 1) (length l)) (sub binary64 (valueAt l (k + 1)) (valueAt l k)) inf64
+aboveOf l k = cond (ltb (k + 1) (length l)) (valueAt l (k + 1) -ᶠ valueAt l k) inf64
 
 -- a place in the order, its multiplicity, and its gap below.min(above)
 pub record Ordered : Type 0 where
@@ -67,14 +68,14 @@ polishedOf n poly l = map (polishedAt n poly) l
 -- ---- joined
 -- half the distance from y to the next place is within the band of their middle
 unfoldable pub isNearOf : Scaled → Float → Float → Float → Bool
-isNearOf poly y next tol = withinBandOf poly (mul binary64 half64 (sub binary64 next y)) (mul binary64 half64 (add binary64 next y)) tol
+isNearOf poly y next tol = withinBandOf poly (half64 *ᶠ (next -ᶠ y)) (half64 *ᶠ (next +ᶠ y)) tol
 
 -- (y * m + v * k) / (m + k), with the multiplicity m + k
 unfoldable pub joinOf : RealRoot → RealRoot → RealRoot
 joinOf a b =
     let m = a .multiplicity in
     let k = b .multiplicity in
-    root (div binary64 (add binary64 (mul binary64 (a .value) (ofInt binary64 (pos m))) (mul binary64 (b .value) (ofInt binary64 (pos k)))) (ofInt binary64 (pos (m + k)))) (m + k)
+    root ((a .value *ᶠ ofInt binary64 (pos m) +ᶠ b .value *ᶠ ofInt binary64 (pos k)) /ᶠ ofInt binary64 (pos (m + k))) (m + k)
 
 -- The Rust's two loops are one over the places: the next place b joins the run at hand, a, or ends it, and then begins the next one.
 unfoldable pub joinedFrom : Scaled → Float → List RealRoot → RealRoot → List RealRoot → List RealRoot

@@ -3,7 +3,8 @@
 use mathlib.Core.Bool.{Bool, true, false, not, cond, _&&_, _||_}
 use mathlib.Core.List.{List, [], _∷_}
 use Prim.Native.Nat.{ℕ, zero, suc}
-use lib.Ieee.{Float, nan, inf, fin, binary64, mul, lt, eq, isNan}
+use lib.Ieee.{Float, nan, inf, fin, lt, eq, isNan}
+use Rattle.float.specs.Rounded.{_*ᶠ_}
 use Rattle.float.specs.Literals.{one64}
 
 -- x.is_finite(): neither an infinity nor NaN
@@ -61,6 +62,6 @@ totalLeOf x y = isNan y || (lt x y || (eq x y && (isSignNegativeOf x || not (isS
 unfoldable pub powiOf : Float → ℕ → Float
 powiOf v zero = one64
 powiOf v (suc zero) = v
-powiOf v (suc (suc zero)) = mul binary64 v v
-powiOf v (suc (suc (suc zero))) = mul binary64 (mul binary64 v v) v
-powiOf v (suc (suc (suc (suc n)))) = mul binary64 (mul binary64 v v) (mul binary64 v v)
+powiOf v (suc (suc zero)) = v *ᶠ v
+powiOf v (suc (suc (suc zero))) = v *ᶠ v *ᶠ v
+powiOf v (suc (suc (suc (suc n)))) = v *ᶠ v *ᶠ (v *ᶠ v)

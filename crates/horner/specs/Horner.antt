@@ -2,8 +2,9 @@
 use Prim.Native.Nat.{ℕ}
 use mathlib.Core.List.{List}
 use lib.ListN.{getD}
-use lib.Ieee.{Float, nan, binary64, add, sub, mul}
+use lib.Ieee.{Float, nan}
 use Rattle.facts.specs.Count.{countDown}
+use Rattle.float.specs.Rounded.{_+ᶠ_, _-ᶠ_, _*ᶠ_}
 use Rattle.float.specs.Literals.{zero64}
 use Rattle.horner.specs.Loops.{atPlace}
 use Rattle.horner.specs.Product.{productError}
@@ -12,8 +13,8 @@ use Rattle.horner.specs.declared.ValueSlope.{ValueSlope}
 -- one turn of `value_slope`, at the coefficient c: the slope takes the value of the turn before
 unfoldable pub hornerStep : Float → Float → ValueSlope → ValueSlope
 hornerStep y c h = record {
-  value = add binary64 (mul binary64 (h .value) y) c;
-  slope = add binary64 (mul binary64 (h .slope) y) (h .value);
+  value = h .value *ᶠ y +ᶠ c;
+  slope = h .slope *ᶠ y +ᶠ h .value;
 }
 
 -- `value_slope`: the value and the first derivative at y
@@ -23,8 +24,8 @@ valueSlopeOf p d y = countDown (atPlace (hornerStep y) p) d (record { value = ge
 -- `sum_err` of `value_slope_compensated`: the rounding error of the sum of prod and c, by Knuth's formula
 unfoldable pub sumError : Float → Float → Float → Float
 sumError prod c sum =
-    let back = sub binary64 sum prod in
-    add binary64 (sub binary64 prod (sub binary64 sum back)) (sub binary64 c back)
+    let back = sum -ᶠ prod in
+    prod -ᶠ (sum -ᶠ back) +ᶠ (c -ᶠ back)
 
 -- the compensated rule's locals: the plain value, the error gathered so far, and the slope
 pub record Horner : Type 0 where
@@ -35,12 +36,12 @@ pub record Horner : Type 0 where
 -- one turn of `value_slope_compensated`, at the coefficient c
 unfoldable pub compensatedStep : Float → Float → Horner → Horner
 compensatedStep y c h =
-    let prod = mul binary64 (h .v) y in
-    let sum = add binary64 prod c in
+    let prod = h .v *ᶠ y in
+    let sum = prod +ᶠ c in
     record {
       v = sum;
-      err = add binary64 (mul binary64 (h .err) y) (add binary64 (productError (h .v) y prod) (sumError prod c sum));
-      s = add binary64 (mul binary64 (h .s) y) (h .v);
+      err = h .err *ᶠ y +ᶠ (productError (h .v) y prod +ᶠ sumError prod c sum);
+      s = h .s *ᶠ y +ᶠ h .v;
     }
 
 -- its locals after the loop
@@ -49,7 +50,7 @@ compensatedOf p d y = countDown (atPlace (compensatedStep y) p) d (record { v = 
 
 -- the value with its error added, and the slope
 abbrev pub corrected : Horner → ValueSlope
-corrected h = record { value = add binary64 (h .v) (h .err); slope = h .s }
+corrected h = record { value = h .v +ᶠ h .err; slope = h .s }
 
 -- `value_slope_compensated` (Graillat, Langlois, Louvet): the value with what its rounding lost added back, and the first derivative at y
 unfoldable pub valueSlopeCompensatedOf : List Float → ℕ → Float → ValueSlope

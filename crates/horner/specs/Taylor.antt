@@ -5,8 +5,9 @@ use mathlib.Core.List.{List}
 use lib.Dec.{leb}
 use lib.IntN.{pos}
 use lib.ListN.{getD, set}
-use lib.Ieee.{Float, nan, binary64, add, sub, mul, ofInt}
+use lib.Ieee.{Float, nan, binary64, ofInt}
 use Rattle.facts.specs.Count.{countUp}
+use Rattle.float.specs.Rounded.{_+ᶠ_, _-ᶠ_, _*ᶠ_}
 use Rattle.float.specs.Literals.{zero64, one64}
 use Rattle.horner.specs.Loops.{downTo}
 use Rattle.horner.specs.declared.Derivs.{Derivs}
@@ -17,8 +18,8 @@ derivsStep p y i h =
     let k = ofInt binary64 (pos i) in
     let a = getD p i nan in
     record {
-      d1 = add binary64 (mul binary64 (h .d1) y) (mul binary64 k a);
-      d2 = cond (leb 2 i) (add binary64 (mul binary64 (h .d2) y) (mul binary64 (mul binary64 k (sub binary64 k one64)) a)) (h .d2);
+      d1 = h .d1 *ᶠ y +ᶠ k *ᶠ a;
+      d2 = cond (leb 2 i) (h .d2 *ᶠ y +ᶠ k *ᶠ (k -ᶠ one64) *ᶠ a) (h .d2);
     }
 
 -- `derivs12`: the first and second derivative at y
@@ -27,7 +28,7 @@ derivs12Of p d y = downTo 1 (derivsStep p y) (d + 1) (record { d1 = zero64; d2 =
 
 -- t[i] += y * t[i + 1]
 unfoldable pub taylorStep : Float → ℕ → List Float → List Float
-taylorStep y i t = set t i (add binary64 (getD t i nan) (mul binary64 y (getD t (i + 1) nan)))
+taylorStep y i t = set t i (getD t i nan +ᶠ y *ᶠ getD t (i + 1) nan)
 
 -- the inner loop of `taylor`, one synthetic division from d down to k: t[k] becomes final
 unfoldable pub sweepOf : Float → ℕ → ℕ → List Float → List Float

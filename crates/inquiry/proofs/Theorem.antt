@@ -13,15 +13,14 @@ use Rattle.facts.specs.Cond.{if-taken}
 use Rattle.facts.specs.Lists.{length-snoc}
 use Rattle.roots.specs.declared.RealRoot.{RealRoot}
 use Rattle.roots.specs.Roots.{listOf, pairListOf}
-use Rattle.roots.specs.Listed.{multiplicities}
-use Rattle.roots.specs.Listed as roots
+use Rattle.roots.specs.Listed.{multiplicities, Within}
 use Rattle.roots.proofs.Laws.{length-pairList}
 use Rattle.roots.proofs.Sums.{counted, length-counted}
 use Rattle.poly.specs.Coefficients.{degreeLeft}
 use Rattle.poly.specs.Solve.{solveOf}
 use Rattle.poly.proofs.Sums.{solved-shared, solved-fits}
 use Rattle.asking.specs.Asking.{Asking, answered, placesAsked, walked, asks}
-use Rattle.asking.specs.Within.{Within, AtStage}
+use Rattle.asking.specs.Within.{EndsWithin, AtStage}
 use Rattle.asking.proofs.Feeding.{question, finish}
 use Rattle.asking.proofs.Within.{answered-within, places-within, walked-within}
 use Rattle.touching.specs.Replies.{repliesOf}
@@ -120,10 +119,10 @@ module _ (coeffs : List Float) (tol : Float) where
   abbrev total : ℕ
   total = multiplicities (listOf (solveOf coeffs tol .roots)) + 2 * length (pairListOf (solveOf coeffs tol .pairs))
 
-  bounds : Within most (realRootsTouching coeffs tol) (λ m l. ListedIn total l)
+  bounds : EndsWithin most (realRootsTouching coeffs tol) (λ m l. ListedIn total l)
   unfolding startOf
   bounds =
-      subst (λ (t : Asking (List RealRoot)). Within most t (λ m l. ListedIn total l)) (start-asks coeffs tol)
+      subst (λ (t : Asking (List RealRoot)). EndsWithin most t (λ m l. ListedIn total l)) (start-asks coeffs tol)
       (touching-within (solveOf coeffs tol .poly) (solveOf coeffs tol .tol) (listOf (solveOf coeffs tol .roots)) (pairListOf (solveOf coeffs tol .pairs)))
 
   sound : Sound (startOf coeffs tol .inquiry)
@@ -169,7 +168,7 @@ module _ (touches : Float → Bool) (coeffs : List Float) (tol : Float) where
         over = λ r. sym (reply-refused (fed touches (length (placesAsked touches t)) q) r (ap (λ (a : Asked). a .asking) end));
       }
 
-  pub start-list : roots.Within (degreeLeft coeffs) (answered touches (realRootsTouching coeffs tol))
+  pub start-list : Within (degreeLeft coeffs) (answered touches (realRootsTouching coeffs tol))
   start-list =
       let l = answered touches (realRootsTouching coeffs tol) in
       let h = answered-within (ListedIn (total coeffs tol)) touches (most coeffs tol) (realRootsTouching coeffs tol) (bounds coeffs tol) in

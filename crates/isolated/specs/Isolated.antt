@@ -5,8 +5,9 @@ use mathlib.Core.List.{List, [], _∷_}
 use Prim.Native.Nat.{ℕ, _+_, _-_}
 use lib.Dec.{eqb, ltb}
 use lib.ListN.{getD}
-use lib.Ieee.{Float, nan, binary64, add, sub, mul, neg, lt, le, ne}
+use lib.Ieee.{Float, nan, neg, lt, le, ne}
 use Rattle.facts.specs.Count.{countUp}
+use Rattle.float.specs.Rounded.{_+ᶠ_, _-ᶠ_, _*ᶠ_}
 use Rattle.float.specs.Literals.{zero64, half64, sixteen64, inf64}
 use Rattle.float.specs.Methods.{absOf, copysignOf, minOf, maxOf, powiOf}
 use Rattle.sqrt.specs.Root.{sqrtOf}
@@ -26,14 +27,14 @@ use Rattle.cubic.specs.Cubic.{overOr}
 
 -- Of two real roots of y^2 + al*y + be, whose discriminant is disc, the one of larger size: q = -0.5 * (al + disc.sqrt().copysign(al)), without cancellation
 unfoldable pub farRootOf : Float → Float → Float
-farRootOf al disc = mul binary64 (neg half64) (add binary64 al (copysignOf (sqrtOf disc) al))
+farRootOf al disc = neg half64 *ᶠ (al +ᶠ copysignOf (sqrtOf disc) al)
 
 -- what the code takes once where the Rust takes it for each use: a discriminant and the root of its size, and farRootOf with that root
 unfoldable pub discOf : Float → Float → Disc
 discOf al be = let disc = discriminantOf al be in record { disc = disc; root = sqrtOf (absOf disc) }
 
 unfoldable pub farBy : Float → Float → Float
-farBy al root = mul binary64 (neg half64) (add binary64 al (copysignOf root al))
+farBy al root = neg half64 *ᶠ (al +ᶠ copysignOf root al)
 
 -- The roots of y^2 + al*y + be as (re, im). Real ones, a double one too (disc = 0): q of larger size, cancellation-free, and the other from their product be.
 -- Else conjugate ones, also where disc is a NaN: their im is a NaN then, so neither counts as real.
@@ -41,13 +42,13 @@ unfoldable pub rootPairOf : Float → Float → RootPair
 rootPairOf al be =
     let disc = discriminantOf al be in
     let q = farRootOf al disc in
-    let half = mul binary64 half64 (sqrtOf (neg disc)) in
-    let re = mul binary64 (neg half64) al in
+    let half = half64 *ᶠ sqrtOf (neg disc) in
+    let re = neg half64 *ᶠ al in
     cond (le zero64 disc) (record { re0 = q; im0 = zero64; re1 = overOr be q zero64; im1 = zero64 }) (record { re0 = re; im0 = half; re1 = re; im1 = neg half })
 
 -- `dist`: the squared distance; it is only compared
 abbrev pub distOf : Float → Float → Float → Float → Float
-distOf re im re' im' = add binary64 (powiOf (sub binary64 re re') 2) (powiOf (sub binary64 im im') 2)
+distOf re im re' im' = powiOf (re -ᶠ re') 2 +ᶠ powiOf (im -ᶠ im') 2
 
 -- of the roots i and j
 abbrev pub distAt : List Float → List Float → ℕ → ℕ → Float
@@ -80,7 +81,7 @@ beats iso NoRoot = true
 
 -- A spread under a quarter of the distance, 16 in squares, and that.
 unfoldable pub isBetterOf : Best → Float → Float → Bool
-isBetterOf best iso spread = lt (mul binary64 sixteen64 spread) iso && beats iso best
+isBetterOf best iso spread = lt (sixteen64 *ᶠ spread) iso && beats iso best
 
 -- the best so far once one more root was looked at: only a real one may take its place
 unfoldable pub judgedOf : Best → Float → Float → Float → Float → Best
@@ -111,8 +112,8 @@ isolatedOf quads = record { far = isolatedRootOf quads; first = discOf (quads .a
 -- `peel_root`: the quotient by y - r, from the top, refined
 unfoldable pub peelRootOf : Float → Float → Float → Float → Float → Peeled
 peelRootOf b c d e r =
-    let h2 = add binary64 b r in
-    let h1 = add binary64 c (mul binary64 r h2) in
-    let h0 = add binary64 d (mul binary64 r h1) in
+    let h2 = b +ᶠ r in
+    let h1 = c +ᶠ r *ᶠ h2 in
+    let h0 = d +ᶠ r *ᶠ h1 in
     let x = refineOf 4 (peelSystem b c d e) (r ∷ h2 ∷ h1 ∷ h0 ∷ []) in
     record { r = getD x 0 nan; h2 = getD x 1 nan; h1 = getD x 2 nan; h0 = getD x 3 nan }

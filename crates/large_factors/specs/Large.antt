@@ -4,8 +4,9 @@ use mathlib.Core.List.{List, [], _∷_, _++_, map, flatMap}
 use Prim.Native.Nat.{ℕ, _+_}
 use lib.Dec.{leb}
 use lib.ListN.{getD, set, take, replicate}
-use lib.Ieee.{Float, nan, binary64, mul, div, lt, isNan}
+use lib.Ieee.{Float, nan, lt, isNan}
 use Rattle.facts.specs.Sort.{sortedBy}
+use Rattle.float.specs.Rounded.{_*ᶠ_, _/ᶠ_}
 use Rattle.float.specs.Literals.{zero64, epsilon64}
 use Rattle.float.specs.Methods.{absOf, totalLeOf}
 use Rattle.sqrt.specs.Root.{sqrtOf}
@@ -30,7 +31,7 @@ unfoldable pub quadUnitsOf : Quad → List Unit
 quadUnitsOf f =
     let disc = discriminantOf (f .al) (f .be) in
     let q = farRootOf (f .al) disc in
-    cond (lt zero64 disc) (realUnit q ∷ realUnit (div binary64 (f .be) q) ∷ []) (unitOf (sqrtOf (absOf (f .be))) (f .al) (f .be) ∷ [])
+    cond (lt zero64 disc) (realUnit q ∷ realUnit (f .be /ᶠ q) ∷ []) (unitOf (sqrtOf (absOf (f .be))) (f .al) (f .be) ∷ [])
 
 -- units[..nu]: the linear factors in their order, then the quadratic ones
 unfoldable pub factorUnitsOf : Factors → List Unit
@@ -55,7 +56,7 @@ largeFrom want least large (x ∷ l) = let rest = largeFrom want least (withUnit
 
 -- `large`: `want` is the Rust's sc.d - small, the number of large roots
 unfoldable pub largeOf : Factors → ℕ → Float → Factors
-largeOf out want threshold = largeFrom want (mul binary64 threshold epsilon64) noFactors (sortedBy noSmaller (factorUnitsOf out))
+largeOf out want threshold = largeFrom want (threshold *ᶠ epsilon64) noFactors (sortedBy noSmaller (factorUnitsOf out))
 
 -- ---- the units in an array with a count
 abbrev pub noUnits : Units

@@ -13,7 +13,7 @@ use lib.Ieee.Fits.{down-pos}
 use Rattle.float.specs.Literals.{zero64}
 use Rattle.float.specs.Methods.{isFiniteOf, isSignNegativeOf}
 use Rattle.float.proofs.Zero.{level-zero}
-use Rattle.ldexp.specs.Scale.{pow2Of, signed, chain, steps, scaledOf, ldexpOf}
+use Rattle.ldexp.specs.Scale.{pow2Of, signed, chain, steps, timesPowerOf, ldexpOf}
 
 -- ---- what a product with a power of two leaves as it is
 
@@ -49,16 +49,16 @@ chain-steady (suc j) x k h = ap (λ (y : Float). chain j (pow2Of k) y) (h k) ∙
 
 -- ---- the chain, by the size n that is left
 
-pub all-steady : (s : Bool) (n : ℕ) (x : Float) → Steady x → scaledOf s n x ≡ x
-unfolding scaledOf
+pub all-steady : (s : Bool) (n : ℕ) (x : Float) → Steady x → timesPowerOf s n x ≡ x
+unfolding timesPowerOf
 all-steady s n x h = ap (λ (y : Float). mul binary64 y (pow2Of (signed s (n - steps n * 1000)))) (chain-steady (steps n) x (signed s 1000) h) ∙ h (signed s (n - steps n * 1000))
 
-pub all-last : (s : Bool) (n : ℕ) (x : Float) → n ≤ 1000 → scaledOf s n x ≡ mul binary64 x (pow2Of (signed s n))
-unfolding scaledOf chain
+pub all-last : (s : Bool) (n : ℕ) (x : Float) → n ≤ 1000 → timesPowerOf s n x ≡ mul binary64 x (pow2Of (signed s n))
+unfolding timesPowerOf chain
 all-last s n x h = let e : steps n ≡ 0 = omega arith in rw (e) (let d : n - 0 * 1000 ≡ n = omega arith in rw d)
 
-pub all-step : (s : Bool) (n : ℕ) (x : Float) → 1000 < n → scaledOf s n x ≡ scaledOf s (n - 1000) (mul binary64 x (pow2Of (signed s 1000)))
-unfolding scaledOf chain
+pub all-step : (s : Bool) (n : ℕ) (x : Float) → 1000 < n → timesPowerOf s n x ≡ timesPowerOf s (n - 1000) (mul binary64 x (pow2Of (signed s 1000)))
+unfolding timesPowerOf chain
 all-step s n x h =
     let e : steps n ≡ suc (steps (n - 1000)) = omega arith in
     let d : n - suc (steps (n - 1000)) * 1000 ≡ n - 1000 - steps (n - 1000) * 1000 = omega arith in
@@ -66,8 +66,8 @@ all-step s n x h =
 
 -- ---- signed exponents
 
-pub by-sign : (s : Bool) (n : ℕ) (x : Float) → ldexpOf x (signed s n) ≡ scaledOf s n x
-unfolding ldexpOf scaledOf chain
+pub by-sign : (s : Bool) (n : ℕ) (x : Float) → ldexpOf x (signed s n) ≡ timesPowerOf s n x
+unfolding ldexpOf timesPowerOf chain
 by-sign false n x = refl
 by-sign true zero x = refl
 by-sign true (suc n) x = refl

@@ -11,19 +11,19 @@ use borrow.Author.Tests.{lt-ltb, le-ltb}
 use Rattle.text.specs.Written.{Written}
 use Rattle.text.proofs.Laws.{written-none, written-then, written-as}
 use Rattle.leafcases.specs.Words.{badLine}
-use Rattle.leafcases.specs.Lines.{lineThen, recordOf, linesFrom, linesOf}
+use Rattle.leafcases.specs.Lines.{lineThen, leafRecordOf, leafLinesFrom, linesOf}
 
-lines-end : (f : ℕ) (s : List ℕ) (at : ℕ) → length s ≤ at → linesFrom f s at ≡ []
-unfolding linesFrom
+lines-end : (f : ℕ) (s : List ℕ) (at : ℕ) → length s ≤ at → leafLinesFrom f s at ≡ []
+unfolding leafLinesFrom
 lines-end zero s at h = refl
 lines-end (suc f) s at h = simp (le-ltb _ _ h)
 
-lines-step : (f : ℕ) (s : List ℕ) (at : ℕ) → at < length s → 0 < f → linesFrom f s at ≡ lineThen (recordOf s at) (linesFrom (f - 1) s (at + 14))
-unfolding linesFrom
+lines-step : (f : ℕ) (s : List ℕ) (at : ℕ) → at < length s → 0 < f → leafLinesFrom f s at ≡ lineThen (leafRecordOf s at) (leafLinesFrom (f - 1) s (at + 14))
+unfolding leafLinesFrom
 lines-step zero s at h p = absurd (omega arith)
 lines-step (suc f) s at h p =
     let e : f ≡ suc f - 1 = omega arith in
-    simp (lt-ltb _ _ h) (ap (λ (k : ℕ). lineThen (recordOf s at) (linesFrom k s (at + 14))) e)
+    simp (lt-ltb _ _ h) (ap (λ (k : ℕ). lineThen (leafRecordOf s at) (leafLinesFrom k s (at + 14))) e)
 
 is-none : (t : List ℕ) → length t ≡ 0 → t ≡ []
 is-none [] e = refl
@@ -38,7 +38,7 @@ pub record Sofar (l s o : List ℕ) (w at : ℕ) : Type 0 where
   pub fuel : ℕ
   pub text : List ℕ
   pub written : Written l 0 text o w
-  pub rest : text ++ linesFrom fuel s at ≡ linesOf s
+  pub rest : text ++ leafLinesFrom fuel s at ≡ linesOf s
   pub enough : length s ≤ at + fuel
 
 pub sofar-none : (l s : List ℕ) → Sofar l s l 0 0
@@ -52,25 +52,25 @@ module _ {l s o : List ℕ} {w at : ℕ} (sofar : Sofar l s o w at) where
       written-as e (sofar .written)
 
   module _ (h : at < length s) where
-    step : linesFrom (sofar .fuel) s at ≡ lineThen (recordOf s at) (linesFrom (sofar .fuel - 1) s (at + 14))
+    step : leafLinesFrom (sofar .fuel) s at ≡ lineThen (leafRecordOf s at) (leafLinesFrom (sofar .fuel - 1) s (at + 14))
     step = lines-step (sofar .fuel) s at h (omega (arith, sofar .enough))
 
-    pub sofar-bad : {p o′ : List ℕ} {j k : ℕ} → Written o w (recordOf s at) p j → j ≡ w → Written p w badLine o′ k → Written l 0 (linesOf s) o′ k
+    pub sofar-bad : {p o′ : List ℕ} {j k : ℕ} → Written o w (leafRecordOf s at) p j → j ≡ w → Written p w badLine o′ k → Written l 0 (linesOf s) o′ k
     sofar-bad {p} {o′} {j} {k} r e b =
-        let none : recordOf s at ≡ [] = is-none (recordOf s at) (omega (arith, r .place)) in
-        let last : linesFrom (sofar .fuel) s at ≡ badLine = step ∙ ap (λ (t : List ℕ). lineThen t (linesFrom (sofar .fuel - 1) s (at + 14))) none in
+        let none : leafRecordOf s at ≡ [] = is-none (leafRecordOf s at) (omega (arith, r .place)) in
+        let last : leafLinesFrom (sofar .fuel) s at ≡ badLine = step ∙ ap (λ (t : List ℕ). lineThen t (leafLinesFrom (sofar .fuel - 1) s (at + 14))) none in
         written-as
         (ap (λ (t : List ℕ). sofar .text ++ (t ++ badLine)) none ∙ ap (λ (t : List ℕ). sofar .text ++ t) (sym last) ∙ sofar .rest)
         (written-then (sofar .written) (written-then r (subst (λ (i : ℕ). Written p i badLine o′ k) (sym e) b)))
 
-    pub sofar-next : {p : List ℕ} {k : ℕ} → Written o w (recordOf s at) p k → (k ≡ w → ⊥) → Sofar l s p k (at + 14)
+    pub sofar-next : {p : List ℕ} {k : ℕ} → Written o w (leafRecordOf s at) p k → (k ≡ w → ⊥) → Sofar l s p k (at + 14)
     sofar-next {p} {k} r e =
-        let more = linesFrom (sofar .fuel - 1) s (at + 14) in
-        let some : 0 < length (recordOf s at) = ⊎-elim (λ z. absurd (e (omega (arith, r .place)))) (λ h. h) (eq-zero-or-pos (length (recordOf s at))) in
+        let more = leafLinesFrom (sofar .fuel - 1) s (at + 14) in
+        let some : 0 < length (leafRecordOf s at) = ⊎-elim (λ z. absurd (e (omega (arith, r .place)))) (λ h. h) (eq-zero-or-pos (length (leafRecordOf s at))) in
         record {
           fuel = sofar .fuel - 1;
-          text = sofar .text ++ recordOf s at;
+          text = sofar .text ++ leafRecordOf s at;
           written = written-then (sofar .written) r;
-          rest = append-assoc (sofar .text) (recordOf s at) more ∙ ap (λ (t : List ℕ). sofar .text ++ t) (sym (step ∙ then-some (recordOf s at) more some)) ∙ sofar .rest;
+          rest = append-assoc (sofar .text) (leafRecordOf s at) more ∙ ap (λ (t : List ℕ). sofar .text ++ t) (sym (step ∙ then-some (leafRecordOf s at) more some)) ∙ sofar .rest;
           enough = omega (arith, sofar .enough);
         }

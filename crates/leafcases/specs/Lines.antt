@@ -29,21 +29,21 @@ wordOf (Whole k) = 32 ∷ signedDecimal k
 wordOf Nothing = []
 
 -- the leaf's name, what it is asked, what it answers, and a line feed
-unfoldable pub lineOf : List ℕ → Word → Word → Word → List ℕ
+unfoldable pub leafLineOf : List ℕ → Word → Word → Word → List ℕ
 unfolding wordOf
-lineOf name a b c = name ++ (wordOf a ++ (wordOf b ++ (wordOf c ++ (10 ∷ []))))
+leafLineOf name a b c = name ++ (wordOf a ++ (wordOf b ++ (wordOf c ++ (10 ∷ []))))
 
 -- the line of a record by its letter, and nothing where no leaf has the letter
-unfoldable pub answerOf : ℕ → Float → ℤ → List ℕ
-unfolding lineOf
-answerOf letter x k =
-    cond (eqb letter 115) (lineOf sqrtWord (Double x) (Double (sqrtOf x)) Nothing)
-    (cond (eqb letter 99) (lineOf cbrtWord (Double x) (Double (cbrtOf x)) Nothing)
-    (cond (eqb letter 97) (lineOf thirdWord (Double x) (Double (thirdAngleOf x .cos)) (Double (thirdAngleOf x .sin)))
-    (cond (eqb letter 108) (lineOf log2Word (Double x) (Double (log2GridOf x)) Nothing)
-    (cond (eqb letter 100) (lineOf ldexpWord (Double x) (Whole k) (Double (ldexpOf x k)))
-    (cond (eqb letter 101) (lineOf exponentWord (Double x) (Whole (exponentOf x)) Nothing)
-    (cond (eqb letter 112) (lineOf pow2Word (Whole k) (Double (pow2OrNan k)) Nothing)
+unfoldable pub leafAnswerOf : ℕ → Float → ℤ → List ℕ
+unfolding leafLineOf
+leafAnswerOf letter x k =
+    cond (eqb letter 115) (leafLineOf sqrtWord (Double x) (Double (sqrtOf x)) Nothing)
+    (cond (eqb letter 99) (leafLineOf cbrtWord (Double x) (Double (cbrtOf x)) Nothing)
+    (cond (eqb letter 97) (leafLineOf thirdWord (Double x) (Double (thirdAngleOf x .cos)) (Double (thirdAngleOf x .sin)))
+    (cond (eqb letter 108) (leafLineOf log2Word (Double x) (Double (log2GridOf x)) Nothing)
+    (cond (eqb letter 100) (leafLineOf ldexpWord (Double x) (Whole k) (Double (ldexpOf x k)))
+    (cond (eqb letter 101) (leafLineOf exponentWord (Double x) (Whole (exponentOf x)) Nothing)
+    (cond (eqb letter 112) (leafLineOf pow2Word (Whole k) (Double (pow2OrNan k)) Nothing)
     []))))))
 
 -- ---- a record
@@ -65,8 +65,8 @@ abbrev pub isBad : List ℕ → ℕ → Bool
 isBad s at = ltb (length s - at) 14 || (ltb (2 ^ 31 - 1) (sizeAt s at) || not (isSign (getD s (at + 9) 0)))
 
 -- the line of the record at at, and nothing where none stands there
-unfoldable pub recordOf : List ℕ → ℕ → List ℕ
-recordOf s at = cond (isBad s at) [] (answerOf (getD s at 0) (f64At s (at + 1)) (numberAt s at))
+unfoldable pub leafRecordOf : List ℕ → ℕ → List ℕ
+leafRecordOf s at = cond (isBad s at) [] (leafAnswerOf (getD s at 0) (f64At s (at + 1)) (numberAt s at))
 
 -- ---- a file
 
@@ -76,10 +76,10 @@ lineThen [] rest = badLine
 lineThen (b ∷ t) rest = (b ∷ t) ++ rest
 
 -- the lines from at on, f being at least as large as the number of records that are left
-unfoldable pub linesFrom : ℕ → List ℕ → ℕ → List ℕ
-linesFrom zero s at = []
-linesFrom (suc f) s at = cond (ltb at (length s)) (lineThen (recordOf s at) (linesFrom f s (at + 14))) []
+unfoldable pub leafLinesFrom : ℕ → List ℕ → ℕ → List ℕ
+leafLinesFrom zero s at = []
+leafLinesFrom (suc f) s at = cond (ltb at (length s)) (lineThen (leafRecordOf s at) (leafLinesFrom f s (at + 14))) []
 
 -- all lines of a file
 unfoldable pub linesOf : List ℕ → List ℕ
-linesOf s = linesFrom (length s) s 0
+linesOf s = leafLinesFrom (length s) s 0

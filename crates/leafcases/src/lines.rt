@@ -4,7 +4,7 @@ ghost use Prim.Native.Nat.{_+_, _^_, _<_, _≤_};
 ghost use lib.ListN.{length};
 ghost use Rattle.ldexp.specs.Scale.{signed};
 ghost use Rattle.text.specs.Written.{Written};
-ghost use Rattle.leafcases.specs.Lines.{wordOf, lineOf, answerOf, isSign, recordOf, linesOf};
+ghost use Rattle.leafcases.specs.Lines.{wordOf, leafLineOf, leafAnswerOf, isSign, leafRecordOf, linesOf};
 
 // A word of a line behind the first.
 pub enum Word {
@@ -34,7 +34,7 @@ fn put_word(out: &mut [u8], at: usize, word: Word) -> usize
 
 fn put_line(out: &mut [u8], at: usize, name: &[u8], a: Word, b: Word, c: Word) -> usize
     requires { ⌜ (at < 2 ^ 31) × (length (now name) ≤ 8) ⌝ }
-    ensures { λ r. ⌜ Written (now (out .entry)) at (lineOf (now (name .entry)) a b c) (now (out .exit)) r ⌝ }
+    ensures { λ r. ⌜ Written (now (out .entry)) at (leafLineOf (now (name .entry)) a b c) (now (out .exit)) r ⌝ }
     ensures { λ r. ⌜ r ≤ at + 60 ⌝ }
 {
     let first = text::put_bytes(out, at, name);
@@ -47,7 +47,7 @@ fn put_line(out: &mut [u8], at: usize, name: &[u8], a: Word, b: Word, c: Word) -
 // The line of a record by its letter; nothing where no leaf has the letter.
 fn put_answer(out: &mut [u8], at: usize, letter: u8, x: f64, k: i32) -> usize
     requires { ⌜ at < 2 ^ 31 ⌝ }
-    ensures { λ r. ⌜ Written (now (out .entry)) at (answerOf letter x k) (now (out .exit)) r ⌝ }
+    ensures { λ r. ⌜ Written (now (out .entry)) at (leafAnswerOf letter x k) (now (out .exit)) r ⌝ }
     ensures { λ r. ⌜ r ≤ at + 60 ⌝ }
 {
     let asked = Word::Double(x);
@@ -102,7 +102,7 @@ fn with_sign(below: bool, n: u64) -> i32
 // The line of the record at `at`, from w on; nothing where none stands there.
 fn put_record(out: &mut [u8], w: usize, s: &[u8], at: usize) -> usize
     requires { ⌜ (at ≤ length (now s)) × (w < 2 ^ 31) ⌝ }
-    ensures { λ r. ⌜ Written (now (out .entry)) w (recordOf (now (s .entry)) at) (now (out .exit)) r ⌝ }
+    ensures { λ r. ⌜ Written (now (out .entry)) w (leafRecordOf (now (s .entry)) at) (now (out .exit)) r ⌝ }
     ensures { λ r. ⌜ r ≤ w + 60 ⌝ }
 {
     if s.len() - at < 14 {

@@ -31,6 +31,6 @@ pub record Raised (a : List Float) (d s lo hi i : ℕ) : Type 0 where
   pub high : 0 < i → i < d → k + s * i + 8400 ≤ hi + 2100 * i
 
 -- the last one, and all before i
-pub record Seen (a : List Float) (d s lo hi i : ℕ) : Type 0 where
+pub record SpanSeen (a : List Float) (d s lo hi i : ℕ) : Type 0 where
   pub last : Raised a d s lo hi d
   pub before : (j : ℕ) → j < i → Raised a d s lo hi j

@@ -12,7 +12,7 @@ use Rattle.float.specs.Units.{unitsOf}
 use Rattle.decode.specs.Shape.{Normal, Decoded}
 use Rattle.decode.proofs.Class.{zero-is, negative-view, special-view, positive-view, decoded-irregular, decoded-regular, decoded-normal}
 use Rattle.log2.specs.Log.{gridOf, over256, log2GridOf}
-use Rattle.log2.specs.Parts.{Between}
+use Rattle.log2.specs.Parts.{Fraction}
 use Rattle.log2.proofs.Grid.{power-size}
 use Rattle.decode.proofs.Difference.{minus-is, minus-fits, machine-fits, machine-is}
 use Rattle.log2.proofs.Machine.{over-is}
@@ -31,7 +31,7 @@ module _ (x : Float) (w k : ℕ) (d : Decoded x w k) where
   unfolding log2GridOf
   log-special a b z = ⊎-elim (λ i. i ∙ sym (ap log2GridOf i)) (λ i. i ∙ sym (ap log2GridOf i)) (special-view x b a (decoded-irregular x w k d z))
 
-  module _ (f : ℕ) (b : Between w f) (z : w ≡ 0 → ⊥) where
+  module _ (f : ℕ) (b : Fraction w f) (z : w ≡ 0 → ⊥) where
     digits : Normal (unitsOf x) w k
     digits = decoded-normal x w k d z
 

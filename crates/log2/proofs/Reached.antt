@@ -4,7 +4,7 @@ use mathlib.Core.Logic.{⊎-elim}
 use Prim.Native.Nat.{ℕ, suc, _+_, _-_, _^_, _≤_, _<_}
 use native.Mathlib.Omega.{arith}
 use native.Mathlib.Nat.{le-trans, lt-of-le-of-lt, lt-irrefl, eq-zero-or-pos, pow-le-pow-left, pow-lt-pow-left}
-use Rattle.log2.specs.Parts.{Threshold, Between}
+use Rattle.log2.specs.Parts.{Threshold, Fraction}
 
 -- every w reaches the first threshold
 pub not-first : (n w t : ℕ) → Threshold n t → 2 ^ 52 ≤ w → w < t → 0 < n
@@ -18,7 +18,7 @@ pub reached : (n w t : ℕ) → Threshold n t → t ≤ w → 2 ^ (n + 13312) �
 reached n w t q l = le-trans (q .reaches) (pow-le-pow-left l 256)
 
 -- and the next one, which it does not
-pub next-above : (n w t : ℕ) → n < 255 → 2 ^ (n + 13312) ≤ w ^ 256 → Threshold (n + 1) t → w < t → Between w n
+pub next-above : (n w t : ℕ) → n < 255 → 2 ^ (n + 13312) ≤ w ^ 256 → Threshold (n + 1) t → w < t → Fraction w n
 next-above n w t s a q l = record {
   small = omega arith;
   low = a;
@@ -26,7 +26,7 @@ next-above n w t s a q l = record {
 }
 
 -- above the last one is 2 ^ 53
-pub last-one : (n w : ℕ) → n < 256 → 255 ≤ n → 2 ^ (n + 13312) ≤ w ^ 256 → w < 2 ^ 53 → Between w n
+pub last-one : (n w : ℕ) → n < 256 → 255 ≤ n → 2 ^ (n + 13312) ≤ w ^ 256 → w < 2 ^ 53 → Fraction w n
 last-one n w s g a l = record {
   small = s;
   low = a;

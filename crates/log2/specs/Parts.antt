@@ -14,7 +14,7 @@ pub record Thresholds (table : List ℕ) : Type 0 where
   pub entry : (n : ℕ) → n < 256 → Threshold n (getD table n 0)
 
 -- the logarithm of a significand w of 53 digits is 52 and a fraction, which is r / 256, rounded down
-pub record Between (w r : ℕ) : Type 0 where
+pub record Fraction (w r : ℕ) : Type 0 where
   pub small : r < 256
   pub low : 2 ^ (r + 13312) ≤ w ^ 256
   pub high : w ^ 256 < 2 ^ (suc r + 13312)

@@ -11,7 +11,7 @@ use lib.Ieee.{odd, size}
 use lib.Ieee.Digits.{size-lt}
 use Rattle.algebra.specs.NatOrder.{pow2-join}
 use Rattle.decode.specs.Shape.{Normal}
-use Rattle.nearest.specs.Greatest.{greatest, nearestOf, Floor, Half}
+use Rattle.nearest.specs.Greatest.{greatest, nearestOf, Floor, NearestHalf}
 use Rattle.nearest.proofs.ByTest.{Monotone, Sized, by-test, floor-bounds, half-of-floor, half-bounds}
 
 -- f t is t to the power e
@@ -79,7 +79,7 @@ module _ (e : ℕ) (f : ℕ → ℕ) (P : Power e f) where
       more z = let a = div-add-mod' z e in let b = mod-lt z (P .degree) in let c = mul-add e (z / e) 1 in let d = mul-comm e (z / e) in omega arith
 
   -- the root of n, in units, by the test's definition
-  pub root-nearest : (N m j n : ℕ) → Sized (atRoot f N) → N % 2 ≡ 0 → n ≡ N * f (2 ^ j) → Half (atRoot f N) m → suc j < 2045
+  pub root-nearest : (N m j n : ℕ) → Sized (atRoot f N) → N % 2 ≡ 0 → n ≡ N * f (2 ^ j) → NearestHalf (atRoot f N) m → suc j < 2045
       → let t = greatest (atRoot f n) (size n / e + 1) 0 in nearestOf t (eqb (f t) n) ≡ odd 54 false m (suc j) 1074
   root-nearest N m j n long even is h J =
       let t = greatest (atRoot f n) (size n / e + 1) 0 in
@@ -114,16 +114,16 @@ module _ (e : ℕ) (f : ℕ → ℕ) (P : Power e f) where
     }
 
     -- from the whole part that the search finds, to the whole number nearest to half the root
-    pub from-floor : (w d t : ℕ) → 2 ^ 52 ≤ w → w < 2 ^ 53 → d < e → Floor (atRoot f (w * 2 ^ d * 2 ^ q)) t → (t < 2 ^ 54) × Half (atRoot f (w * 2 ^ d * 2 ^ q)) ((t + 1) / 2)
+    pub from-floor : (w d t : ℕ) → 2 ^ 52 ≤ w → w < 2 ^ 53 → d < e → Floor (atRoot f (w * 2 ^ d * 2 ^ q)) t → (t < 2 ^ 54) × NearestHalf (atRoot f (w * 2 ^ d * 2 ^ q)) ((t + 1) / 2)
     from-floor w d t lo hi l g =
         let long = sized w d lo hi l in
         (floor-bounds _ (monotone _) long t g .1, half-of-floor _ (monotone _) long t g)
 
-    pub half-digits : (n w k m : ℕ) → Normal n w k → Half (atRoot f (w * 2 ^ (k % e) * 2 ^ q)) m → (2 ^ 52 ≤ m) × (m ≤ 2 ^ 53)
+    pub half-digits : (n w k m : ℕ) → Normal n w k → NearestHalf (atRoot f (w * 2 ^ (k % e) * 2 ^ q)) m → (2 ^ 52 ≤ m) × (m ≤ 2 ^ 53)
     half-digits n w k m h g = half-bounds _ (monotone _) (sized w (k % e) (h .led) (h .short) (mod-lt k (P .degree))) m g
 
     -- the double that the functions make of n units: they read w and k, and find m
-    pub root-of : (l c n w k m : ℕ) → l + e ≡ q + e * c + 52 → 0 < c → Normal n w k → k / e + c < 2045 → Half (atRoot f (w * 2 ^ (k % e) * 2 ^ q)) m
+    pub root-of : (l c n w k m : ℕ) → l + e ≡ q + e * c + 52 → 0 < c → Normal n w k → k / e + c < 2045 → NearestHalf (atRoot f (w * 2 ^ (k % e) * 2 ^ q)) m
         → let M = n * 2 ^ l in let t = greatest (atRoot f M) (size M / e + 1) 0 in nearestOf t (eqb (f t) M) ≡ odd 54 false m (k / e + c) 1074
     root-of l c n w k m is p h J g =
         let j = k / e + (c - 1) in

@@ -10,7 +10,7 @@ use lib.Seq.{take-at, drop-append-add, drop-cons, getD-take, length-take-le}
 use lib.Ieee.{Float, nan}
 use Rattle.facts.specs.Lists.{AllOf, all-append, all-at, of-four}
 use Rattle.facts.specs.Sort.{insertedBy, insertedAll, sortedBy, length-sorted, all-sorted, sorted-same, map-sorted}
-use Rattle.order.specs.Order.{numbersFrom, keysBefore, orderOf, firstFrom, placeOf, entryOf, Places}
+use Rattle.order.specs.Order.{numbersFrom, keysBefore, orderOf, firstFrom, insertionOf, entryOf, Places}
 
 -- ---- the first number at which a test fails, as a loop finds it
 module _ (test : ℕ → Bool) where
@@ -36,10 +36,10 @@ entriesOf at i p = entryOf at i p 0 ∷ entryOf at i p 1 ∷ entryOf at i p 2 �
 module _ (before : Float → Float → Bool) (key : List Float) where
   -- (what is said of an array)
   abbrev Inserts : ℕ → List ℕ → Type 0
-  Inserts i at = entriesOf at i (placeOf before key at i) ≡ insertedBy (keysBefore before key) i (take i at) ++ drop (i + 1) at
+  Inserts i at = entriesOf at i (insertionOf before key at i) ≡ insertedBy (keysBefore before key) i (take i at) ++ drop (i + 1) at
 
   inserted-of : (i : ℕ) → i < 4 → (a b c d : ℕ) → Inserts i (a ∷ b ∷ c ∷ d ∷ [])
-  unfolding placeOf firstFrom entryOf insertedBy
+  unfolding insertionOf firstFrom entryOf insertedBy
   inserted-of zero h a b c d = refl
   inserted-of (suc zero) h a b c d = go (keysBefore before key a 1)
     where
@@ -63,7 +63,7 @@ module _ (before : Float → Float → Bool) (key : List Float) where
   inserted-of (suc (suc (suc (suc i)))) h a b c d = absurd (omega (arith, h))
 
   pub inserted-entries : (at : List ℕ) (i : ℕ) → length at ≡ 4 → i < 4
-      → entriesOf at i (placeOf before key at i) ≡ insertedBy (keysBefore before key) i (take i at) ++ drop (i + 1) at
+      → entriesOf at i (insertionOf before key at i) ≡ insertedBy (keysBefore before key) i (take i at) ++ drop (i + 1) at
   inserted-entries at i e h = of-four (Inserts i) (inserted-of i h) at e
 
 pub length-numbers : (i k : ℕ) → length (numbersFrom i k) ≡ k

@@ -37,8 +37,8 @@ firstFrom test p zero = p
 firstFrom test p (suc k) = cond (test p) (firstFrom test (p + 1) k) p
 
 -- where i goes among the first i numbers
-unfoldable pub placeOf : (Float → Float → Bool) → List Float → List ℕ → ℕ → ℕ
-placeOf before key at i = firstFrom (λ p. keysBefore before key (getD at p 0) i) 0 i
+unfoldable pub insertionOf : (Float → Float → Bool) → List Float → List ℕ → ℕ → ℕ
+insertionOf before key at i = firstFrom (λ p. keysBefore before key (getD at p 0) i) 0 i
 
 -- entry k, once i is put in at p and those from there on have gone one further
 unfoldable pub entryOf : List ℕ → ℕ → ℕ → ℕ → ℕ

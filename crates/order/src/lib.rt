@@ -5,12 +5,12 @@ ghost use mathlib.Core.List.{_++_};
 ghost use Prim.Native.Nat.{_+_, _≤_, _<_};
 ghost use lib.ListN.{take, drop};
 ghost use Rattle.facts.specs.Sort.{insertedBy};
-ghost use Rattle.order.specs.Order.{keysBefore, fallingOf, falls, placeOf, entryOf, Places};
+ghost use Rattle.order.specs.Order.{keysBefore, fallingOf, falls, insertionOf, entryOf, Places};
 
 // How many of the first i numbers stand before i, up to the first that does not.
 fn place(key: [f64; 4], at: [usize; 4], i: usize) -> usize
     requires { ⌜ i < 4 ⌝ ∗ ⌜ Places at ⌝ }
-    ensures { λ r. ⌜ r ≡ placeOf falls key at i ⌝ }
+    ensures { λ r. ⌜ r ≡ insertionOf falls key at i ⌝ }
 {
     let mut p = 0;
     while p < i {

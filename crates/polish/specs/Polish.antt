@@ -4,8 +4,9 @@ use mathlib.Core.Bool.{Bool, false, cond, _||_}
 use mathlib.Core.List.{List}
 use mathlib.Core.Option.{Option, none, some}
 use Prim.Native.Nat.{ℕ}
-use lib.Ieee.{Float, binary64, sub, mul, div, lt, le, eq, isNan}
+use lib.Ieee.{Float, lt, le, eq, isNan}
 use Rattle.facts.specs.Turns.{turnsOf}
+use Rattle.float.specs.Rounded.{_-ᶠ_, _*ᶠ_, _/ᶠ_}
 use Rattle.float.specs.Literals.{epsilon64, quarter64}
 use Rattle.float.specs.Methods.{absOf}
 use Rattle.horner.specs.Horner.{valueSlopeCompensatedOf}
@@ -13,11 +14,11 @@ use Rattle.refine.specs.Newton.{flatOf, noGainOf}
 
 -- step.abs() > 0.25 * gap || step.is_nan()
 unfoldable pub isLongOf : Float → Float → Bool
-isLongOf step gap = lt (mul binary64 quarter64 gap) (absOf step) || isNan step
+isLongOf step gap = lt (quarter64 *ᶠ gap) (absOf step) || isNan step
 
 -- step.abs() <= f64::EPSILON * y.abs()
 unfoldable pub isSmallOf : Float → Float → Bool
-isSmallOf step y = le (absOf step) (mul binary64 epsilon64 (absOf y))
+isSmallOf step y = le (absOf step) (epsilon64 *ᶠ absOf y)
 
 -- a place, and whether polishing ends there
 pub record Place : Type 0 where
@@ -32,8 +33,8 @@ arrived step next = record { y = next; done = isSmallOf step next }
 unfoldable pub polishNext : List Float → ℕ → Float → Place → Option Place
 polishNext f d gap s =
     let v = valueSlopeCompensatedOf f d (s .y) in
-    let step = div binary64 (v .value) (v .slope) in
-    let next = sub binary64 (s .y) step in
+    let step = v .value /ᶠ v .slope in
+    let next = s .y -ᶠ step in
     let u = valueSlopeCompensatedOf f d next in
     cond (s .done) none
     (cond (flatOf (v .value) (v .slope)) none

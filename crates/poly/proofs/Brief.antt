@@ -24,7 +24,7 @@ use Rattle.roots.specs.declared.Pair.{Pair}
 use Rattle.roots.specs.Roots.{rootsOf}
 use Rattle.band.specs.Band.{noiseOf, bandOf, withinBandOf}
 use Rattle.critical.specs.Critical.{criticalPointOf}
-use Rattle.push.specs.Quadratic.{quadraticOf, pushQuadraticOf}
+use Rattle.push.specs.Quadratic.{quadraticRootsOf, pushQuadraticOf}
 use Rattle.finish.specs.Finish.{orderedOf, polishedAt, polishedOf, isNearOf, joinOf, joinedFrom, joinedOf, finishOf}
 use Rattle.roots.specs.Roots.{kept}
 use Rattle.level.specs.Level.{NoGap}
@@ -52,7 +52,7 @@ module _ (sc : Scaled) (lg : List Float) where
   other = record { f = sc .f; g = sc .g; lg = lg; d = sc .d; e = sc .e; unit = sc .unit }
 
   same-candidates : (zeros : ℕ) (f : Factors) (tol : Float) → candidatesOf other zeros f tol ≡ candidatesOf sc zeros f tol
-  unfolding candidatesOf pushQuadraticOf quadraticOf bandOf noiseOf withinBandOf criticalPointOf
+  unfolding candidatesOf pushQuadraticOf quadraticRootsOf bandOf noiseOf withinBandOf criticalPointOf
   same-candidates zeros f tol = refl
 
   same-joined : (tol : Float) (out : List RealRoot) (a : RealRoot) (l : List RealRoot) → joinedFrom other tol out a l ≡ joinedFrom sc tol out a l

@@ -14,7 +14,7 @@ use Rattle.roots.specs.Roots.{pair}
 use Rattle.band.specs.Band.{noiseOf, bandOf, withinBandOf}
 use Rattle.band.proofs.Laws.{barely, same-within}
 use Rattle.critical.specs.Critical.{criticalPointOf, doubleAt}
-use Rattle.push.specs.Quadratic.{double, apart, complex, quadraticOf, quadraticBy, pushQuadraticIn, pushRootedIn}
+use Rattle.push.specs.Quadratic.{double, apart, complex, quadraticRootsOf, quadraticBy, pushQuadraticIn, pushRootedIn}
 
 -- f, d and unit suffice for a double root's place
 same-double : (poly : Scaled) (mid tol : Float) → doubleAt (barely poly) mid tol ≡ doubleAt poly mid tol
@@ -42,11 +42,11 @@ module _ (poly : Scaled) (al be tol : Float) (s : Disc) {near : Bool} (w : near 
   is-complex beyond below = simp (is-near, beyond, below)
 
 -- from its own discriminant it is the definition: the root of the size serves where disc is above 0 too
-same-quadratic : (poly : Scaled) (al be tol : Float) → quadraticBy poly al be (discOf al be) tol ≡ quadraticOf poly al be tol
-unfolding quadraticBy quadraticOf discOf le
+same-quadratic : (poly : Scaled) (al be tol : Float) → quadraticBy poly al be (discOf al be) tol ≡ quadraticRootsOf poly al be tol
+unfolding quadraticBy quadraticRootsOf discOf le
 same-quadratic poly al be tol = by-sign (lt zero64 (discriminantOf al be)) refl
   where
-    by-sign : (b : Bool) → lt zero64 (discriminantOf al be) ≡ b → quadraticBy poly al be (discOf al be) tol ≡ quadraticOf poly al be tol
+    by-sign : (b : Bool) → lt zero64 (discriminantOf al be) ≡ b → quadraticBy poly al be (discOf al be) tol ≡ quadraticRootsOf poly al be tol
     by-sign true h = rw (h, sym (far-by al be refl (rw h refl) refl))
     by-sign false h = rw h
 

@@ -13,7 +13,7 @@ use Rattle.roots.specs.Roots.{root, rootsOf, kept, keptIn, pairsOf}
 use Rattle.roots.specs.Listed.{Shared}
 use Rattle.roots.proofs.Laws.{kept-roots, paired-pairs}
 use Rattle.roots.proofs.Sums.{shared-more, shared-kept, shared-paired}
-use Rattle.push.specs.Quadratic.{Factor, double, apart, complex, quadraticOf, pushFactor, pushQuadraticOf, foundOf, pushFactorIn, pushQuadraticIn}
+use Rattle.push.specs.Quadratic.{Factor, double, apart, complex, quadraticRootsOf, pushFactor, pushQuadraticOf, foundOf, pushFactorIn, pushQuadraticIn}
 
 push-factor : (out : List RealRoot) (pairs : List Pair) (f : Factor) → pushFactorIn (foundOf (out, pairs)) f ≡ foundOf (pushFactor (out, pairs) f)
 unfolding pushFactor pushFactorIn
@@ -26,7 +26,7 @@ push-factor out pairs (complex p) = ap (λ (s : Pairs). record { roots = rootsOf
 pub push-lists : (poly : Scaled) (al be tol : Float) (out : List RealRoot) (pairs : List Pair)
     → pushQuadraticIn poly al be tol (rootsOf out) (pairsOf pairs) ≡ foundOf (pushQuadraticOf poly al be tol out pairs)
 unfolding pushQuadraticIn pushQuadraticOf
-push-lists poly al be tol out pairs = push-factor out pairs (quadraticOf poly al be tol)
+push-lists poly al be tol out pairs = push-factor out pairs (quadraticRootsOf poly al be tol)
 
 -- the multiplicities, with two for each pair
 factor-adds : (d : ℕ) (out : List RealRoot) (pairs : List Pair) (f : Factor) → Shared d out pairs → Shared (d + 2) (pushFactor (out, pairs) f .0) (pushFactor (out, pairs) f .1)
@@ -40,4 +40,4 @@ factor-adds d out pairs (complex p) h = shared-paired d out pairs p h
 pub quadratic-adds : (poly : Scaled) (al be tol : Float) (d : ℕ) (out : List RealRoot) (pairs : List Pair) → Shared d out pairs
     → Shared (d + 2) (pushQuadraticOf poly al be tol out pairs .0) (pushQuadraticOf poly al be tol out pairs .1)
 unfolding pushQuadraticOf
-quadratic-adds poly al be tol d out pairs h = factor-adds d out pairs (quadraticOf poly al be tol) h
+quadratic-adds poly al be tol d out pairs h = factor-adds d out pairs (quadraticRootsOf poly al be tol) h

@@ -11,12 +11,12 @@ use Rattle.scaled.specs.declared.Scaled.{Scaled}
 use Rattle.band.specs.Band.{magnitudeStep, magnitudeOf, budgetOf, kthRootOf, radiusStep, radiusOf, noiseWithin, noiseOf, baseOf, bandOf, withinBandOf}
 use Rattle.critical.specs.Critical.{isBetweenOf, criticalNext, criticalPointOf, extremumOf}
 use Rattle.roots.specs.Roots.{root, pair, held, kept, paired}
-use Rattle.push.specs.Quadratic.{double, quadraticOf, pushFactor, pushQuadraticOf}
+use Rattle.push.specs.Quadratic.{double, quadraticRootsOf, pushFactor, pushQuadraticOf}
 use Rattle.critical.specs.declared.TurningPoint.the-variants.{At, None}
 
 -- what has to unfold for the definitions to compute: a fact says `unfolding computes`
 unfoldable pub computes : ℕ
-unfolding factors magnitudeStep magnitudeOf budgetOf kthRootOf radiusStep radiusOf noiseWithin noiseOf baseOf bandOf withinBandOf isBetweenOf criticalNext criticalPointOf extremumOf held kept paired quadraticOf pushFactor pushQuadraticOf
+unfolding factors magnitudeStep magnitudeOf budgetOf kthRootOf radiusStep radiusOf noiseWithin noiseOf baseOf bandOf withinBandOf isBetweenOf criticalNext criticalPointOf extremumOf held kept paired quadraticRootsOf pushFactor pushQuadraticOf
 computes = 0
 
 abbrev bits : ℕ → Float
@@ -71,7 +71,7 @@ unfolding computes
 extremum-outside = refl
 
 -- y^2 - 2y + 1 of 1 - 2.0000001y + y^2: a double root, at the critical point
-quadratic-double : quadraticOf (polynomial (one64 ∷ bits 0xc000_0000_0d6b_f94d ∷ one64 ∷ zero64 ∷ zero64 ∷ []) 2 one64) (bits 0xc000_0000_0000_0000) one64 (bits 0x3eb0_c6f7_a0b5_ed8d) ≡ double (bits 0x3ff0_0000_0d6b_f94d)
+quadratic-double : quadraticRootsOf (polynomial (one64 ∷ bits 0xc000_0000_0d6b_f94d ∷ one64 ∷ zero64 ∷ zero64 ∷ []) 2 one64) (bits 0xc000_0000_0000_0000) one64 (bits 0x3eb0_c6f7_a0b5_ed8d) ≡ double (bits 0x3ff0_0000_0d6b_f94d)
 unfolding computes
 quadratic-double = refl
 

@@ -1,7 +1,8 @@
 -- `push_quadratic` of Scaled in poly.rs: what a quadratic factor is, and where it goes. Definitions only.
 use mathlib.Core.Bool.{cond}
 use mathlib.Core.List.{List}
-use lib.Ieee.{Float, binary64, add, sub, mul, div, neg, lt}
+use lib.Ieee.{Float, neg, lt}
+use Rattle.float.specs.Rounded.{_+ᶠ_, _-ᶠ_, _*ᶠ_, _/ᶠ_}
 use Rattle.float.specs.Literals.{zero64, half64}
 use Rattle.float.specs.Methods.{absOf}
 use Rattle.sqrt.specs.Root.{sqrtOf}
@@ -26,25 +27,25 @@ pub data Factor : Type 0 where
 
 -- A double root where half the distance of its two roots, real or complex, is within the band about their middle: where Newton's
 -- method on f' leads from there within that band. Else two roots where disc > 0, q and be / q; else a pair, also where disc is a NaN.
-unfoldable pub quadraticOf : Scaled → Float → Float → Float → Factor
-quadraticOf poly al be tol =
+unfoldable pub quadraticRootsOf : Scaled → Float → Float → Float → Factor
+quadraticRootsOf poly al be tol =
     let disc = discriminantOf al be in
-    let mid = mul binary64 (neg half64) al in
-    let half = mul binary64 half64 (sqrtOf (absOf disc)) in
+    let mid = neg half64 *ᶠ al in
+    let half = half64 *ᶠ sqrtOf (absOf disc) in
     let band = bandOf poly mid tol in
-    let y = criticalPointOf poly mid (sub binary64 mid band) (add binary64 mid band) in
+    let y = criticalPointOf poly mid (mid -ᶠ band) (mid +ᶠ band) in
     let q = farRootOf al disc in
-    cond (withinBandOf poly half mid tol) (double y) (cond (lt zero64 disc) (apart q (div binary64 be q)) (complex (pair mid half)))
+    cond (withinBandOf poly half mid tol) (double y) (cond (lt zero64 disc) (apart q (be /ᶠ q)) (complex (pair mid half)))
 
 -- the same from a discriminant and the root of its size
 unfoldable pub quadraticBy : Scaled → Float → Float → Disc → Float → Factor
 quadraticBy poly al be s tol =
-    let mid = mul binary64 (neg half64) al in
-    let half = mul binary64 half64 (s .root) in
+    let mid = neg half64 *ᶠ al in
+    let half = half64 *ᶠ s .root in
     let band = bandOf poly mid tol in
-    let y = criticalPointOf poly mid (sub binary64 mid band) (add binary64 mid band) in
+    let y = criticalPointOf poly mid (mid -ᶠ band) (mid +ᶠ band) in
     let q = farBy al (s .root) in
-    cond (withinBandOf poly half mid tol) (double y) (cond (lt zero64 (s .disc)) (apart q (div binary64 be q)) (complex (pair mid half)))
+    cond (withinBandOf poly half mid tol) (double y) (cond (lt zero64 (s .disc)) (apart q (be /ᶠ q)) (complex (pair mid half)))
 
 -- what each adds to the candidates and the pairs found so far
 unfoldable pub pushFactor : List RealRoot × List Pair → Factor → List RealRoot × List Pair
@@ -54,7 +55,7 @@ pushFactor (out, pairs) (complex p) = (out, paired pairs p)
 
 -- `push_quadratic`
 unfoldable pub pushQuadraticOf : Scaled → Float → Float → Float → List RealRoot → List Pair → List RealRoot × List Pair
-pushQuadraticOf poly al be tol out pairs = pushFactor (out, pairs) (quadraticOf poly al be tol)
+pushQuadraticOf poly al be tol out pairs = pushFactor (out, pairs) (quadraticRootsOf poly al be tol)
 
 -- ---- the same in the arrays
 abbrev pub foundOf : List RealRoot × List Pair → Found
@@ -66,7 +67,7 @@ pushFactorIn s (apart y z) = record { roots = keptIn (keptIn (s .roots) (root y 
 pushFactorIn s (complex p) = record { roots = s .roots; pairs = pairedIn (s .pairs) p }
 
 unfoldable pub pushQuadraticIn : Scaled → Float → Float → Float → Roots → Pairs → Found
-pushQuadraticIn poly al be tol out pairs = pushFactorIn (record { roots = out; pairs = pairs }) (quadraticOf poly al be tol)
+pushQuadraticIn poly al be tol out pairs = pushFactorIn (record { roots = out; pairs = pairs }) (quadraticRootsOf poly al be tol)
 
 unfoldable pub pushRootedIn : Scaled → Float → Float → Disc → Float → Roots → Pairs → Found
 pushRootedIn poly al be s tol out pairs = pushFactorIn (record { roots = out; pairs = pairs }) (quadraticBy poly al be s tol)

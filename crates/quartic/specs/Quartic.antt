@@ -3,8 +3,9 @@ use mathlib.Core.Bool.{Bool, cond, _&&_}
 use mathlib.Core.List.{List, [], _∷_}
 use Prim.Native.Nat.{ℕ}
 use lib.ListN.{getD}
-use lib.Ieee.{Float, nan, binary64, add, sub, mul, div, neg, lt}
+use lib.Ieee.{Float, nan, neg, lt}
 use Rattle.facts.specs.Count.{countUp}
+use Rattle.float.specs.Rounded.{_+ᶠ_, _-ᶠ_, _*ᶠ_, _/ᶠ_}
 use Rattle.float.specs.Literals.{zero64, tiny64, three256ths64, sixteenth64, eighth64, quarter64, threeEighths64, half64, one64, two64, four64, inf64}
 use Rattle.float.specs.Methods.{absOf, isFiniteOf, copysignOf, maxOf}
 use Rattle.sqrt.specs.Root.{sqrtOf}
@@ -12,7 +13,7 @@ use Rattle.refine.specs.Refine.{refineOf}
 use Rattle.refine.specs.Systems.{quarticSystem}
 use Rattle.refine.specs.Newton.{newtonCubicOf}
 use Rattle.quartic.specs.declared.QuarticFactor.{QuarticFactor}
-use Rattle.quartic.specs.declared.Split.{Split}
+use Rattle.quartic.specs.declared.Depressed.{Depressed}
 use Rattle.cubic.specs.Cubic.{cubicClosedFormOf, overOr}
 
 -- `m_raw`: the largest root. The maximum passes a NaN over, so it is minus infinity where all are NaN.
@@ -22,44 +23,43 @@ largestOf roots n = countUp n (λ i m. maxOf m (getD roots i nan)) n (neg inf64)
 -- `m`: the largest real root of the resolvent m^3 + 2p*m^2 + (p^2 - 4r)*m - q^2, which is -q^2 <= 0 at 0
 unfoldable pub resolventOf : Float → Float → Float → Float
 resolventOf p q r =
-    let m2 = mul binary64 two64 p in
-    let m1 = sub binary64 (mul binary64 p p) (mul binary64 four64 r) in
-    let m0 = mul binary64 (neg q) q in
+    let m2 = two64 *ᶠ p in
+    let m1 = p *ᶠ p -ᶠ four64 *ᶠ r in
+    let m0 = neg q *ᶠ q in
     let s = cubicClosedFormOf m2 m1 m0 in
     newtonCubicOf (m0 ∷ m1 ∷ m2 ∷ one64 ∷ zero64 ∷ []) (largestOf (s .root) (s .n))
 
 -- whether m is clear of 0, against the scale of p and r, and finite
 unfoldable pub isClearOf : Float → Float → Float → Bool
-isClearOf p r m = let scale = add binary64 (absOf p) (sqrtOf (absOf r)) in lt (mul binary64 tiny64 scale) m && isFiniteOf m
+isClearOf p r m = let scale = absOf p +ᶠ sqrtOf (absOf r) in lt (tiny64 *ᶠ scale) m && isFiniteOf m
 
 -- t^4 + p*t^2 + q*t + r = (t^2 + u*t + v) * (t^2 - u*t + w). By Ferrari u is √m; where m is not clear the quartic counts as biquadratic (q ~ 0), u is 0,
 -- v + w = p and v*w = r: z is the one of larger size, cancellation-free. (A p that is a NaN makes z one, whatever sign it gives.)
-unfoldable pub ferrariOf : Float → Float → Float → Float → Split
+unfoldable pub ferrariOf : Float → Float → Float → Float → Depressed
 ferrariOf p q r m =
     let u = sqrtOf m in
-    let v = mul binary64 half64 (sub binary64 (add binary64 p m) (div binary64 q u)) in
-    let w = mul binary64 half64 (add binary64 (add binary64 p m) (div binary64 q u)) in
-    let disc = maxOf (sub binary64 (mul binary64 p p) (mul binary64 four64 r)) zero64 in
-    let z = mul binary64 half64 (add binary64 p (copysignOf (sqrtOf disc) p)) in
+    let v = half64 *ᶠ (p +ᶠ m -ᶠ q /ᶠ u) in
+    let w = half64 *ᶠ (p +ᶠ m +ᶠ q /ᶠ u) in
+    let disc = maxOf (p *ᶠ p -ᶠ four64 *ᶠ r) zero64 in
+    let z = half64 *ᶠ (p +ᶠ copysignOf (sqrtOf disc) p) in
     cond (isClearOf p r m) (record { u = u; v = v; w = w }) (record { u = zero64; v = z; w = overOr r z zero64 })
 
 -- `quartic_factor`: with y = t + shift the quartic is t^4 + p*t^2 + q*t + r; that one is split, and both factors go back to y
 unfoldable pub quarticFactorOf : Float → Float → Float → Float → QuarticFactor
 quarticFactorOf b c d e =
-    let shift = mul binary64 (neg quarter64) b in
-    let b2 = mul binary64 b b in
-    let p = sub binary64 c (mul binary64 threeEighths64 b2) in
-    let q = add binary64 (sub binary64 d (mul binary64 (mul binary64 half64 b) c)) (mul binary64 (mul binary64 eighth64 b2) b) in
+    let shift = neg quarter64 *ᶠ b in
+    let b2 = b *ᶠ b in
+    let p = c -ᶠ threeEighths64 *ᶠ b2 in
+    let q = d -ᶠ half64 *ᶠ b *ᶠ c +ᶠ eighth64 *ᶠ b2 *ᶠ b in
     let r =
-    sub binary64 (add binary64 (sub binary64 e (mul binary64 (mul binary64 quarter64 b) d)) (mul binary64 (mul binary64 sixteenth64 b2) c))
-    (mul binary64 (mul binary64 three256ths64 b2) b2) in
+    e -ᶠ quarter64 *ᶠ b *ᶠ d +ᶠ sixteenth64 *ᶠ b2 *ᶠ c -ᶠ three256ths64 *ᶠ b2 *ᶠ b2 in
     let t = ferrariOf p q r (resolventOf p q r) in
-    let s2 = mul binary64 shift shift in
+    let s2 = shift *ᶠ shift in
     let x =
     refineOf 4 (quarticSystem b c d e)
-    (sub binary64 (t .u) (mul binary64 two64 shift)
-    ∷ add binary64 (sub binary64 s2 (mul binary64 (t .u) shift)) (t .v)
-    ∷ sub binary64 (neg (t .u)) (mul binary64 two64 shift)
-    ∷ add binary64 (add binary64 s2 (mul binary64 (t .u) shift)) (t .w)
+    (t .u -ᶠ two64 *ᶠ shift
+    ∷ s2 -ᶠ t .u *ᶠ shift +ᶠ t .v
+    ∷ neg (t .u) -ᶠ two64 *ᶠ shift
+    ∷ s2 +ᶠ t .u *ᶠ shift +ᶠ t .w
     ∷ []) in
     record { al = getD x 0 nan; be = getD x 1 nan; ga = getD x 2 nan; de = getD x 3 nan }

@@ -13,7 +13,7 @@ pub struct QuarticFactor {
 }
 
 // (t^2 + u*t + v) * (t^2 - u*t + w)
-struct Split {
+struct Depressed {
     u: f64,
     v: f64,
     w: f64,
@@ -55,12 +55,12 @@ fn is_clear(p: f64, r: f64, m: f64) -> bool
 }
 
 // u = sqrt(m), or biquadratic (q ~ 0): v + w = p, v*w = r.
-fn ferrari(p: f64, q: f64, r: f64, m: f64) -> Split
+fn ferrari(p: f64, q: f64, r: f64, m: f64) -> Depressed
     ensures { λ s. ⌜ s ≡ ferrariOf p q r m ⌝ }
 {
     if is_clear(p, r, m) {
         let u = sqrt::sqrt(m);
-        return Split {
+        return Depressed {
             u,
             v: 0.5 * (p + m - q / u),
             w: 0.5 * (p + m + q / u),
@@ -68,7 +68,7 @@ fn ferrari(p: f64, q: f64, r: f64, m: f64) -> Split
     }
     let disc = float::max(p * p - 4.0 * r, 0.0);
     let z = 0.5 * (p + float::copysign(sqrt::sqrt(disc), p));
-    Split {
+    Depressed {
         u: 0.0,
         v: z,
         w: cubic::over_or(r, z, 0.0),

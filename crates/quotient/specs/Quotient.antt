@@ -5,9 +5,10 @@ use Prim.Native.Nat.{ℕ, _+_, _-_, min}
 use lib.Dec.{leb}
 use lib.IntN.{ℤ, pos, _*ℤ_}
 use lib.ListN.{length, getD, set, take, replicate}
-use lib.Ieee.{Float, nan, binary64, add, sub, mul, div, neg, ne}
+use lib.Ieee.{Float, nan, neg, ne}
 use Rattle.facts.specs.Arrays.{fromFn}
 use Rattle.facts.specs.Count.{countUp, countDown}
+use Rattle.float.specs.Rounded.{_+ᶠ_, _-ᶠ_, _*ᶠ_, _/ᶠ_}
 use Rattle.float.specs.Literals.{zero64, one64}
 use Rattle.float.specs.Methods.{allFiniteOf}
 use Rattle.ldexp.specs.Scale.{ldexpOf}
@@ -16,12 +17,12 @@ use Rattle.factors.specs.Factors.{pushLinOf, pushQuadOf, linAt, quadAt}
 use Rattle.quotient.specs.declared.Monic.{Monic}
 
 -- `next[i + j] += li * fj`, for one coefficient k = i + j: i goes up, so j goes down. l[..=dl] alone is multiplied, not the zeros after it.
-unfoldable pub termOf : List Float → ℕ → List Float → ℕ → ℕ → Float → Float
-termOf l dl f k j acc = cond (leb j k && leb (k - j) dl) (add binary64 acc (mul binary64 (getD l (k - j) nan) (getD f j nan))) acc
+unfoldable pub productTermOf : List Float → ℕ → List Float → ℕ → ℕ → Float → Float
+productTermOf l dl f k j acc = cond (leb j k && leb (k - j) dl) (acc +ᶠ getD l (k - j) nan *ᶠ getD f j nan) acc
 
 -- next[k], from 0.0
 unfoldable pub nextAt : List Float → ℕ → List Float → ℕ → Float
-nextAt l dl f k = countDown (termOf l dl f k) (length f) zero64
+nextAt l dl f k = countDown (productTermOf l dl f k) (length f) zero64
 
 -- the closure `mul`: l times f, both ascending, and `dl += f.len() - 1`
 unfoldable pub mulOf : Monic → List Float → Monic
@@ -35,23 +36,23 @@ abbrev pub mulQuad : Factors → ℕ → Monic → Monic
 mulQuad f i p = mulOf p (quadAt f i .be ∷ quadAt f i .al ∷ one64 ∷ [])
 
 -- L before any factor: `l[0] = 1.0`, `dl = 0`
-abbrev pub one : Monic
-one = record { l = one64 ∷ replicate 4 zero64; dl = 0 }
+abbrev pub monicOne : Monic
+monicOne = record { l = one64 ∷ replicate 4 zero64; dl = 0 }
 
 -- 'L = product of the large factors (monic, ascending)'
 unfoldable pub productOf : Factors → Monic
-productOf large = countUp (large .nquad) (mulQuad large) (large .nquad) (countUp (large .nlin) (mulLin large) (large .nlin) one)
+productOf large = countUp (large .nquad) (mulQuad large) (large .nquad) (countUp (large .nlin) (mulLin large) (large .nlin) monicOne)
 
 -- acc = g[i], and `acc -= l[j] * s[i - j]` for j in 1..=i.min(dl)
 abbrev pub lessAt : List Float → List Float → ℕ → ℕ → Float → Float
-lessAt l s i j acc = sub binary64 acc (mul binary64 (getD l j nan) (getD s (i - j) nan))
+lessAt l s i j acc = acc -ᶠ getD l j nan *ᶠ getD s (i - j) nan
 
 unfoldable pub accOf : List Float → Monic → List Float → ℕ → Float
 accOf g p s i = let m = min i (p .dl) in countUp (m + 1) (lessAt (p .l) s i) m (getD g i nan)
 
 -- s[i] = acc / l[0]
 abbrev pub quotientStep : List Float → Monic → ℕ → List Float → List Float
-quotientStep g p i s = set s i (div binary64 (accOf g p s i) (getD (p .l) 0 nan))
+quotientStep g p i s = set s i (accOf g p s i /ᶠ getD (p .l) 0 nan)
 
 -- 'g = L * S: solve for S from the low-order coefficients up': s[..=small], and zeros after it
 unfoldable pub quotientOf : List Float → Monic → ℕ → List Float

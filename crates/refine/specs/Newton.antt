@@ -2,8 +2,9 @@
 use mathlib.Core.Bool.{Bool, cond, _||_}
 use mathlib.Core.List.{List}
 use mathlib.Core.Option.{Option, none, some}
-use lib.Ieee.{Float, binary64, sub, div, le, eq, isNan}
+use lib.Ieee.{Float, le, eq, isNan}
 use Rattle.facts.specs.Turns.{turnsOf}
+use Rattle.float.specs.Rounded.{_-ᶠ_, _/ᶠ_}
 use Rattle.float.specs.Literals.{zero64}
 use Rattle.float.specs.Methods.{absOf}
 use Rattle.horner.specs.Horner.{valueSlopeOf}
@@ -20,7 +21,7 @@ noGainOf fy nf = le (absOf fy) (absOf nf) || isNan nf
 unfoldable pub newtonNext : List Float → Float → Option Float
 newtonNext p y =
     let v = valueSlopeOf p 3 y in
-    let next = sub binary64 y (div binary64 (v .value) (v .slope)) in
+    let next = y -ᶠ v .value /ᶠ v .slope in
     let u = valueSlopeOf p 3 next in
     cond (flatOf (v .value) (v .slope)) none (cond (noGainOf (v .value) (u .value)) none (some next))
 

@@ -4,13 +4,14 @@ use mathlib.Core.List.{List, []}
 use mathlib.Core.Option.{Option, none, some}
 use Prim.Native.Nat.{ℕ}
 use lib.ListN.{length, getD, set}
-use lib.Ieee.{Float, nan, binary64, sub, div, lt, le, isNan}
+use lib.Ieee.{Float, nan, lt, le, isNan}
 use Rattle.facts.specs.Arrays.{fromFn}
 use Rattle.facts.specs.Count.{countUp}
 use Rattle.facts.specs.Turns.{turnsOf}
+use Rattle.float.specs.Rounded.{_-ᶠ_, _/ᶠ_}
 use Rattle.float.specs.Literals.{zero64, halfEpsilon64}
 use Rattle.float.specs.Methods.{isFiniteOf, allFiniteOf}
-use Rattle.square.specs.Square.{sizesOf, solveSquareOf}
+use Rattle.square.specs.Square.{sizeSumOf, solveSquareOf}
 
 -- Equations in x, the closures `res` and `jac`: their residuals, the magnitudes of the residuals' terms, and the rows of derivatives.
 pub record System : Type 0 where
@@ -20,14 +21,14 @@ pub record System : Type 0 where
 
 -- `weighted`: r[i] / m[i] where m[i] > 0, and else r[i]
 unfoldable pub overOf : Float → Float → Float
-overOf r m = cond (lt zero64 m) (div binary64 r m) r
+overOf r m = cond (lt zero64 m) (r /ᶠ m) r
 
 unfoldable pub weightedOf : ℕ → List Float → List Float → List Float
 weightedOf n r m = fromFn n (λ i. overOf (getD r i nan) (getD m i nan))
 
 -- `norm`: the sum of the sizes
 unfoldable pub normOf : List Float → Float
-normOf w = sizesOf w zero64
+normOf w = sizeSumOf w zero64
 
 -- !(current > 0.5 * f64::EPSILON && current.is_finite()): a step could only shuffle noise
 unfoldable pub isSettledOf : Float → Bool
@@ -35,7 +36,7 @@ isSettledOf current = not (lt halfEpsilon64 current && isFiniteOf current)
 
 -- if m > 0.0 { row.iter_mut().for_each(|v| *v /= m) }
 abbrev pub weighRowStep : Float → ℕ → List Float → List Float
-weighRowStep m i row = set row i (div binary64 (getD row i nan) m)
+weighRowStep m i row = set row i (getD row i nan /ᶠ m)
 
 unfoldable pub weighRowOf : List Float → Float → List Float
 weighRowOf row m = cond (lt zero64 m) (countUp (length row) (weighRowStep m) (length row) row) row
@@ -50,7 +51,7 @@ weighRowsOf n j mag = countUp n (weighRowsStep mag) n j
 -- `next`, the place to try: x less the step, if there is one and it is finite
 unfoldable pub advancedOf : ℕ → List Float → Option (List Float) → Option (List Float)
 advancedOf n x none = none
-advancedOf n x (some s) = cond (allFiniteOf s) (some (fromFn n (λ i. sub binary64 (getD x i nan) (getD s i nan)))) none
+advancedOf n x (some s) = cond (allFiniteOf s) (some (fromFn n (λ i. getD x i nan -ᶠ getD s i nan))) none
 
 -- only an exactly singular step is refused, and one that is not finite
 unfoldable pub trialOf : ℕ → List Float → List Float → List Float → List (List Float) → Option (List Float)

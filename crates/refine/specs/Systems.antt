@@ -2,7 +2,8 @@
 use mathlib.Core.List.{List, [], _∷_}
 use Prim.Native.Nat.{ℕ}
 use lib.ListN.{getD}
-use lib.Ieee.{Float, nan, binary64, add, sub, mul, neg}
+use lib.Ieee.{Float, nan, neg}
+use Rattle.float.specs.Rounded.{_+ᶠ_, _-ᶠ_, _*ᶠ_}
 use Rattle.float.specs.Literals.{zero64, one64}
 use Rattle.float.specs.Methods.{absOf}
 use Rattle.refine.specs.Refine.{System}
@@ -14,29 +15,29 @@ at x i = getD x i nan
 
 -- the sizes of a residual's terms, added from the left
 abbrev pub size2Of : Float → Float → Float
-size2Of a b = add binary64 (absOf a) (absOf b)
+size2Of a b = absOf a +ᶠ absOf b
 
 abbrev pub size3Of : Float → Float → Float → Float
-size3Of a b c = add binary64 (size2Of a b) (absOf c)
+size3Of a b c = size2Of a b +ᶠ absOf c
 
 abbrev pub size4Of : Float → Float → Float → Float → Float
-size4Of a b c d = add binary64 (size3Of a b c) (absOf d)
+size4Of a b c d = size3Of a b c +ᶠ absOf d
 
 -- ---- y^3 + b*y^2 + c*y + d = (y - x0) * (y^2 + x1*y + x2)
 
 -- `res`, by falling powers: the residuals, and the magnitudes of their terms; `jac`: the derivatives by x0, x1 and x2
 abbrev pub cubicResidualOf : Float → Float → Float → List Float → List Float
 cubicResidualOf b c d x =
-    sub binary64 (sub binary64 (at x 1) (at x 0)) b
-    ∷ sub binary64 (sub binary64 (at x 2) (mul binary64 (at x 0) (at x 1))) c
-    ∷ sub binary64 (mul binary64 (neg (at x 0)) (at x 2)) d
+    at x 1 -ᶠ at x 0 -ᶠ b
+    ∷ at x 2 -ᶠ at x 0 *ᶠ at x 1 -ᶠ c
+    ∷ neg (at x 0) *ᶠ at x 2 -ᶠ d
     ∷ []
 
 abbrev pub cubicMagnitudeOf : Float → Float → Float → List Float → List Float
 cubicMagnitudeOf b c d x =
     size3Of (at x 1) (at x 0) b
-    ∷ size3Of (at x 2) (mul binary64 (at x 0) (at x 1)) c
-    ∷ size2Of (mul binary64 (at x 0) (at x 2)) d
+    ∷ size3Of (at x 2) (at x 0 *ᶠ at x 1) c
+    ∷ size2Of (at x 0 *ᶠ at x 2) d
     ∷ []
 
 abbrev pub cubicJacobianOf : List Float → List (List Float)
@@ -54,18 +55,18 @@ cubicSystem b c d = record { res = cubicResidualOf b c d; mag = cubicMagnitudeOf
 -- `res` and `jac`, likewise
 abbrev pub quarticResidualOf : Float → Float → Float → Float → List Float → List Float
 quarticResidualOf b c d e x =
-    sub binary64 (add binary64 (at x 0) (at x 2)) b
-    ∷ sub binary64 (add binary64 (add binary64 (at x 1) (at x 3)) (mul binary64 (at x 0) (at x 2))) c
-    ∷ sub binary64 (add binary64 (mul binary64 (at x 0) (at x 3)) (mul binary64 (at x 1) (at x 2))) d
-    ∷ sub binary64 (mul binary64 (at x 1) (at x 3)) e
+    at x 0 +ᶠ at x 2 -ᶠ b
+    ∷ at x 1 +ᶠ at x 3 +ᶠ at x 0 *ᶠ at x 2 -ᶠ c
+    ∷ at x 0 *ᶠ at x 3 +ᶠ at x 1 *ᶠ at x 2 -ᶠ d
+    ∷ at x 1 *ᶠ at x 3 -ᶠ e
     ∷ []
 
 abbrev pub quarticMagnitudeOf : Float → Float → Float → Float → List Float → List Float
 quarticMagnitudeOf b c d e x =
     size3Of (at x 0) (at x 2) b
-    ∷ size4Of (at x 1) (at x 3) (mul binary64 (at x 0) (at x 2)) c
-    ∷ size3Of (mul binary64 (at x 0) (at x 3)) (mul binary64 (at x 1) (at x 2)) d
-    ∷ size2Of (mul binary64 (at x 1) (at x 3)) e
+    ∷ size4Of (at x 1) (at x 3) (at x 0 *ᶠ at x 2) c
+    ∷ size3Of (at x 0 *ᶠ at x 3) (at x 1 *ᶠ at x 2) d
+    ∷ size2Of (at x 1 *ᶠ at x 3) e
     ∷ []
 
 abbrev pub quarticJacobianOf : List Float → List (List Float)
@@ -84,18 +85,18 @@ quarticSystem b c d e = record { res = quarticResidualOf b c d e; mag = quarticM
 -- `res` and `jac`, likewise
 abbrev pub peelResidualOf : Float → Float → Float → Float → List Float → List Float
 peelResidualOf b c d e x =
-    sub binary64 (sub binary64 (at x 1) (at x 0)) b
-    ∷ sub binary64 (sub binary64 (at x 2) (mul binary64 (at x 0) (at x 1))) c
-    ∷ sub binary64 (sub binary64 (at x 3) (mul binary64 (at x 0) (at x 2))) d
-    ∷ sub binary64 (mul binary64 (neg (at x 0)) (at x 3)) e
+    at x 1 -ᶠ at x 0 -ᶠ b
+    ∷ at x 2 -ᶠ at x 0 *ᶠ at x 1 -ᶠ c
+    ∷ at x 3 -ᶠ at x 0 *ᶠ at x 2 -ᶠ d
+    ∷ neg (at x 0) *ᶠ at x 3 -ᶠ e
     ∷ []
 
 abbrev pub peelMagnitudeOf : Float → Float → Float → Float → List Float → List Float
 peelMagnitudeOf b c d e x =
     size3Of (at x 1) (at x 0) b
-    ∷ size3Of (at x 2) (mul binary64 (at x 0) (at x 1)) c
-    ∷ size3Of (at x 3) (mul binary64 (at x 0) (at x 2)) d
-    ∷ size2Of (mul binary64 (at x 0) (at x 3)) e
+    ∷ size3Of (at x 2) (at x 0 *ᶠ at x 1) c
+    ∷ size3Of (at x 3) (at x 0 *ᶠ at x 2) d
+    ∷ size2Of (at x 0 *ᶠ at x 3) e
     ∷ []
 
 abbrev pub peelJacobianOf : List Float → List (List Float)

@@ -5,7 +5,7 @@ use Prim.Native.Nat.{ℕ, _+_, _*_, _≤_, _<_}
 use native.Mathlib.Nat.{le-trans, le-of-eq, le-of-lt, add-comm, mul-le-mul, mul-le-mul-left, mul-le-mul-right, le-of-mul-le-mul-right, le-dest}
 use native.Mathlib.Omega.{arith}
 use Rattle.algebra.specs.NatOrder.{le-or-lt}
-use Rattle.rounding.specs.Diff.{Diff, _⊞_, _⊠_, _⊡_, _≈_, Apart, Within, OneSided, magnitude}
+use Rattle.rounding.specs.Diff.{Diff, _⊞_, _⊠_, _⊡_, _≈_, Apart, SizeAtMost, OneSided, magnitude}
 
 pub same-parts : (a b c d : ℕ) → a ≡ c → b ≡ d → a + d ≡ b + c
 same-parts a b c d x y = omega arith
@@ -14,26 +14,26 @@ pub same-trans : (x y z : Diff) → x ≈ y → y ≈ z → x ≈ z
 same-trans x y z e f = omega arith
 
 -- ---- bounds
-pub within-le : (x : Diff) (a b : ℕ) → a ≤ b → Within x a → Within x b
+pub within-le : (x : Diff) (a b : ℕ) → a ≤ b → SizeAtMost x a → SizeAtMost x b
 within-le x a b h w = (omega arith, omega arith)
 
-pub within-times : (x : Diff) (b k : ℕ) → Within x b → Within (x ⊡ k) (b * k)
+pub within-times : (x : Diff) (b k : ℕ) → SizeAtMost x b → SizeAtMost (x ⊡ k) (b * k)
 within-times x b k h = (omega (arith, mul-le-mul-right k (h .0)), omega (arith, mul-le-mul-right k (h .1)))
 
-pub within-cancel : (x : Diff) (a k : ℕ) → 0 < k → Within (x ⊡ k) (a * k) → Within x a
+pub within-cancel : (x : Diff) (a k : ℕ) → 0 < k → SizeAtMost (x ⊡ k) (a * k) → SizeAtMost x a
 within-cancel x a k h w = (le-of-mul-le-mul-right (omega arith) h, le-of-mul-le-mul-right (omega arith) h)
 
-pub within-sum : (x y : Diff) (a b c : ℕ) → Within x a → Within y b → a + b ≤ c → Within (x ⊞ y) c
+pub within-sum : (x y : Diff) (a b c : ℕ) → SizeAtMost x a → SizeAtMost y b → a + b ≤ c → SizeAtMost (x ⊞ y) c
 within-sum x y a b c h w l = (omega arith, omega arith)
 
-pub within-near : (x y : Diff) (a b c : ℕ) → Apart x y a → Within y b → a + b ≤ c → Within x c
+pub within-near : (x y : Diff) (a b c : ℕ) → Apart x y a → SizeAtMost y b → a + b ≤ c → SizeAtMost x c
 within-near x y a b c h w l = (omega arith, omega arith)
 
 -- the parts' sum bounds the size, and is the size where one of them is 0
-pub within-magnitude : (x : Diff) → Within x (magnitude x)
+pub within-magnitude : (x : Diff) → SizeAtMost x (magnitude x)
 within-magnitude x = (omega arith, omega arith)
 
-pub magnitude-le : (x : Diff) (b : ℕ) → OneSided x → Within x b → magnitude x ≤ b
+pub magnitude-le : (x : Diff) (b : ℕ) → OneSided x → SizeAtMost x b → magnitude x ≤ b
 magnitude-le x b o w = elim o [
   | inl z ↦ go (x .n) (x .p) z (w .1)
   | inr z ↦ le-trans (le-of-eq (add-comm (x .p) (x .n))) (go (x .p) (x .n) z (w .0))
@@ -73,7 +73,7 @@ product-bound x1 x2 y1 y2 X Y h h' g g' = elim (le-or-lt x1 x2) [
         let s = le-dest l in
         subst (λ (z : ℕ). x2 * y1 + z * y2 ≤ x2 * y2 + z * y1 + X * Y) (s .1) (omega (arith, mul-le-mul-left (s .0) m))
 
-pub product-within : (x y : Diff) (a b : ℕ) → Within x a → Within y b → Within (x ⊠ y) (a * b)
+pub product-within : (x y : Diff) (a b : ℕ) → SizeAtMost x a → SizeAtMost y b → SizeAtMost (x ⊠ y) (a * b)
 product-within x y a b h k = (
   product-bound (x .p) (x .n) (y .p) (y .n) a b (h .0) (h .1) (k .0) (k .1),
   flipped (product-bound (x .n) (x .p) (y .p) (y .n) a b (h .1) (h .0) (k .0) (k .1)),

@@ -10,7 +10,7 @@ use lib.Dec.{T, lit≤}
 use lib.Ieee.{Float, binary64, add, sub, mul, neg, fits}
 use lib.Ieee.Fits.{add-fits, neg-fits, mul-fits}
 use Rattle.rounding.specs.Units.{oneUnits}
-use Rattle.rounding.specs.Diff.{Diff, _⊞_, _⊟_, _⊠_, Within, OneSided, magnitude}
+use Rattle.rounding.specs.Diff.{Diff, _⊞_, _⊟_, _⊠_, SizeAtMost, OneSided, magnitude}
 use Rattle.rounding.proofs.Value.{limit, one-pos, Val, neg-val, Near, near-flip, add-near, mul-near}
 use Rattle.rounding.proofs.Exact.{relative, relative-sum}
 use Rattle.rounding.proofs.Diff.{magnitude-le}
@@ -76,10 +76,10 @@ module _ {x y : Float} {k l : ℕ} (X : Num x k) (Y : Num y l) where
         rounds = r .near;
       }
     where
-      sum-within : (b : ℕ) → (k + l) * oneUnits ≤ b → Within (X .v ⊞ Y .v) b
+      sum-within : (b : ℕ) → (k + l) * oneUnits ≤ b → SizeAtMost (X .v ⊞ Y .v) b
       sum-within b h = go (X .v) (Y .v) (omega (arith, X .bound, Y .bound))
         where
-          go : (x y : Diff) → magnitude x + magnitude y ≤ b → Within (x ⊞ y) b
+          go : (x y : Diff) → magnitude x + magnitude y ≤ b → SizeAtMost (x ⊞ y) b
           go x y h = (omega arith, omega arith)
 
   pub mul-num : k * l ≤ 2 ^ 118 → Op (mul binary64 x y) (2 * (k * l) + 1) (X .v ⊠ Y .v) oneUnits
@@ -128,7 +128,7 @@ unfolding sub neg-num
 sub-num X Y h = add-num X (neg-num Y) h
 
 -- ---- the bound on the size, and another one
-pub sized : {x : Float} {k : ℕ} (X : Num x k) → Within (X .v) (k * oneUnits)
+pub sized : {x : Float} {k : ℕ} (X : Num x k) → SizeAtMost (X .v) (k * oneUnits)
 sized X = (omega (arith, X .bound), omega (arith, X .bound))
 
 abbrev pub weaken : {x : Float} {k : ℕ} (m : ℕ) → k ≤ m → Num x k → Num x m
@@ -137,7 +137,7 @@ weaken m h X = record { v = X .v; is = X .is; held = X .held; bound = le-trans (
 pub rounded-side : {P N d : ℕ} (r : Diff) → Near P N d (r .p) (r .n) → OneSided r
 rounded-side r R = elim (R .side) [ inl o ↦ inr (o .1) | inr o ↦ inl (o .1) ]
 
-abbrev pub resize : {z : Float} {k : ℕ} {x : Diff} {d : ℕ} (m : ℕ) (O : Op z k x d) → Within (O .result .v) (m * oneUnits) → Num z m
+abbrev pub resize : {z : Float} {k : ℕ} {x : Diff} {d : ℕ} (m : ℕ) (O : Op z k x d) → SizeAtMost (O .result .v) (m * oneUnits) → Num z m
 resize m O w =
     record {
       v = O .result .v;

@@ -14,7 +14,7 @@ use native.Mathlib.Omega.{arith}
 use lib.Dec.{lit≤}
 use lib.Pow.{pow-add, pow-pos}
 use Rattle.algebra.specs.NatOrder.{le-or-lt, pow2-finer}
-use Rattle.rounding.specs.Diff.{Diff, _⊞_, _⊟_, _⊡_, _≈_, Apart, Within}
+use Rattle.rounding.specs.Diff.{Diff, _⊞_, _⊟_, _⊡_, _≈_, Apart, SizeAtMost}
 use Rattle.rounding.proofs.Value.{Near}
 use Rattle.rounding.proofs.Exact.{coarse, half-unit, exact-sum}
 use Rattle.rounding.proofs.Moved.{Rounds, sum-moved, few-exact}
@@ -228,7 +228,7 @@ module _ {x1 x2 c1 c2 w1 w2 h1 h2 l1 l2 : ℕ} (C : Near (134217729 * x1) (13421
         }
 
 -- ---- a number x of no more than X < 2 ^ 52 units: each operation goes by X at most, x - hi is exact, and neither part is more than 3 X
-module _ (x c w h l : Diff) (X : ℕ) (few : X < 2 ^ 52) (x-few : Within x X)
+module _ (x c w h l : Diff) (X : ℕ) (few : X < 2 ^ 52) (x-few : SizeAtMost x X)
     (C : Rounds (x ⊡ 134217729) 1 c) (W : Rounds (c ⊟ x) 1 w) (H : Rounds (c ⊟ w) 1 h) (L : Rounds (x ⊟ h) 1 l) where
   c-moved : Apart c (x ⊡ 134217729) X
   c-moved = sum-moved (x ⊡ 134217729) c X C (omega arith, omega arith)
@@ -239,14 +239,14 @@ module _ (x c w h l : Diff) (X : ℕ) (few : X < 2 ^ 52) (x-few : Within x X)
   h-moved : Apart h (c ⊟ w) X
   h-moved = let w' = w-moved in sum-moved (c ⊟ w) h X H (omega arith, omega arith)
 
-  rest-few : Within (x ⊟ h) (2 * X)
+  rest-few : SizeAtMost (x ⊟ h) (2 * X)
   rest-few = let w' = w-moved in let h' = h-moved in (omega arith, omega arith)
 
   pub small-whole : x ≈ h ⊞ l
   small-whole = let r = rest-few in let e = few-exact (x ⊟ h) l L (omega arith, omega arith) in omega arith
 
-  pub small-high : Within h (3 * X)
+  pub small-high : SizeAtMost h (3 * X)
   small-high = let r = rest-few in (omega arith, omega arith)
 
-  pub small-low : Within l (3 * X)
+  pub small-low : SizeAtMost l (3 * X)
   small-low = let r = rest-few in let e = small-whole in (omega arith, omega arith)

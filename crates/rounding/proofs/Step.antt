@@ -14,7 +14,7 @@ use Prim.Native.Nat.{ℕ, _+_, _*_, _^_, _≤_, _<_}
 use native.Mathlib.Nat.{le-refl, le-trans, le-of-eq, le-add-right, add-comm, zero-mul, le-of-mul-le-mul-right, le-of-mul-le-mul-left, mul-le-mul-right, mul-le-mul-left, mul-assoc}
 use native.Mathlib.Omega.{arith}
 use lib.Dec.{lit<}
-use Rattle.rounding.specs.Diff.{Diff, _⊞_, _⊟_, _⊠_, _⊡_, Apart, Within, OneSided, magnitude}
+use Rattle.rounding.specs.Diff.{Diff, _⊞_, _⊟_, _⊠_, _⊡_, Apart, SizeAtMost, OneSided, magnitude}
 use Rattle.rounding.proofs.Diff.{within-le, within-sum, within-near, within-cancel, within-magnitude, magnitude-le, apart-le, apart-times, product-within}
 use Rattle.rounding.proofs.Moved.{Rounds, sum-relative, product-relative, sum-moved, product-moved}
 
@@ -71,7 +71,7 @@ module _ (v r y c p π s σ g f e : Diff) (h k α β ρ τ D : ℕ) (D-pos : 0 <
   vy-bound : ℕ
   vy-bound = (2 ^ 53 * h + (α * h + β)) * magnitude y
 
-  vy-within : Within (v ⊠ y) vy-bound
+  vy-within : SizeAtMost (v ⊠ y) vy-bound
   unfolding vy-bound
   vy-within =
       within-le (v ⊠ y) (magnitude v * magnitude y) vy-bound (mul-le-mul-right (magnitude y) v-size)
@@ -105,7 +105,7 @@ module _ (v r y c p π s σ g f e : Diff) (h k α β ρ τ D : ℕ) (D-pos : 0 <
       side : OneSided (p ⊡ D)
       side = elim p-side [ inl z ↦ inl (ap (λ (x : ℕ). x * D) z ∙ zero-mul D) | inr z ↦ inr (ap (λ (x : ℕ). x * D) z ∙ zero-mul D) ]
 
-      vy-near : Within (p ⊡ D) (vy-bound + (2 * k + 1 + 1) * D)
+      vy-near : SizeAtMost (p ⊡ D) (vy-bound + (2 * k + 1 + 1) * D)
       vy-near =
           within-near (p ⊡ D) (v ⊠ y) ((2 * k + 1 + 1) * D) vy-bound (vy-bound + (2 * k + 1 + 1) * D) p-near vy-within
           (le-of-eq (add-comm ((2 * k + 1 + 1) * D) vy-bound))
@@ -124,7 +124,7 @@ module _ (v r y c p π s σ g f e : Diff) (h k α β ρ τ D : ℕ) (D-pos : 0 <
       few α k β h l = omega arith
 
   -- ---- s = p + c, and its error σ
-  p+c : Within (p ⊞ c) (magnitude p + magnitude c)
+  p+c : SizeAtMost (p ⊞ c) (magnitude p + magnitude c)
   p+c = within-sum p c (magnitude p) (magnitude c) (magnitude p + magnitude c) (within-magnitude p) (within-magnitude c) (le-refl (magnitude p + magnitude c))
 
   s-near : Apart s (p ⊞ c) (2 * k + 1)
@@ -141,24 +141,24 @@ module _ (v r y c p π s σ g f e : Diff) (h k α β ρ τ D : ℕ) (D-pos : 0 <
   σ-near : Apart (σ ⊡ 2 ^ 53) ((p ⊞ c ⊟ s) ⊡ 2 ^ 53) (7 * (2 * k + 1))
   σ-near = SC (2 * k + 1) p-few
 
-  σ-few : Within σ (3 * k + 2)
+  σ-few : SizeAtMost σ (3 * k + 2)
   σ-few = go σ (p ⊞ c) s k σ-near s-near
     where
-      go : (σ x s : Diff) (k : ℕ) → Apart (σ ⊡ 2 ^ 53) ((x ⊟ s) ⊡ 2 ^ 53) (7 * (2 * k + 1)) → Apart s x (2 * k + 1) → Within σ (3 * k + 2)
+      go : (σ x s : Diff) (k : ℕ) → Apart (σ ⊡ 2 ^ 53) ((x ⊟ s) ⊡ 2 ^ 53) (7 * (2 * k + 1)) → Apart s x (2 * k + 1) → SizeAtMost σ (3 * k + 2)
       go σ x s k h l = (omega arith, omega arith)
 
   -- ---- the product's error π
-  π-few : Within π (2 * k + 2 + 2 ^ 64)
+  π-few : SizeAtMost π (2 * k + 2 + 2 ^ 64)
   π-few = within-cancel π (2 * k + 2 + 2 ^ 64) D D-pos (go p π (v ⊠ y) k D PC p-near)
     where
-      go : (p π x : Diff) (k D : ℕ) → Apart ((p ⊞ π) ⊡ D) x (2 ^ 64 * D) → Apart (p ⊡ D) x ((2 * k + 1 + 1) * D) → Within (π ⊡ D) ((2 * k + 2 + 2 ^ 64) * D)
+      go : (p π x : Diff) (k D : ℕ) → Apart ((p ⊞ π) ⊡ D) x (2 ^ 64 * D) → Apart (p ⊡ D) x ((2 * k + 1 + 1) * D) → SizeAtMost (π ⊡ D) ((2 * k + 2 + 2 ^ 64) * D)
       go p π x k D h l = (omega arith, omega arith)
 
   -- ---- f = π + σ
-  π+σ : Within (π ⊞ σ) (5 * k + (4 + 2 ^ 64))
+  π+σ : SizeAtMost (π ⊞ σ) (5 * k + (4 + 2 ^ 64))
   π+σ = within-sum π σ (2 * k + 2 + 2 ^ 64) (3 * k + 2) (5 * k + (4 + 2 ^ 64)) π-few σ-few (omega arith)
 
-  f-few : Within f (6 * k + 2 ^ 65)
+  f-few : SizeAtMost f (6 * k + 2 ^ 65)
   f-few =
       within-near f (π ⊞ σ) (k + 2 ^ 12) (5 * k + (4 + 2 ^ 64)) (6 * k + 2 ^ 65)
       (sum-moved (π ⊞ σ) f (k + 2 ^ 12) F (within-le (π ⊞ σ) (5 * k + (4 + 2 ^ 64)) (2 ^ 53 * (k + 2 ^ 12)) (few k) π+σ)) π+σ (room k)
@@ -173,7 +173,7 @@ module _ (v r y c p π s σ g f e : Diff) (h k α β ρ τ D : ℕ) (D-pos : 0 <
   f-near = sum-relative (π ⊞ σ) f (5 * k + (4 + 2 ^ 64)) F π+σ
 
   -- ---- g = r y
-  ry-within : Within (r ⊠ y) ((ρ * k + 4 * τ) * D)
+  ry-within : SizeAtMost (r ⊠ y) ((ρ * k + 4 * τ) * D)
   ry-within =
       within-le (r ⊠ y) (magnitude r * magnitude y) ((ρ * k + 4 * τ) * D)
       (le-trans (mul-le-mul-right (magnitude y) r-size) (grown h k (magnitude y) (magnitude c) D link place ρ τ))
@@ -182,7 +182,7 @@ module _ (v r y c p π s σ g f e : Diff) (h k α β ρ τ D : ℕ) (D-pos : 0 <
   g-near : Apart (g ⊡ D ⊡ 2 ^ 53) ((r ⊠ y) ⊡ 2 ^ 53) ((ρ * k + 4 * τ) * D + 2 ^ 52 * D)
   g-near = product-relative (r ⊠ y) g ((ρ * k + 4 * τ) * D) D D-pos G ry-within
 
-  g-few : Within g ((ρ + 1) * k + (5 * τ + 1))
+  g-few : SizeAtMost g ((ρ + 1) * k + (5 * τ + 1))
   g-few =
       within-cancel g ((ρ + 1) * k + (5 * τ + 1)) D D-pos
       (within-near (g ⊡ D) (r ⊠ y) ((k + τ + 1) * D) ((ρ * k + 4 * τ) * D) (((ρ + 1) * k + (5 * τ + 1)) * D)
@@ -200,7 +200,7 @@ module _ (v r y c p π s σ g f e : Diff) (h k α β ρ τ D : ℕ) (D-pos : 0 <
       room ρ k τ D = omega arith
 
   -- ---- e = g + f
-  g+f : Within (g ⊞ f) ((ρ + 7) * k + (5 * τ + (1 + 2 ^ 65)))
+  g+f : SizeAtMost (g ⊞ f) ((ρ + 7) * k + (5 * τ + (1 + 2 ^ 65)))
   g+f = within-sum g f ((ρ + 1) * k + (5 * τ + 1)) (6 * k + 2 ^ 65) ((ρ + 7) * k + (5 * τ + (1 + 2 ^ 65))) g-few f-few (omega arith)
 
   e-near : Apart (e ⊡ 2 ^ 53) ((g ⊞ f) ⊡ 2 ^ 53) ((ρ + 7) * k + (5 * τ + (1 + 2 ^ 65)))

@@ -12,7 +12,7 @@ use native.Mathlib.Omega.{arith}
 use lib.Dec.{lit≤}
 use lib.Pow.{pow-add, pow-pos}
 use Rattle.algebra.specs.NatOrder.{pow2-finer}
-use Rattle.rounding.specs.Diff.{Diff, _⊞_, _⊟_, _⊡_, _≈_, Apart, Within}
+use Rattle.rounding.specs.Diff.{Diff, _⊞_, _⊟_, _⊡_, _≈_, Apart, SizeAtMost}
 use Rattle.rounding.proofs.Exact.{coarse, half-unit}
 use Rattle.rounding.proofs.Diff.{same-parts, within-le, within-times}
 use Rattle.rounding.proofs.Moved.{Rounds, multiple-exact, digits-exact}
@@ -28,24 +28,24 @@ close-of : (x y : Diff) (Z G : ℕ) → G ≡ 2 ^ 53 * Z
     → (2 * (y .p * 1) + 2 * x .n ≤ 2 * x .p + 2 * (y .n * 1) + 1 * G) × (2 * x .p + 2 * (y .n * 1) ≤ 2 * (y .p * 1) + 2 * x .n + 1 * G) → Apart x y (2 ^ 52 * Z)
 close-of x y Z G g h = (omega arith, omega arith)
 
-grown : (x : Diff) (Z G : ℕ) → G ≡ 2 ^ 27 * Z → Within x (3 * 2 ^ 51) → Within (x ⊡ G) (3 * 2 ^ 78 * Z)
+grown : (x : Diff) (Z G : ℕ) → G ≡ 2 ^ 27 * Z → SizeAtMost x (3 * 2 ^ 51) → SizeAtMost (x ⊡ G) (3 * 2 ^ 78 * Z)
 grown x Z G g h = within-le (x ⊡ G) (3 * 2 ^ 51 * G) (3 * 2 ^ 78 * Z) (omega arith) (within-times x (3 * 2 ^ 51) G h)
 
 -- how large the partial sums are, before they are rounded: q is the product that is added, and r the sum so far
 module _ (A B C L T p : Diff) (Z : ℕ) (split : T ≈ A ⊞ B ⊞ C ⊞ L) (close : Apart T p (2 ^ 52 * Z)) (q r : Diff) where
-  r-bound : Within B (3 * 2 ^ 78 * Z) → Within C (3 * 2 ^ 78 * Z) → Within L (2 ^ 52 * Z) → A ≈ q → Within (q ⊟ p) (2 ^ 81 * Z)
+  r-bound : SizeAtMost B (3 * 2 ^ 78 * Z) → SizeAtMost C (3 * 2 ^ 78 * Z) → SizeAtMost L (2 ^ 52 * Z) → A ≈ q → SizeAtMost (q ⊟ p) (2 ^ 81 * Z)
   r-bound b c l e = (omega arith, omega arith)
 
-  s-bound : Within C (3 * 2 ^ 78 * Z) → Within L (2 ^ 52 * Z) → B ≈ q → A ⊟ p ≈ r → Within (r ⊞ q) (2 ^ 53 * (2 ^ 27 * Z))
+  s-bound : SizeAtMost C (3 * 2 ^ 78 * Z) → SizeAtMost L (2 ^ 52 * Z) → B ≈ q → A ⊟ p ≈ r → SizeAtMost (r ⊞ q) (2 ^ 53 * (2 ^ 27 * Z))
   s-bound c l e f = (omega arith, omega arith)
 
-  t-bound : Within L (2 ^ 52 * Z) → C ≈ q → A ⊟ p ⊞ B ≈ r → Within (r ⊞ q) (2 ^ 53 * Z)
+  t-bound : SizeAtMost L (2 ^ 52 * Z) → C ≈ q → A ⊟ p ⊞ B ≈ r → SizeAtMost (r ⊞ q) (2 ^ 53 * Z)
   t-bound l e f = (omega arith, omega arith)
 
-  e-bound : L ≈ q → A ⊟ p ⊞ B ⊞ C ≈ r → Within (r ⊞ q) (2 ^ 53 * Z)
+  e-bound : L ≈ q → A ⊟ p ⊞ B ⊞ C ≈ r → SizeAtMost (r ⊞ q) (2 ^ 53 * Z)
   e-bound e f = (omega arith, omega arith)
 
-wider : (x : Diff) (Z : ℕ) → Within x (2 ^ 81 * Z) → Within x (2 ^ 53 * (2 ^ 52 * Z))
+wider : (x : Diff) (Z : ℕ) → SizeAtMost x (2 ^ 81 * Z) → SizeAtMost x (2 ^ 53 * (2 ^ 52 * Z))
 wider x Z h = within-le x (2 ^ 81 * Z) (2 ^ 53 * (2 ^ 52 * Z)) (omega arith) h
 
 -- the partial sums as multiples of a unit
@@ -85,8 +85,8 @@ error-whole T A B C L p e h k = omega arith
 -- ---- the products with their units, and each operation rounded
 module _ (z : ℕ) (α β γ λ' π p qa qb qc ql r s t e : Diff)
     (split : π ⊡ 2 ^ z ≈ α ⊡ 2 ^ (54 + z) ⊞ β ⊡ 2 ^ (27 + z) ⊞ γ ⊡ 2 ^ (27 + z) ⊞ λ' ⊡ 2 ^ z)
-    (α-few : Within α (2 ^ 53)) (β-few : Within β (3 * 2 ^ 51)) (γ-few : Within γ (3 * 2 ^ 51)) (λ-few : Within λ' (2 ^ 52))
-    (π-few : Within π (2 ^ 106)) (π-many : (2 ^ 104 + π .n ≤ π .p) ⊎ (2 ^ 104 + π .p ≤ π .n))
+    (α-few : SizeAtMost α (2 ^ 53)) (β-few : SizeAtMost β (3 * 2 ^ 51)) (γ-few : SizeAtMost γ (3 * 2 ^ 51)) (λ-few : SizeAtMost λ' (2 ^ 52))
+    (π-few : SizeAtMost π (2 ^ 106)) (π-many : (2 ^ 104 + π .n ≤ π .p) ⊎ (2 ^ 104 + π .p ≤ π .n))
     (P : Rounds (π ⊡ 2 ^ z) 1 p) (QA : Rounds (α ⊡ 2 ^ (54 + z)) 1 qa) (QB : Rounds (β ⊡ 2 ^ (27 + z)) 1 qb)
     (QC : Rounds (γ ⊡ 2 ^ (27 + z)) 1 qc) (QL : Rounds (λ' ⊡ 2 ^ z) 1 ql)
     (R : Rounds (qa ⊟ p) 1 r) (S : Rounds (r ⊞ qb) 1 s) (T : Rounds (s ⊞ qc) 1 t) (E : Rounds (t ⊞ ql) 1 e) where
@@ -152,13 +152,13 @@ module _ (z : ℕ) (α β γ λ' π p qa qb qc ql r s t e : Diff)
   ll-exact : ll ≈ ql
   ll-exact = digits-exact z λ' ql QL (within-le λ' (2 ^ 52) (2 ^ 53) (lit≤ tt) λ-few)
 
-  hl-few : Within hl (3 * 2 ^ 78 * Z)
+  hl-few : SizeAtMost hl (3 * 2 ^ 78 * Z)
   hl-few = grown β Z (2 ^ (27 + z)) unit27 β-few
 
-  lh-few : Within lh (3 * 2 ^ 78 * Z)
+  lh-few : SizeAtMost lh (3 * 2 ^ 78 * Z)
   lh-few = grown γ Z (2 ^ (27 + z)) unit27 γ-few
 
-  ll-few : Within ll (2 ^ 52 * Z)
+  ll-few : SizeAtMost ll (2 ^ 52 * Z)
   ll-few = within-times λ' (2 ^ 52) Z λ-few
 
   -- the four sums, none of them rounded
@@ -167,7 +167,7 @@ module _ (z : ℕ) (α β γ λ' π p qa qb qc ql r s t e : Diff)
       let b = wider (qa ⊟ p) Z (r-bound hh hl lh ll ab p Z split close qa r hl-few lh-few ll-few hh-exact) in
       let m = r-multiple α ρ qa p Z (2 ^ (52 + z)) (2 ^ (54 + z)) unit52 unit54 p-is hh-exact in
       less-exact hh qa p r hh-exact
-      (multiple-exact (52 + z) (qa ⊟ p) (α ⊡ 4 ⊟ ρ) r R m (subst (λ (g : ℕ). Within (qa ⊟ p) (2 ^ 53 * g)) (sym unit52) b))
+      (multiple-exact (52 + z) (qa ⊟ p) (α ⊡ 4 ⊟ ρ) r R m (subst (λ (g : ℕ). SizeAtMost (qa ⊟ p) (2 ^ 53 * g)) (sym unit52) b))
 
   κ : Diff
   κ = α ⊡ 2 ^ 27 ⊟ ρ ⊡ 2 ^ 25 ⊞ β
@@ -179,7 +179,7 @@ module _ (z : ℕ) (α β γ λ' π p qa qb qc ql r s t e : Diff)
   s-exact : r ⊞ qb ≈ s
   s-exact =
       let b = s-bound hh hl lh ll ab p Z split close qb r lh-few ll-few hl-exact r-exact in
-      multiple-exact (27 + z) (r ⊞ qb) κ s S r-qb (subst (λ (g : ℕ). Within (r ⊞ qb) (2 ^ 53 * g)) (sym unit27) b)
+      multiple-exact (27 + z) (r ⊞ qb) κ s S r-qb (subst (λ (g : ℕ). SizeAtMost (r ⊞ qb) (2 ^ 53 * g)) (sym unit27) b)
 
   s-sum : hh ⊟ p ⊞ hl ≈ s
   s-sum = sum-exact (hh ⊟ p) hl r qb s r-exact hl-exact s-exact

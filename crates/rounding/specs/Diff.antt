@@ -33,8 +33,8 @@ abbrev pub Apart : Diff → Diff → ℕ → Type 0
 Apart x y b = (x .p + y .n ≤ x .n + y .p + b) × (x .n + y .p ≤ x .p + y .n + b)
 
 -- |x| ≤ b
-abbrev pub Within : Diff → ℕ → Type 0
-Within x b = (x .p ≤ x .n + b) × (x .n ≤ x .p + b)
+abbrev pub SizeAtMost : Diff → ℕ → Type 0
+SizeAtMost x b = (x .p ≤ x .n + b) × (x .n ≤ x .p + b)
 
 -- one of the two parts is 0, so that the size is their sum
 abbrev pub OneSided : Diff → Type 0

@@ -11,7 +11,7 @@ use lib.IntN.{pos, negsuc, _-ℤ_}
 use lib.Ieee.{Float, binary64, mul}
 use Rattle.algebra.specs.NatOrder.{le-or-lt, pow2-join}
 use Rattle.float.specs.Units.{unitsOf, Finite}
-use Rattle.ldexp.specs.Scale.{pow2Of, scaledOf, ldexpOf}
+use Rattle.ldexp.specs.Scale.{pow2Of, timesPowerOf, ldexpOf}
 use Rattle.ldexp.proofs.Chain.{all-last, all-step, by-sign}
 use Rattle.scaled.proofs.Digits.{digits, units-under}
 use Rattle.scaled.proofs.Rounds.{times, kept-above, kept-below}
@@ -45,20 +45,20 @@ and-then x y z a b P Q = record {
     parts : (g : ℕ) → g + (b + a) ≡ g + b + a
     parts g = omega arith
 
-fall-last : (n : ℕ) (x : Float) → Finite x → suc n ≤ 1000 → Shrunk x (scaledOf true (suc n) x) (suc n)
+fall-last : (n : ℕ) (x : Float) → Finite x → suc n ≤ 1000 → Shrunk x (timesPowerOf true (suc n) x) (suc n)
 fall-last n x F h = subst (λ (y : Float). Shrunk x y (suc n)) (sym (all-last true (suc n) x h)) (shrink x n F)
 
-fall-step : (n : ℕ) (x : Float) → Finite x → 1000 < suc n → ((y : Float) → Finite y → Shrunk y (scaledOf true (suc (n - 1000)) y) (suc (n - 1000))) → Shrunk x (scaledOf true (suc n) x) (suc n)
+fall-step : (n : ℕ) (x : Float) → Finite x → 1000 < suc n → ((y : Float) → Finite y → Shrunk y (timesPowerOf true (suc (n - 1000)) y) (suc (n - 1000))) → Shrunk x (timesPowerOf true (suc n) x) (suc n)
 fall-step n x F h rest =
     let y = mul binary64 x (pow2Of (negsuc 999)) in
     let P = shrink x 999 F in
     let m = n - 1000 in
     let q : suc n - 1000 ≡ suc m = omega arith in
-    subst (λ (z : Float). Shrunk x z (suc n)) (sym (all-step true (suc n) x h ∙ ap (λ (k : ℕ). scaledOf true k y) q))
-    (subst (λ (k : ℕ). Shrunk x (scaledOf true (suc m) y) k) (let e : suc (n - 1000) + 1000 ≡ suc n = omega arith in e)
-    (and-then x y (scaledOf true (suc m) y) 1000 (suc m) P (rest y (P .finite))))
+    subst (λ (z : Float). Shrunk x z (suc n)) (sym (all-step true (suc n) x h ∙ ap (λ (k : ℕ). timesPowerOf true k y) q))
+    (subst (λ (k : ℕ). Shrunk x (timesPowerOf true (suc m) y) k) (let e : suc (n - 1000) + 1000 ≡ suc n = omega arith in e)
+    (and-then x y (timesPowerOf true (suc m) y) 1000 (suc m) P (rest y (P .finite))))
 
-fall : (steps n : ℕ) → n < 1000 * suc steps → (x : Float) → Finite x → Shrunk x (scaledOf true (suc n) x) (suc n)
+fall : (steps n : ℕ) → n < 1000 * suc steps → (x : Float) → Finite x → Shrunk x (timesPowerOf true (suc n) x) (suc n)
 fall zero n l x F = fall-last n x F l
 fall (suc f) n l x F = ⊎-elim (λ h. fall-last n x F h) (λ h. fall-step n x F h (λ y G. fall f (n - 1000) (omega arith) y G)) (le-or-lt (suc n) 1000)
 
@@ -81,11 +81,11 @@ grow x n F h =
       is = le-antisymm (kept-above (pow-pos 0) (P .rounds) w g W (le-of-eq e₁)) (kept-below (pow-pos 0) (P .rounds) w g W (le-of-eq (sym e₁))) ∙ sym e;
     }
 
-rise-last : (n : ℕ) (x : Float) → Finite x → unitsOf x * 2 ^ n < 2 ^ 2098 → n ≤ 1000 → Grown x (scaledOf false n x) n
+rise-last : (n : ℕ) (x : Float) → Finite x → unitsOf x * 2 ^ n < 2 ^ 2098 → n ≤ 1000 → Grown x (timesPowerOf false n x) n
 rise-last n x F b h = subst (λ (y : Float). Grown x y n) (sym (all-last false n x h)) (grow x n F b)
 
 rise-step : (n : ℕ) (x : Float) → Finite x → unitsOf x * 2 ^ n < 2 ^ 2098 → 1000 < n
-    → ((y : Float) → Finite y → unitsOf y * 2 ^ (n - 1000) < 2 ^ 2098 → Grown y (scaledOf false (n - 1000) y) (n - 1000)) → Grown x (scaledOf false n x) n
+    → ((y : Float) → Finite y → unitsOf y * 2 ^ (n - 1000) < 2 ^ 2098 → Grown y (timesPowerOf false (n - 1000) y) (n - 1000)) → Grown x (timesPowerOf false n x) n
 rise-step n x F b h rest =
     let y = mul binary64 x (pow2Of (pos 1000)) in
     let m = n - 1000 in
@@ -94,7 +94,7 @@ rise-step n x F b h rest =
     let Q = rest y (P .finite) (subst (λ (u : ℕ). u < 2 ^ 2098) (sym e) b) in
     subst (λ (z : Float). Grown x z n) (sym (all-step false n x h)) (record { finite = Q .finite; is = Q .is ∙ e })
 
-rise : (steps n : ℕ) → n ≤ 1000 * suc steps → (x : Float) → Finite x → unitsOf x * 2 ^ n < 2 ^ 2098 → Grown x (scaledOf false n x) n
+rise : (steps n : ℕ) → n ≤ 1000 * suc steps → (x : Float) → Finite x → unitsOf x * 2 ^ n < 2 ^ 2098 → Grown x (timesPowerOf false n x) n
 rise zero n l x F b = rise-last n x F b l
 rise (suc f) n l x F b = ⊎-elim (λ h. rise-last n x F b h) (λ h. rise-step n x F b h (λ y G c. rise f (n - 1000) (omega arith) y G c)) (le-or-lt n 1000)
 

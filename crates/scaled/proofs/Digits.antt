@@ -18,10 +18,10 @@ use Rattle.float.specs.Methods.{isFiniteOf}
 use Rattle.float.specs.Units.{unitsOf, Finite}
 use Rattle.float.proofs.Bits.{of-true}
 use Rattle.decode.specs.Exponent.{exponentOf}
-use Rattle.decode.specs.Shape.{Whole}
+use Rattle.decode.specs.Shape.{Significand}
 use Rattle.decode.proofs.Fields.{shape}
 
-pub digits : (x : Float) → Finite x → (w : ℕ) × (k : ℕ) × Whole (unitsOf x) w k
+pub digits : (x : Float) → Finite x → (w : ℕ) × (k : ℕ) × Significand (unitsOf x) w k
 unfolding isFiniteOf
 digits nan F = absurd (false≢true (F .finite))
 digits (inf s) F = absurd (false≢true (F .finite))

@@ -24,7 +24,7 @@ use Rattle.facts.specs.Cond.{both-hold}
 use Rattle.float.specs.Literals.{two64}
 use Rattle.float.specs.Methods.{absOf, isFiniteOf}
 use Rattle.float.specs.Units.{unitsOf, Finite}
-use Rattle.decode.specs.Shape.{Whole, Normal}
+use Rattle.decode.specs.Shape.{Significand, Normal}
 use Rattle.decode.proofs.Fields.{shifted}
 use Rattle.decode.proofs.Highest.{exponent-is}
 use Rattle.scaled.specs.Exponent.{scaleExponentOf}
@@ -48,7 +48,7 @@ unfolding scaledOf coefficientsOf
 f-at a d i l = let e = scaleExponentOf a d in fill-at (coefficientOf a d e (topOf (getD a d nan) e d)) 5 i 0 (omega arith) ∙ (let z : 0 + i ≡ i = omega arith in ap (coefficientOf a d e (topOf (getD a d nan) e d)) z)
 
 -- ---- 53 digits of a number that is not zero
-normal : (n w k : ℕ) → Whole n w k → 0 < n → (w' : ℕ) × (t : ℕ) × Normal n w' t
+normal : (n w k : ℕ) → Significand n w k → 0 < n → (w' : ℕ) × (t : ℕ) × Normal n w' t
 normal n w k h P = go (h .led)
   where
     full : 2 ^ 52 ≤ w → Normal n w (k + 52)

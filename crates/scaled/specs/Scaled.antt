@@ -6,8 +6,9 @@ use Prim.Native.Nat.{ℕ}
 use lib.Dec.{leb, ltb, eqb}
 use lib.IntN.{ℤ, pos, negℤ, _+ℤ_, _-ℤ_, _*ℤ_}
 use lib.ListN.{getD, replicate}
-use lib.Ieee.{Float, nan, binary64, add, div, neg, ofInt}
+use lib.Ieee.{Float, nan, binary64, neg, ofInt}
 use Rattle.facts.specs.Arrays.{fromFn}
+use Rattle.float.specs.Rounded.{_+ᶠ_, _/ᶠ_}
 use Rattle.float.specs.Literals.{zero64, one64, inf64}
 use Rattle.float.specs.Methods.{absOf}
 use Rattle.ldexp.specs.Scale.{ldexpOf}
@@ -33,7 +34,7 @@ coefficientsOf a d e top = fromFn 5 (coefficientOf a d e top)
 
 -- g_i = f_i / f_d, with 1 at the degree and 0 above it
 unfoldable pub monicAt : List Float → ℕ → ℕ → Float
-monicAt f d i = cond (ltb i d) (div binary64 (getD f i nan) (getD f d nan)) (cond (eqb i d) one64 zero64)
+monicAt f d i = cond (ltb i d) (getD f i nan /ᶠ getD f d nan) (cond (eqb i d) one64 zero64)
 
 unfoldable pub monicOf : List Float → ℕ → List Float
 monicOf f d = fromFn 5 (monicAt f d)
@@ -44,7 +45,7 @@ sizesOf a = fromFn 5 (λ i. absOf (getD a i nan))
 
 -- lg_i = L + shift, where L is the logarithm of |a_i|, the unscaled one: lg_i is finite where f_i went down to 0. Minus infinity above the degree.
 unfoldable pub logSizeOf : Float → ℕ → ℤ → ℤ → ℕ → Float
-logSizeOf l d e top i = cond (leb i d) (add binary64 l (ofInt binary64 (shiftOf e top i))) (neg inf64)
+logSizeOf l d e top i = cond (leb i d) (l +ᶠ ofInt binary64 (shiftOf e top i)) (neg inf64)
 
 -- lg, which is read at degree 3 and 4 alone ('never at depth 3 or degree 2 and below'). At a smaller degree it stays minus infinity, with which the Rust begins.
 unfoldable pub logSizesOf : List Float → ℕ → ℤ → ℤ → List Float

@@ -2,7 +2,8 @@
 use mathlib.Core.Bool.{Bool, cond, _&&_}
 use mathlib.Core.List.{List, [], _∷_}
 use Prim.Native.Nat.{ℕ}
-use lib.Ieee.{Float, binary64, add}
+use lib.Ieee.{Float}
+use Rattle.float.specs.Rounded.{_+ᶠ_}
 use Rattle.float.specs.Methods.{isFiniteOf}
 use Rattle.solution.specs.declared.QuadraticSolution.{QuadraticSolution}
 use Rattle.solution.specs.declared.QuadraticSolution.the-variants.{Two, One, Linear, Degenerate, Empty}
@@ -25,9 +26,9 @@ valuesOf Empty = []
 
 -- `shifted`: every place moved by t0
 unfoldable pub shiftedOf : QuadraticSolution → Float → QuadraticSolution
-shiftedOf (Two x y) t0 = Two (add binary64 t0 x) (add binary64 t0 y)
-shiftedOf (One x) t0 = One (add binary64 t0 x)
-shiftedOf (Linear x) t0 = Linear (add binary64 t0 x)
+shiftedOf (Two x y) t0 = Two (t0 +ᶠ x) (t0 +ᶠ y)
+shiftedOf (One x) t0 = One (t0 +ᶠ x)
+shiftedOf (Linear x) t0 = Linear (t0 +ᶠ x)
 shiftedOf Degenerate t0 = Degenerate
 shiftedOf Empty t0 = Empty
 

@@ -3,7 +3,8 @@ use mathlib.Core.Bool.{cond}
 use mathlib.Core.List.{List}
 use Prim.Native.Nat.{ℕ, zero, suc, _+_, _-_, _<_}
 use lib.ListN.{getD}
-use lib.Ieee.{Float, binary64, add, sub, mul, lt, isNan, minus}
+use lib.Ieee.{Float, lt, isNan, minus}
+use Rattle.float.specs.Rounded.{_+ᶠ_, _-ᶠ_, _*ᶠ_}
 use Rattle.float.specs.Literals.{half64, one64, eight64}
 use Rattle.float.specs.Floor.{floorOf}
 use Rattle.ldexp.specs.Scale.{ldexpOf}
@@ -28,7 +29,7 @@ splitFrom lg at (suc k) =
     let lo = magOf lg at k in
     let hi = magOf lg at (k + 1) in
     let rest = splitFrom lg at k in
-    cond (lt eight64 (sub binary64 hi lo)) (Gap (getD at (k + 1) 0) (exp2Of (mul binary64 half64 (add binary64 lo hi)))) rest
+    cond (lt eight64 (hi -ᶠ lo)) (Gap (getD at (k + 1) 0) (exp2Of (half64 *ᶠ (lo +ᶠ hi)))) rest
 
 -- magnitude_split: in its words 'the number of roots below' the gap, and the 'geometric middle of the gap'
 unfoldable pub magnitudeSplitOf : List Float → ℕ → Split

@@ -6,8 +6,9 @@ use mathlib.Core.List.{List}
 use Prim.Native.Nat.{ℕ, zero, suc, _+_, _-_, _≤_, _<_}
 use lib.IntN.{pos}
 use lib.ListN.{getD, set, replicate, length}
-use lib.Ieee.{Float, nan, binary64, sub, mul, div, le, ofInt}
+use lib.Ieee.{Float, nan, binary64, le, ofInt}
 use Rattle.facts.specs.Count.{countUp}
+use Rattle.float.specs.Rounded.{_-ᶠ_, _*ᶠ_, _/ᶠ_}
 use Rattle.float.specs.Literals.{zero64}
 use Rattle.float.specs.Methods.{isFiniteOf}
 use Rattle.split.specs.declared.Hull.{Hull}
@@ -20,7 +21,7 @@ widthOf a b = ofInt binary64 (pos (b - a))
 unfoldable pub crossOf : List Float → ℕ → ℕ → ℕ → Float
 crossOf lg a b i =
     let x = getD lg a nan in
-    sub binary64 (mul binary64 (widthOf a b) (sub binary64 (getD lg i nan) x)) (mul binary64 (sub binary64 (getD lg b nan) x) (widthOf a i))
+    widthOf a b *ᶠ (getD lg i nan -ᶠ x) -ᶠ (getD lg b nan -ᶠ x) *ᶠ widthOf a i
 
 -- how many of the first h points stay: `while h >= 2`, the last one goes where cross >= 0
 unfoldable pub poppedOf : List Float → List ℕ → ℕ → ℕ → ℕ
@@ -50,7 +51,7 @@ unfoldable pub magOf : List Float → List ℕ → ℕ → Float
 magOf lg at k =
     let a = getD at k 0 in
     let b = getD at (k + 1) 0 in
-    div binary64 (sub binary64 (getD lg a nan) (getD lg b nan)) (widthOf a b)
+    (getD lg a nan -ᶠ getD lg b nan) /ᶠ widthOf a b
 
 -- ---- what the functions say of a hull: its indices rise, and are below n
 pub record Rising (n : ℕ) (s : Hull) : Type 0 where

@@ -4,8 +4,9 @@ use mathlib.Core.List.{List, []}
 use mathlib.Core.Bool.{cond}
 use mathlib.Core.Option.{Option, none, some}
 use lib.ListN.{length, getD, set, replicate}
-use lib.Ieee.{Float, nan, binary64, add, sub, mul, div, lt, le}
+use lib.Ieee.{Float, nan, lt, le}
 use Rattle.facts.specs.Count.{countUp, countDown}
+use Rattle.float.specs.Rounded.{_+ᶠ_, _-ᶠ_, _*ᶠ_, _/ᶠ_}
 use Rattle.float.specs.Literals.{zero64, minPositive64}
 use Rattle.float.specs.Methods.{absOf, maxOf}
 
@@ -14,19 +15,19 @@ abbrev pub entry : List (List Float) → ℕ → ℕ → Float
 entry m i j = getD (getD m i []) j nan
 
 -- l.iter().map(|v| v.abs()).sum(), on top of acc
-abbrev pub sizesStep : List Float → ℕ → Float → Float
-sizesStep l i acc = add binary64 acc (absOf (getD l i nan))
+abbrev pub sizeSumStep : List Float → ℕ → Float → Float
+sizeSumStep l i acc = acc +ᶠ absOf (getD l i nan)
 
-unfoldable pub sizesOf : List Float → Float → Float
-sizesOf l acc = countUp (length l) (sizesStep l) (length l) acc
+unfoldable pub sizeSumOf : List Float → Float → Float
+sizeSumOf l acc = countUp (length l) (sizeSumStep l) (length l) acc
 
 -- `scale`: the sum of the sizes of all entries, row by row. (Rust's sum starts at -0, which comes to the same: a size is never -0.)
 unfoldable pub scaleOf : ℕ → List (List Float) → Float
-scaleOf n m = countUp n (λ i. sizesOf (getD m i [])) n zero64
+scaleOf n m = countUp n (λ i. sizeSumOf (getD m i [])) n zero64
 
 -- a pivot of this size or less is none: tol * scale.max(f64::MIN_POSITIVE)
-unfoldable pub leastOf : ℕ → List (List Float) → Float → Float
-leastOf n m tol = mul binary64 tol (maxOf (scaleOf n m) minPositive64)
+unfoldable pub leastPivotOf : ℕ → List (List Float) → Float → Float
+leastPivotOf n m tol = tol *ᶠ maxOf (scaleOf n m) minPositive64
 
 -- row i with the entry a, where that is strictly larger in size than the entry b of row j
 unfoldable pub largerOf : ℕ → Float → ℕ → Float → ℕ
@@ -58,7 +59,7 @@ swapPivotOf n col s = let pivot = pivotOf n (s .m) col in lines (swapped [] col 
 
 -- for (k, cell) in row.iter_mut().enumerate().skip(col) { *cell -= factor * pivot_row[k]; }
 abbrev pub loseStep : Float → List Float → ℕ → List Float → List Float
-loseStep factor pivotRow k row = set row k (sub binary64 (getD row k nan) (mul binary64 factor (getD pivotRow k nan)))
+loseStep factor pivotRow k row = set row k (getD row k nan -ᶠ factor *ᶠ getD pivotRow k nan)
 
 unfoldable pub loseOf : Float → List Float → ℕ → List Float → List Float
 loseOf factor pivotRow col row = countUp (length row) (loseStep factor pivotRow) (length row - col) row
@@ -66,24 +67,24 @@ loseOf factor pivotRow col row = countUp (length row) (loseStep factor pivotRow)
 -- a row below loses (entry / pivot) times the pivot row, right-hand side included
 unfoldable pub reduceStep : ℕ → List Float → ℕ → Lines → Lines
 reduceStep col pivotRow row s =
-    let factor = div binary64 (entry (s .m) row col) (getD pivotRow col nan) in
+    let factor = entry (s .m) row col /ᶠ getD pivotRow col nan in
     lines
     (set (s .m) row (loseOf factor pivotRow col (getD (s .m) row [])))
-    (set (s .b) row (sub binary64 (getD (s .b) row nan) (mul binary64 factor (getD (s .b) col nan))))
+    (set (s .b) row (getD (s .b) row nan -ᶠ factor *ᶠ getD (s .b) col nan))
 
 unfoldable pub reduceOf : ℕ → ℕ → List Float → Lines → Lines
 reduceOf n col pivotRow s = countUp n (reduceStep col pivotRow) (n - (col + 1)) s
 
 -- for k in from..n { acc -= row[k] * x[k]; }
-abbrev pub restStep : List Float → List Float → ℕ → Float → Float
-restStep row x k acc = sub binary64 acc (mul binary64 (getD row k nan) (getD x k nan))
+abbrev pub remainderStep : List Float → List Float → ℕ → Float → Float
+remainderStep row x k acc = acc -ᶠ getD row k nan *ᶠ getD x k nan
 
-unfoldable pub restOf : List Float → List Float → ℕ → Float → Float
-restOf row x from acc = countUp (length row) (restStep row x) (length row - from) acc
+unfoldable pub remainderOf : List Float → List Float → ℕ → Float → Float
+remainderOf row x from acc = countUp (length row) (remainderStep row x) (length row - from) acc
 
 -- back substitution, from the last row up
 unfoldable pub substituteStep : Lines → ℕ → List Float → List Float
-substituteStep s row x = set x row (div binary64 (restOf (getD (s .m) row []) x (row + 1) (getD (s .b) row nan)) (entry (s .m) row row))
+substituteStep s row x = set x row (remainderOf (getD (s .m) row []) x (row + 1) (getD (s .b) row nan) /ᶠ entry (s .m) row row)
 
 unfoldable pub substituteOf : ℕ → Lines → List Float
 substituteOf n s = countDown (substituteStep s) n (replicate n zero64)
@@ -100,4 +101,4 @@ solveFrom n least (suc k) s =
 
 -- `solve_square`
 unfoldable pub solveSquareOf : ℕ → List (List Float) → List Float → Float → Option (List Float)
-solveSquareOf n m b tol = solveFrom n (leastOf n m tol) n (lines m b)
+solveSquareOf n m b tol = solveFrom n (leastPivotOf n m tol) n (lines m b)

@@ -3,7 +3,7 @@
 ghost use mathlib.Core.Path.{_≡_};
 ghost use Prim.Native.Nat.{_<_, _≤_};
 ghost use lib.ListN.{length};
-ghost use Rattle.square.specs.Square.{sizesOf, leastOf, largerOf, pivotOf, lines, loseOf, restOf, substituteOf, solveSquareOf};
+ghost use Rattle.square.specs.Square.{sizeSumOf, leastPivotOf, largerOf, pivotOf, lines, loseOf, remainderOf, substituteOf, solveSquareOf};
 ghost use Rattle.square.specs.Step.{step3, step4};
 
 // 2^-1022
@@ -11,7 +11,7 @@ const MIN_POSITIVE: f64 = 2.2250738585072014e-308;
 
 // The sum of the sizes of l's numbers, on top of acc.
 pub fn sizes(l: &[f64], acc: f64) -> f64
-    ensures { λ r. ⌜ r ≡ sizesOf (now (l .entry)) acc ⌝ }
+    ensures { λ r. ⌜ r ≡ sizeSumOf (now (l .entry)) acc ⌝ }
 {
     let mut a = acc;
     let mut i = 0;
@@ -44,7 +44,7 @@ fn lose(row: &mut [f64], factor: f64, p: &[f64], col: usize)
 // acc less the products of the row's entries, from a place on, with the unknowns found.
 fn rest(row: &[f64], x: &[f64], from: usize, acc: f64) -> f64
     requires { ⌜ length (now row) ≤ length (now x) ⌝ }
-    ensures { λ r. ⌜ r ≡ restOf (now (row .entry)) (now (x .entry)) from acc ⌝ }
+    ensures { λ r. ⌜ r ≡ remainderOf (now (row .entry)) (now (x .entry)) from acc ⌝ }
 {
     let mut a = acc;
     let mut k = from;
@@ -58,7 +58,7 @@ fn rest(row: &[f64], x: &[f64], from: usize, acc: f64) -> f64
 // ---- size 3
 
 fn least3(m: [[f64; 3]; 3], tol: f64) -> f64
-    ensures { λ r. ⌜ r ≡ leastOf 3 m tol ⌝ }
+    ensures { λ r. ⌜ r ≡ leastPivotOf 3 m tol ⌝ }
 {
     let s1 = sizes(&m[0], 0.0);
     let s2 = sizes(&m[1], s1);
@@ -145,7 +145,7 @@ pub fn solve_square3(m: [[f64; 3]; 3], b: [f64; 3], tol: f64) -> Step3
 // ---- size 4
 
 fn least4(m: [[f64; 4]; 4], tol: f64) -> f64
-    ensures { λ r. ⌜ r ≡ leastOf 4 m tol ⌝ }
+    ensures { λ r. ⌜ r ≡ leastPivotOf 4 m tol ⌝ }
 {
     let s1 = sizes(&m[0], 0.0);
     let s2 = sizes(&m[1], s1);

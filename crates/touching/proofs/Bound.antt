@@ -22,7 +22,7 @@ use Rattle.critical.specs.declared.TurningPoint.the-variants.{At, None}
 use Rattle.critical.specs.Critical.{extremumOf}
 use Rattle.poly.specs.RealRoots.{unscaledOf}
 use Rattle.asking.specs.Asking.{Asking, done, ask, _then_, each}
-use Rattle.asking.specs.Within.{Within}
+use Rattle.asking.specs.Within.{EndsWithin}
 use Rattle.asking.proofs.Within.{weaken, either-within, then-within, each-within}
 use Rattle.touching.specs.declared.Chain.{Chain}
 use Rattle.touching.specs.Touching.{touchesAt, pairOrder, reachOf, allApart, apartOf, pairAt, pairTurn, ordered, noChain, openedBy, extendedBy, contactOf, emitted, parted, linkAt, itemTurn, chained, touching}
@@ -42,7 +42,7 @@ sum-ordered (p ∷ ps) its = multiplicities-byValue its
 abbrev pub ListedIn : ℕ → List RealRoot → Type 0
 ListedIn d l = Listed l × (multiplicities l ≤ d)
 
-touches-within : (Q : ℕ → Bool → Type 0) (e : ℤ) (n : ℕ) (y : Float) → ((r : Bool) → Q n r) → Q (suc n) false → Within (suc n) (touchesAt e y) Q
+touches-within : (Q : ℕ → Bool → Type 0) (e : ℤ) (n : ℕ) (y : Float) → ((r : Bool) → Q n r) → Q (suc n) false → EndsWithin (suc n) (touchesAt e y) Q
 unfolding touchesAt
 touches-within Q e n y replied unasked = either-within Q (suc n) (isFiniteOf (unscaledOf e y)) (ask (unscaledOf e y) done) (done false) replied unasked
 
@@ -70,7 +70,7 @@ module _ (poly : Scaled) (tol : Float) where
   abbrev PairsLeft : ℕ → ℕ → ℕ → List RealRoot → List Pair → Type 0
   PairsLeft k d n its ps = (length its + length ps ≤ k) × (length ps + (k - 1) ≤ n) × (multiplicities its + 2 * length ps ≤ d)
 
-  pair-within : (k d n : ℕ) (its : List RealRoot) (p : Pair) (ps : List Pair) → PairsLeft k d n its (p ∷ ps) → Within n (pairTurn poly tol its p) (λ m s. PairsLeft k d m s ps)
+  pair-within : (k d n : ℕ) (its : List RealRoot) (p : Pair) (ps : List Pair) → PairsLeft k d n its (p ∷ ps) → EndsWithin n (pairTurn poly tol its p) (λ m s. PairsLeft k d m s ps)
   unfolding pairTurn pairAt
   pair-within k d zero its p ps i = absurd (no (i .1))
     where
@@ -91,13 +91,13 @@ module _ (poly : Scaled) (tol : Float) where
           let b = sum-snoc (λ (r : RealRoot). r .multiplicity) its (root y x) in
           (omega arith, omega arith, omega arith)
 
-      go : (f : TurningPoint) → Within (suc n) (pairAt poly tol its f) Q
+      go : (f : TurningPoint) → EndsWithin (suc n) (pairAt poly tol its f) Q
       go None = same
       go (At y) =
           let then-add : Bool → Asking (List RealRoot) = λ r. done (its ++ root y (cond r 2 0) ∷ []) in
           either-within Q (suc n) (allApart (apartOf poly tol y) y its) (touchesAt (poly .e) y then then-add) (done its)
           (then-within Q (suc n) (touchesAt (poly .e) y) then-add
-          (touches-within (λ m r. Within m (then-add r) Q) (poly .e) n y
+          (touches-within (λ m r. EndsWithin m (then-add r) Q) (poly .e) n y
           (elim [ true ↦ more n 2 (omega arith) (omega arith) y | false ↦ more n 0 (omega arith) (omega arith) y ])
           (more (suc n) 0 (omega arith) (omega arith) y)))
           same
@@ -107,7 +107,7 @@ module _ (poly : Scaled) (tol : Float) where
   ItemsLeft d n s its = (length its ≤ n + (1 - s .0 .mult)) × Listed (s .1) × (s .0 .mult + (multiplicities its + multiplicities (s .1)) ≤ d)
 
   item-within : (d n : ℕ) (s : Chain × List RealRoot) (it : RealRoot) (its : List RealRoot) → ItemsLeft d n s (it ∷ its)
-      → Within n (itemTurn poly tol s it) (λ m s′. ItemsLeft d m s′ its)
+      → EndsWithin n (itemTurn poly tol s it) (λ m s′. ItemsLeft d m s′ its)
   unfolding itemTurn linkAt
   item-within d n (c, out) it its i = go (eqb (it .multiplicity) 0) (eqb (c .mult) 0) refl refl
     where
@@ -126,7 +126,7 @@ module _ (poly : Scaled) (tol : Float) where
       grows : (n : ℕ) → length its ≤ n → (y : Float) → Q n (extendedBy c it y, out)
       grows n h y = (omega arith, i .1, omega arith)
 
-      linked : (n : ℕ) → suc (length its) ≤ n → (f : TurningPoint) → Within n (linkAt (poly .e) out c it f) Q
+      linked : (n : ℕ) → suc (length its) ≤ n → (f : TurningPoint) → EndsWithin n (linkAt (poly .e) out c it f) Q
       linked zero h f = absurd (no h)
         where
           no : suc (length its) ≤ 0 → ⊥
@@ -136,24 +136,24 @@ module _ (poly : Scaled) (tol : Float) where
           let then-link : Bool → Asking (Chain × List RealRoot) = λ r. done (cond r (extendedBy c it y, out) (parted (poly .e) out c it)) in
           either-within Q (suc n) (lt (c .last) y && lt y (it .value)) (touchesAt (poly .e) y then then-link) (done (parted (poly .e) out c it))
           (then-within Q (suc n) (touchesAt (poly .e) y) then-link
-          (touches-within (λ m r. Within m (then-link r) Q) (poly .e) n y (elim [ true ↦ grows n (omega arith) y | false ↦ parts n (omega arith) ]) (parts (suc n) (omega arith))))
+          (touches-within (λ m r. EndsWithin m (then-link r) Q) (poly .e) n y (elim [ true ↦ grows n (omega arith) y | false ↦ parts n (omega arith) ]) (parts (suc n) (omega arith))))
           (parts (suc n) (omega arith))
 
       between : TurningPoint
       between = extremumOf poly (mul binary64 half64 (add binary64 (c .last) (it .value))) (c .last) (it .value) tol
 
       go : (b e : Bool) → eqb (it .multiplicity) 0 ≡ b → eqb (c .mult) 0 ≡ e
-          → Within n (cond b (done (noChain, emitted (poly .e) out c)) (cond e (done (openedBy it, out)) (linkAt (poly .e) out c it between))) Q
+          → EndsWithin n (cond b (done (noChain, emitted (poly .e) out c)) (cond e (done (openedBy it, out)) (linkAt (poly .e) out c it between))) Q
       go true e h z = ends
       go false true h z = let none = eqb-true (c .mult) 0 z in let some = eqb-false (it .multiplicity) 0 h in (omega (arith, i .0, none, some), i .1, omega arith)
       go false false h z = let some = eqb-false (c .mult) 0 z in linked n (omega (arith, i .0, some)) between
 
-  chained-within : (d n : ℕ) (its : List RealRoot) → length its ≤ n + 1 → multiplicities its ≤ d → Within n (chained poly tol its) (λ m l. ListedIn d l)
+  chained-within : (d n : ℕ) (its : List RealRoot) → length its ≤ n + 1 → multiplicities its ≤ d → EndsWithin n (chained poly tol its) (λ m l. ListedIn d l)
   unfolding chained
   chained-within d n its h s =
       let close : Chain × List RealRoot → Asking (List RealRoot) = λ u. done (emitted (poly .e) (u .1) (u .0)) in
       then-within (λ m l. ListedIn d l) n (each (itemTurn poly tol) (noChain, []) its) close
-      (weaken (λ m u. ItemsLeft d m u []) (λ m u. Within m (close u) (λ m′ l. ListedIn d l)) n (each (itemTurn poly tol) (noChain, []) its) finish
+      (weaken (λ m u. ItemsLeft d m u []) (λ m u. EndsWithin m (close u) (λ m′ l. ListedIn d l)) n (each (itemTurn poly tol) (noChain, []) its) finish
       (each-within (itemTurn poly tol) (ItemsLeft d) (item-within d) its n (noChain, []) (h, tt, omega arith)))
     where
       finish : (m : ℕ) (u : Chain × List RealRoot) → ItemsLeft d m u [] → ListedIn d (emitted (poly .e) (u .1) (u .0))
@@ -161,13 +161,13 @@ module _ (poly : Scaled) (tol : Float) where
 
   -- R roots and P pairs: at most R + 2 P - 1 questions, 0 where there are none; and the list adds to at most the roots and two for each pair
   pub touching-within : (roots : List RealRoot) (pairs : List Pair)
-      → Within ((length roots + 2 * length pairs) - 1) (touching poly tol roots pairs) (λ m l. ListedIn (multiplicities roots + 2 * length pairs) l)
+      → EndsWithin ((length roots + 2 * length pairs) - 1) (touching poly tol roots pairs) (λ m l. ListedIn (multiplicities roots + 2 * length pairs) l)
   unfolding touching
   touching-within roots pairs =
       let next : List RealRoot → Asking (List RealRoot) = λ its. chained poly tol (ordered pairs its) in
       let same = length-pairOrder pairs in
       then-within (λ m l. ListedIn d l) n (each (pairTurn poly tol) roots (pairOrder pairs)) next
-      (weaken (λ m s. PairsLeft k d m s []) (λ m s. Within m (next s) (λ m′ l. ListedIn d l)) n (each (pairTurn poly tol) roots (pairOrder pairs)) after
+      (weaken (λ m s. PairsLeft k d m s []) (λ m s. EndsWithin m (next s) (λ m′ l. ListedIn d l)) n (each (pairTurn poly tol) roots (pairOrder pairs)) after
       (each-within (pairTurn poly tol) (PairsLeft k d) (pair-within k d) (pairOrder pairs) n roots (omega arith, omega arith, omega arith)))
     where
       n : ℕ
@@ -179,7 +179,7 @@ module _ (poly : Scaled) (tol : Float) where
       d : ℕ
       d = multiplicities roots + 2 * length pairs
 
-      after : (m : ℕ) (s : List RealRoot) → PairsLeft k d m s [] → Within m (chained poly tol (ordered pairs s)) (λ m′ l. ListedIn d l)
+      after : (m : ℕ) (s : List RealRoot) → PairsLeft k d m s [] → EndsWithin m (chained poly tol (ordered pairs s)) (λ m′ l. ListedIn d l)
       after m s i =
           let a = length-ordered pairs s in
           let b = sum-ordered pairs s in

@@ -4,7 +4,8 @@ use mathlib.Core.List.{List, [], _∷_, _++_}
 use Prim.Native.Nat.{ℕ, _+_}
 use lib.Dec.{ltb, eqb}
 use lib.IntN.{ℤ}
-use lib.Ieee.{Float, binary64, add, sub, mul, lt}
+use lib.Ieee.{Float, lt}
+use Rattle.float.specs.Rounded.{_+ᶠ_, _-ᶠ_, _*ᶠ_}
 use Rattle.float.specs.Literals.{zero64, half64}
 use Rattle.float.specs.Methods.{absOf, isFiniteOf, minOf}
 use Rattle.scaled.specs.declared.Scaled.{Scaled}
@@ -34,11 +35,11 @@ pairOrder (p ∷ q ∷ r ∷ l) = p ∷ q ∷ r ∷ l
 -- the fold of `reach` about m: r, or half the distance to an item where that is less
 unfoldable pub reachOf : Float → Float → List RealRoot → Float
 reachOf m r [] = r
-reachOf m r (it ∷ l) = reachOf m (minOf r (mul binary64 half64 (absOf (sub binary64 (it .value) m)))) l
+reachOf m r (it ∷ l) = reachOf m (minOf r (half64 *ᶠ absOf (it .value -ᶠ m))) l
 
 -- `.all(|it| (it.0 - y).abs() > b)`
 abbrev pub apartBy : Float → Float → RealRoot → Bool
-apartBy b y it = lt b (absOf (sub binary64 (it .value) y))
+apartBy b y it = lt b (absOf (it .value -ᶠ y))
 
 unfoldable pub allApart : Float → Float → List RealRoot → Bool
 allApart b y [] = true
@@ -47,7 +48,7 @@ allApart b y (it ∷ l) = apartBy b y it && allApart b y l
 module _ (poly : Scaled) (tol : Float) where
   -- how near to y an item takes its place
   abbrev pub apartOf : Float → Float
-  apartOf y = mul binary64 tol (add binary64 (poly .unit) (absOf y))
+  apartOf y = tol *ᶠ (poly .unit +ᶠ absOf y)
 
   -- the pair whose critical point is sought: `continue`, or one more item
   unfoldable pub pairAt : List RealRoot → TurningPoint → Asking (List RealRoot)
@@ -60,7 +61,7 @@ module _ (poly : Scaled) (tol : Float) where
   pairTurn its p =
       let m = p .centre in
       let reach = reachOf m (p .half) its in
-      pairAt its (extremumOf poly m (sub binary64 m reach) (add binary64 m reach) tol)
+      pairAt its (extremumOf poly m (m -ᶠ reach) (m +ᶠ reach) tol)
 
 -- `if pairs.len > 0 { items.sort_unstable_by(|a, b| a.0.total_cmp(&b.0)) }`, where 'ties stay in their earlier order'
 unfoldable pub ordered : List Pair → List RealRoot → List RealRoot
@@ -89,7 +90,7 @@ extendedBy c it y =
 unfoldable pub contactOf : Chain → Float
 contactOf c =
     cond (eqb (c .touching) 0) (c .first)
-    (cond (eqb (c .touching) 1) (c .at) (mul binary64 half64 (add binary64 (c .first) (c .last))))
+    (cond (eqb (c .touching) 1) (c .at) (half64 *ᶠ (c .first +ᶠ c .last)))
 
 -- `if let Some(r) = poly.unscaled(y, mult) { out.push(r) }`
 unfoldable pub emitted : ℤ → List RealRoot → Chain → List RealRoot
@@ -120,7 +121,7 @@ module _ (poly : Scaled) (tol : Float) where
       (done (noChain, emitted (poly .e) out c))
       (cond (eqb (c .mult) 0)
       (done (openedBy it, out))
-      (linkAt (poly .e) out c it (extremumOf poly (mul binary64 half64 (add binary64 (c .last) (it .value))) (c .last) (it .value) tol)))
+      (linkAt (poly .e) out c it (extremumOf poly (half64 *ᶠ (c .last +ᶠ it .value)) (c .last) (it .value) tol)))
 
   -- the loop over the items; the chain at hand ends with the last of them
   unfoldable pub chained : List RealRoot → Asking (List RealRoot)

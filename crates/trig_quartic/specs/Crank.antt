@@ -3,8 +3,9 @@ use mathlib.Core.Bool.{cond}
 use mathlib.Core.List.{List, [], _∷_}
 use Prim.Native.Nat.{ℕ, _+_, _*_, _%_}
 use lib.ListN.{getD, replicate}
-use lib.Ieee.{Float, nan, binary64, add, sub, mul, neg}
+use lib.Ieee.{Float, nan, neg}
 use Rattle.facts.specs.Count.{countUp}
+use Rattle.float.specs.Rounded.{_+ᶠ_, _-ᶠ_, _*ᶠ_}
 use Rattle.float.specs.Literals.{zero64, rootHalf64, one64, two64, four64, six64}
 use Rattle.float.specs.Methods.{absOf, totalLeOf, allFiniteOf}
 use Rattle.trig_quartic.specs.declared.CosSin.{CosSin}
@@ -15,8 +16,8 @@ abbrev pub cosSin : Float → Float → CosSin
 cosSin c s = record { cos = c; sin = s }
 
 -- UNIT: cos and sin of k*PI/4
-unfoldable pub unitOf : ℕ → CosSin
-unitOf k =
+unfoldable pub eighthOf : ℕ → CosSin
+eighthOf k =
     getD
     (cosSin one64 zero64
     ∷ cosSin rootHalf64 rootHalf64
@@ -33,10 +34,10 @@ unitOf k =
 -- f_at(k): the equation's left side at k*PI/4
 unfoldable pub fAtOf : Float → Float → Float → Float → Float → ℕ → Float
 fAtOf a2 b2 c1 d1 e k =
-    let u1 = unitOf (k % 8) in
-    let u2 = unitOf (2 * k % 8) in
-    let double = add binary64 (mul binary64 a2 (u2 .cos)) (mul binary64 b2 (u2 .sin)) in
-    add binary64 (add binary64 (add binary64 double (mul binary64 c1 (u1 .cos))) (mul binary64 d1 (u1 .sin))) e
+    let u1 = eighthOf (k % 8) in
+    let u2 = eighthOf (2 * k % 8) in
+    let double = a2 *ᶠ u2 .cos +ᶠ b2 *ᶠ u2 .sin in
+    double +ᶠ c1 *ᶠ u1 .cos +ᶠ d1 *ᶠ u1 .sin +ᶠ e
 
 -- (k, largest) after one more sample, at j: 'on equal sizes the last sample wins; a NaN counts as larger than infinity'
 abbrev pub sampledOf : Float → Float → Float → Float → Float → ℕ → ℕ × Float → ℕ × Float
@@ -49,17 +50,17 @@ sampleOf a2 b2 c1 d1 e = countUp 8 (sampledOf a2 b2 c1 d1 e) 7 (0, absOf (fAtOf 
 -- q, ascending: the equation in s = t - k*PI/4, and then in u
 unfoldable pub quarticOf : Float → Float → Float → Float → Float → ℕ → List Float
 quarticOf a2 b2 c1 d1 e k =
-    let u1 = unitOf k in
-    let u2 = unitOf (2 * k % 8) in
-    let a = add binary64 (mul binary64 a2 (u2 .cos)) (mul binary64 b2 (u2 .sin)) in
-    let b = sub binary64 (mul binary64 b2 (u2 .cos)) (mul binary64 a2 (u2 .sin)) in
-    let c = add binary64 (mul binary64 c1 (u1 .cos)) (mul binary64 d1 (u1 .sin)) in
-    let d = sub binary64 (mul binary64 d1 (u1 .cos)) (mul binary64 c1 (u1 .sin)) in
-    add binary64 (add binary64 a c) e
-    ∷ add binary64 (mul binary64 four64 b) (mul binary64 two64 d)
-    ∷ add binary64 (mul binary64 (neg six64) a) (mul binary64 two64 e)
-    ∷ add binary64 (mul binary64 (neg four64) b) (mul binary64 two64 d)
-    ∷ add binary64 (sub binary64 a c) e
+    let u1 = eighthOf k in
+    let u2 = eighthOf (2 * k % 8) in
+    let a = a2 *ᶠ u2 .cos +ᶠ b2 *ᶠ u2 .sin in
+    let b = b2 *ᶠ u2 .cos -ᶠ a2 *ᶠ u2 .sin in
+    let c = c1 *ᶠ u1 .cos +ᶠ d1 *ᶠ u1 .sin in
+    let d = d1 *ᶠ u1 .cos -ᶠ c1 *ᶠ u1 .sin in
+    a +ᶠ c +ᶠ e
+    ∷ four64 *ᶠ b +ᶠ two64 *ᶠ d
+    ∷ neg six64 *ᶠ a +ᶠ two64 *ᶠ e
+    ∷ neg four64 *ᶠ b +ᶠ two64 *ᶠ d
+    ∷ a -ᶠ c +ᶠ e
     ∷ []
 
 -- a refusal: its number, and no quartic

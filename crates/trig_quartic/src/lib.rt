@@ -2,7 +2,7 @@
 // It rests on `float`; the crank's inquiry and the C functions rest on it.
 ghost use mathlib.Core.Path.{_≡_};
 ghost use Prim.Native.Nat.{_<_};
-ghost use Rattle.trig_quartic.specs.Crank.{unitOf, fAtOf, sampleOf, quarticOf, noCrank, crankFrontOf};
+ghost use Rattle.trig_quartic.specs.Crank.{eighthOf, fAtOf, sampleOf, quarticOf, noCrank, crankFrontOf};
 
 struct CosSin {
     cos: f64,
@@ -14,7 +14,7 @@ const H: f64 = 0.7071067811865476;
 // UNIT: cos and sin of k*PI/4.
 fn unit(k: usize) -> CosSin
     requires { ⌜ k < 8 ⌝ }
-    ensures { λ r. ⌜ r ≡ unitOf k ⌝ }
+    ensures { λ r. ⌜ r ≡ eighthOf k ⌝ }
 {
     match k {
         0 => CosSin { cos: 1.0, sin: 0.0 },

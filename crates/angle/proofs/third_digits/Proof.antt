@@ -5,7 +5,7 @@ use Prim.Native.Nat.{ℕ}
 use native.Mathlib.Omega.{arith}
 use lib.Ieee.{ofBits}
 use Rattle.decode.proofs.Class.{decoded-normal}
-use Rattle.nearest.specs.Greatest.{Half}
+use Rattle.nearest.specs.Greatest.{NearestHalf}
 use Rattle.angle.specs.Parts.{cosLe}
 use Rattle.angle.proofs.Cases.{digits-zero, digits-none, digits-inside, digits-above, digits-one}
 use borrow.Author.Needs.{needs}
@@ -29,7 +29,7 @@ returns-3 : tie.Need-returns-3
 unfolding ofBits
 returns-3 c =
     digits-inside _ _ _ (c .before .before .before .before .before .before .before .normal-of .ensures) (c .before .before .before .before .before .if2 .left) _ refl (c .before .before .before .if3 .taken) _
-    (subst (λ (x : ℕ). Half (cosLe x) (c .near-cos .result)) (c .before .level .ensures .0) (c .near-cos .ensures))
+    (subst (λ (x : ℕ). NearestHalf (cosLe x) (c .near-cos .result)) (c .before .level .ensures .0) (c .near-cos .ensures))
 
 returns-4 : tie.Need-returns-4
 returns-4 c = digits-above _ _ _ (c .before .before .before .before .before .before .normal-of .ensures) (c .before .before .before .before .if2 .left) (c .before .before .if3 .left) (inl (c .if4 .taken))

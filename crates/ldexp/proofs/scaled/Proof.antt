@@ -3,13 +3,13 @@ use mathlib.Core.Path.{_≡_, refl, sym, ap, _∙_}
 use native.Mathlib.Omega.{arith}
 use Prim.Native.Nat.{_-_}
 use lib.Ieee.{Float, binary64, mul}
-use Rattle.ldexp.specs.Scale.{scaledOf}
+use Rattle.ldexp.specs.Scale.{timesPowerOf}
 use Rattle.ldexp.proofs.Chain.{all-steady, all-last, all-step, by-sign}
 use Rattle.ldexp.proofs.scaled.Statement.{statement}
 use Rattle.ldexp.proofs.scaled.Tie as tie
 
 abbrev Inv-loop : tie.InvT-loop
-Inv-loop x below n y₀ k₀ y k = scaledOf below n x ≡ scaledOf below k y
+Inv-loop x below n y₀ k₀ y k = timesPowerOf below n x ≡ timesPowerOf below k y
 
 abbrev μ-loop : tie.MeasureT-loop
 μ-loop x below n y₀ k₀ y k = k
@@ -37,7 +37,7 @@ loop-again c =
     let a = c .before .before .before .before in
     a .loop .inv
     ∙ all-step _ (a .loop .k) (a .loop .y) (c .before .before .before .loop-test .taken)
-    ∙ ap (λ (p : Float). scaledOf (a .before .args .below) (a .loop .k - 1000) (mul binary64 (a .loop .y) p)) (sym (c .power .ensures))
+    ∙ ap (λ (p : Float). timesPowerOf (a .before .args .below) (a .loop .k - 1000) (mul binary64 (a .loop .y) p)) (sym (c .power .ensures))
 
 power-requires-2 : tie.Need-power-requires-2 Inv-loop μ-loop
 power-requires-2 c κs = (omega arith, λ e. omega arith)

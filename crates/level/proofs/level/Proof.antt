@@ -5,7 +5,7 @@ use Prim.Native.Nat.{ℕ, _-_, _≤_, _<_}
 use native.Mathlib.Omega.{arith}
 use borrow.Author.Tests.{leb-true}
 use lib.Arith.{lt-of-le-ne}
-use Rattle.level.specs.Level.{Seen}
+use Rattle.level.specs.Level.{SpanSeen}
 use Rattle.level.proofs.Turns.{seen-start, seen-more, seen-all}
 use Rattle.level.proofs.None.{level-none}
 use borrow.Author.Needs.{needs}
@@ -13,7 +13,7 @@ use Rattle.level.proofs.level.Statement.{statement}
 use Rattle.level.proofs.level.Tie as tie
 
 abbrev Inv-loop : tie.InvT-loop
-Inv-loop d a first last s lo₀ hi₀ i₀ lo hi i = (1 ≤ i) × (i ≤ d) × (hi < 100000) × (lo < 100000) × Seen a d s lo hi i
+Inv-loop d a first last s lo₀ hi₀ i₀ lo hi i = (1 ≤ i) × (i ≤ d) × (hi < 100000) × (lo < 100000) × SpanSeen a d s lo hi i
 
 abbrev μ-loop : tie.MeasureT-loop
 μ-loop d a first last s lo₀ hi₀ i₀ lo hi i = d - i

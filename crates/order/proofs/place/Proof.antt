@@ -4,19 +4,19 @@ use mathlib.Core.Path.{_≡_, sym, _∙_}
 use native.Mathlib.Nat.{sub-zero}
 use Prim.Native.Nat.{_-_, _≤_}
 use lib.ListN.{getD}
-use Rattle.order.specs.Order.{keysBefore, falls, firstFrom, placeOf}
+use Rattle.order.specs.Order.{keysBefore, falls, firstFrom, insertionOf}
 use Rattle.order.proofs.Laws.{first-go, first-stop, first-end}
 use Rattle.order.proofs.place.Statement.{statement}
 use Rattle.order.proofs.place.Tie as tie
 
 abbrev Inv-loop : tie.InvT-loop
-Inv-loop i key at p₀ p = (p ≤ i) × (firstFrom (λ q. keysBefore falls key (getD at q 0) i) p (i - p) ≡ placeOf falls key at i)
+Inv-loop i key at p₀ p = (p ≤ i) × (firstFrom (λ q. keysBefore falls key (getD at q 0) i) p (i - p) ≡ insertionOf falls key at i)
 
 abbrev μ-loop : tie.MeasureT-loop
 μ-loop i key at p₀ p = i - p
 
 loop-holds : tie.Need-loop-holds Inv-loop μ-loop
-unfolding placeOf
+unfolding insertionOf
 loop-holds c = (search needs, simp sub-zero)
 
 mul-total-le-2 : tie.Need-mul-total-le-2 Inv-loop μ-loop

@@ -3,14 +3,14 @@ use mathlib.Core.Path.{_≡_, refl, ap, sym, _∙_}
 use Prim.Native.Nat.{_≤_}
 use lib.ListN.{length}
 use Rattle.facts.specs.Count.{countDown, down-turn, down-end}
-use Rattle.quotient.specs.Quotient.{termOf, nextAt}
+use Rattle.quotient.specs.Quotient.{productTermOf, nextAt}
 use Rattle.quotient.proofs.Terms.{term-there, term-after, term-before}
 use borrow.Author.Needs.{needs}
 use Rattle.quotient.proofs.next_at.Statement.{statement}
 use Rattle.quotient.proofs.next_at.Tie as tie
 
 abbrev Inv-loop : tie.InvT-loop
-Inv-loop dl f k l acc₀ j₀ acc j = (j ≤ length f) × (countDown (termOf l dl f k) j acc ≡ nextAt l dl f k)
+Inv-loop dl f k l acc₀ j₀ acc j = (j ≤ length f) × (countDown (productTermOf l dl f k) j acc ≡ nextAt l dl f k)
 
 abbrev μ-loop : tie.MeasureT-loop
 μ-loop dl f k l acc₀ j₀ acc j = j

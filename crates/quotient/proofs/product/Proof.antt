@@ -4,14 +4,14 @@ use Prim.Native.Nat.{_+_, _-_, _*_, _≤_}
 use native.Mathlib.Omega.{arith}
 use native.Mathlib.Nat.{sub-zero}
 use Rattle.facts.specs.Count.{countUp, up-turn, up-end}
-use Rattle.quotient.specs.Quotient.{mulLin, mulQuad, one, productOf}
+use Rattle.quotient.specs.Quotient.{mulLin, mulQuad, monicOne, productOf}
 use Rattle.quotient.proofs.Terms.{mul-degree}
 use borrow.Author.Needs.{needs}
 use Rattle.quotient.proofs.product.Statement.{statement}
 use Rattle.quotient.proofs.product.Tie as tie
 
 abbrev Inv-loop : tie.InvT-loop
-Inv-loop large p₀ i₀ p i = (i ≤ large .nlin) × (p .dl ≡ i) × (countUp (large .nlin) (mulLin large) (large .nlin - i) p ≡ countUp (large .nlin) (mulLin large) (large .nlin) one)
+Inv-loop large p₀ i₀ p i = (i ≤ large .nlin) × (p .dl ≡ i) × (countUp (large .nlin) (mulLin large) (large .nlin - i) p ≡ countUp (large .nlin) (mulLin large) (large .nlin) monicOne)
 
 abbrev μ-loop : tie.MeasureT-loop
 μ-loop large p₀ i₀ p i = large .nlin - i

@@ -4,19 +4,19 @@ use Prim.Native.Nat.{_-_, _≤_}
 use native.Mathlib.Nat.{sub-zero}
 use lib.ListN.{length}
 use Rattle.facts.specs.Count.{countUp, up-turn, up-end}
-use Rattle.square.specs.Square.{sizesStep, sizesOf}
+use Rattle.square.specs.Square.{sizeSumStep, sizeSumOf}
 use borrow.Author.Needs.{needs}
 use Rattle.square.proofs.sizes.Statement.{statement}
 use Rattle.square.proofs.sizes.Tie as tie
 
 abbrev Inv-loop : tie.InvT-loop
-Inv-loop l acc a₀ i₀ a i = (i ≤ length l) × (countUp (length l) (sizesStep l) (length l - i) a ≡ sizesOf l acc)
+Inv-loop l acc a₀ i₀ a i = (i ≤ length l) × (countUp (length l) (sizeSumStep l) (length l - i) a ≡ sizeSumOf l acc)
 
 abbrev μ-loop : tie.MeasureT-loop
 μ-loop l acc a₀ i₀ a i = length l - i
 
 loop-holds : tie.Need-loop-holds Inv-loop μ-loop
-unfolding sizesOf
+unfolding sizeSumOf
 loop-holds c = (search needs, simp sub-zero)
 
 loop-again : tie.Need-loop-again Inv-loop μ-loop

@@ -2,40 +2,40 @@
 use mathlib.Core.Path.{_≡_}
 use Prim.Native.Nat.{_<_}
 use native.Mathlib.Omega.{arith}
-use Rattle.trig_quartic.specs.Crank.{unitOf}
+use Rattle.trig_quartic.specs.Crank.{eighthOf}
 use Rattle.trig_quartic.proofs.unit.Statement.{statement}
 use Rattle.trig_quartic.proofs.unit.Tie as tie
 
 returns : tie.Need-returns
-unfolding unitOf
+unfolding eighthOf
 returns c = rw (c .match .keys1)
 
 returns-2 : tie.Need-returns-2
-unfolding unitOf
+unfolding eighthOf
 returns-2 c = rw (c .match .keys2)
 
 returns-3 : tie.Need-returns-3
-unfolding unitOf
+unfolding eighthOf
 returns-3 c = rw (c .match .keys3)
 
 returns-4 : tie.Need-returns-4
-unfolding unitOf
+unfolding eighthOf
 returns-4 c = rw (c .match .keys4)
 
 returns-5 : tie.Need-returns-5
-unfolding unitOf
+unfolding eighthOf
 returns-5 c = rw (c .match .keys5)
 
 returns-6 : tie.Need-returns-6
-unfolding unitOf
+unfolding eighthOf
 returns-6 c = rw (c .match .keys6)
 
 returns-7 : tie.Need-returns-7
-unfolding unitOf
+unfolding eighthOf
 returns-7 c = rw (c .match .keys7)
 
 returns-8 : tie.Need-returns-8
-unfolding unitOf
+unfolding eighthOf
 returns-8 c =
     let other = c .match .rest in
     let above : 3 < c .before .args .k = omega (arith, other .0 .0 .0) in

@@ -7,7 +7,7 @@ use mathlib.Core.List.{[]}
 use native.Mathlib.Omega.{arith}
 use mir.Facts.{toZ-ofZ}
 use Rattle.text.proofs.Laws.{written-none, written-as}
-use Rattle.leafcases.specs.Lines.{answerOf}
+use Rattle.leafcases.specs.Lines.{leafAnswerOf}
 use Rattle.leafcases.proofs.Answers.{sqrt-line, cbrt-line, third-line, log2-line, ldexp-line, exponent-line, pow2-line}
 use Rattle.leafcases.proofs.lines.put_answer.Statement.{statement}
 use Rattle.leafcases.proofs.lines.put_answer.Tie as tie
@@ -62,10 +62,10 @@ returns-7 c =
     (written-as (pow2-line (start .args .letter) (start .args .x) (start .args .k) _ (leaf .leaf-pow2 .result) (leaf .before .if7 .taken) (toZ-ofZ (start .fits .k)) (leaf .leaf-pow2 .ensures)) (put .0), put .1)
 
 returns-8 : tie.Need-returns-8
-unfolding answerOf
+unfolding leafAnswerOf
 returns-8 c =
     let a = c .before .before .before .before .before .before .before .before .args in
-    let none : answerOf (a .letter) (a .x) (a .k) ≡ [] = simp (ne-eqb _ _ (c .before .before .before .before .before .before .if1 .left), ne-eqb _ _ (c .before .before .before .before .before .if2 .left), ne-eqb _ _ (c .before .before .before .before .if3 .left), ne-eqb _ _ (c .before .before .before .if4 .left), ne-eqb _ _ (c .before .before .if5 .left), ne-eqb _ _ (c .before .if6 .left), ne-eqb _ _ (c .if7 .left)) in
+    let none : leafAnswerOf (a .letter) (a .x) (a .k) ≡ [] = simp (ne-eqb _ _ (c .before .before .before .before .before .before .if1 .left), ne-eqb _ _ (c .before .before .before .before .before .if2 .left), ne-eqb _ _ (c .before .before .before .before .if3 .left), ne-eqb _ _ (c .before .before .before .if4 .left), ne-eqb _ _ (c .before .before .if5 .left), ne-eqb _ _ (c .before .if6 .left), ne-eqb _ _ (c .if7 .left)) in
     (written-as (sym none) (written-none (a .out .now) (a .at)), omega arith)
 
 pub put-answer-spec : {M : Type 1} → statement M

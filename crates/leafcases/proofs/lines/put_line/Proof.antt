@@ -3,7 +3,7 @@
 use borrow.Author.Needs.{needs}
 use native.Mathlib.Omega.{arith}
 use Rattle.text.proofs.Laws.{written-then}
-use Rattle.leafcases.specs.Lines.{lineOf}
+use Rattle.leafcases.specs.Lines.{leafLineOf}
 use Rattle.leafcases.proofs.lines.put_line.Statement.{statement}
 use Rattle.leafcases.proofs.lines.put_line.Tie as tie
 
@@ -23,7 +23,7 @@ put-byte-requires : tie.Need-put-byte-requires
 put-byte-requires c κs = omega arith
 
 returns : tie.Need-returns
-unfolding lineOf
+unfolding leafLineOf
 returns c =
     let word3 = c .before .before .before .before .before .before in
     let word2 = word3 .before .before .before .before in

@@ -14,7 +14,7 @@ use mir.Val.{toZ, ofZ}
 use mir.Facts.{toZ-ofZ}
 use Rattle.ldexp.specs.Scale.{signed}
 use Rattle.text.proofs.Laws.{written-none, written-as}
-use Rattle.leafcases.specs.Lines.{answerOf, sizeAt, recordOf}
+use Rattle.leafcases.specs.Lines.{leafAnswerOf, sizeAt, leafRecordOf}
 use Rattle.leafcases.proofs.Records.{too-short, too-large, no-sign, record-is}
 use Rattle.leafcases.proofs.lines.put_record.Statement.{statement}
 use Rattle.leafcases.proofs.lines.put_record.Tie as tie
@@ -26,7 +26,7 @@ size-is c = ap (λ (n : ℕ). n / 2 ^ 32) (c .u64-at .ensures)
 -- the line, from what was read
 line-is : (c : tie.After-with-sign)
     → let a = c .before .before .before .before .before .before .before .before .before .before .before .before .args in
-    recordOf (a .s .now) (a .at) ≡ answerOf (getD (a .s .now) (a .at) 0) (c .before .before .before .f64-at .result) (toZ w32 (ofZ w32 (c .with-sign .result)))
+    leafRecordOf (a .s .now) (a .at) ≡ leafAnswerOf (getD (a .s .now) (a .at) 0) (c .before .before .before .f64-at .result) (toZ w32 (ofZ w32 (c .with-sign .result)))
 line-is c =
     let sign = c .before .before .before .before .before in
     let size = sign .before .before .before in
@@ -37,8 +37,8 @@ line-is c =
     let k : toZ w32 (ofZ w32 (c .with-sign .result)) ≡ signed (eqb (getD s (at + 9) 0) 45) (sizeAt s at) =
     toZ-ofZ (record { sfits = c .with-sign .ok }) ∙ c .with-sign .ensures ∙ ap (λ (n : ℕ). signed (eqb (getD s (at + 9) 0) 45) n) (size-is size) in
     record-is s at (size .before .if1 .left) small (sym (sign .is-sign .ensures) ∙ not-false (sign .is-sign .result) (c .before .before .before .before .if3 .left))
-    ∙ ap (λ (x : Float). answerOf (getD s at 0) x (signed (eqb (getD s (at + 9) 0) 45) (sizeAt s at))) (sym (c .before .before .before .f64-at .ensures))
-    ∙ ap (λ (z : ℤ). answerOf (getD s at 0) (c .before .before .before .f64-at .result) z) (sym k)
+    ∙ ap (λ (x : Float). leafAnswerOf (getD s at 0) x (signed (eqb (getD s (at + 9) 0) 45) (sizeAt s at))) (sym (c .before .before .before .f64-at .ensures))
+    ∙ ap (λ (z : ℤ). leafAnswerOf (getD s at 0) (c .before .before .before .f64-at .result) z) (sym k)
 
 returns : tie.Need-returns
 returns c =
