@@ -1,6 +1,5 @@
 -- Replies that are put in at once and walked once show what they show one by one: the first that is not needed is refused, and so is each after it.
--- Assumes nothing.
-use mathlib.Core.Path.{_≡_, refl, sym, ap, _∙_}
+use mathlib.Core.Path.{_≡_, refl, sym, ap, _∙_, subst⁻¹}
 use mathlib.Core.Bool.{Bool, true, false}
 use mathlib.Core.List.{List, [], _∷_, _++_}
 use Prim.Native.Nat.{ℕ, zero, suc, _+_, _≤_, _<_}
@@ -9,6 +8,8 @@ use lib.ListN.{length, take, length-take}
 use lib.Ieee.{Float}
 use Rattle.facts.specs.Lists.{length-snoc}
 use Rattle.roots.specs.declared.RealRoot.{RealRoot}
+use Rattle.roots.specs.Listed.{Fits}
+use Rattle.poly.specs.Short.{shortOf}
 use Rattle.asking.specs.Asking.{Asking, Stage, asks, ended, walked, leftBy}
 use Rattle.asking.proofs.Laws.{ended-more, asks-more, none-left}
 use Rattle.touching.specs.declared.Replies.{Replies}
@@ -17,16 +18,22 @@ use Rattle.inquiry.specs.declared.Inquiry.{Inquiry}
 use Rattle.inquiry.specs.declared.Asked.{Asked}
 use Rattle.inquiry.specs.declared.Replied.{Replied}
 use Rattle.inquiry.specs.declared.Seen.{Seen}
+use Rattle.inquiry.specs.declared.Started.{Started}
+use Rattle.inquiry.specs.declared.ShownAfter.{ShownAfter}
 use Rattle.inquiry.specs.Inquiry.{shown, overBy, seenAt, askedOf, seenOf}
-use Rattle.inquiry.specs.Start.{realRootsTouching, startOf}
+use Rattle.inquiry.specs.Start.{realRootsTouching, startOf, given, shownAfterOf}
 use Rattle.inquiry.proofs.Questions.{reply-taken, reply-refused}
+use Rattle.inquiry.proofs.Shown.{seen-fits}
+use Rattle.inquiry.proofs.Short.{short-starts}
 use Rattle.inquiry.proofs.Theorem.{Has, has-seen, has-asked, has-more, start-has, start-room}
+use Rattle.trig_quartic.specs.declared.Crank.{Crank}
 use Rattle.trig_quartic.specs.Crank.{crankFrontOf}
 use Rattle.crank.specs.declared.CrankReplied.{CrankReplied}
-use Rattle.crank.specs.Crank.{crankStartOf, crankAskedOf, crankRepliedOf}
+use Rattle.crank.specs.declared.CrankShown.{CrankShown}
+use Rattle.crank.specs.Crank.{crankStartOf, crankAskedOf, crankRepliedOf, crankShownOf}
 use Rattle.lent_bytes.specs.Numbers.{number}
-use Rattle.c_roots.specs.Inquiries.{replyAt, eachReply, fresh, next, fedAll, inquiryNumbers, noReplies, firstReplies, given, seenNumbers, numbersAfter}
-use Rattle.c_roots.specs.Cranks.{nextCrank, crankNumbers, shownAfter, crankNumbersAfter}
+use Rattle.c_roots.specs.Inquiries.{replyAt, eachReply, fresh, next, fedAll, inquiryNumbers, noReplies, firstReplies, seenNumbers}
+use Rattle.c_roots.specs.Cranks.{nextCrank, crankNumbers, shownAfter, crankShownNumbers}
 
 -- ---- an inquiry that asks nothing refuses each reply
 refuses : (rs : List ℕ) (p : Inquiry) → askedOf p .asking ≡ false
@@ -92,11 +99,31 @@ module _ (coeffs : List Float) (tol : Float) (rs : List ℕ) where
   abbrev q : Inquiry
   q = startOf coeffs tol .inquiry
 
-  pub fed-once : numbersAfter rs q ≡ inquiryNumbers (fedAll rs q)
-  unfolding startOf numbersAfter firstReplies inquiryNumbers
+  fed-once : seenNumbers (shownAfterOf coeffs tol (firstReplies rs) .seen) ≡ inquiryNumbers (fedAll rs q)
+  unfolding startOf shownAfterOf firstReplies inquiryNumbers
   fed-once =
       let t = realRootsTouching coeffs tol in
       sym (ap seenNumbers (once q t (start-room coeffs tol) rs 3 [] noReplies (start-has coeffs tol) refl (none-left t)))
+
+-- what `shown_after` gives for the six numbers in place of the coefficients
+module _ (coeffs : List Float) (tol : Float) (rs : List ℕ) (s : ShownAfter) (is : s ≡ shownAfterOf (shortOf coeffs) tol (firstReplies rs)) where
+  abbrev start : Started
+  start = startOf coeffs tol
+
+  pub shown-fits : Fits (s .seen .asked .list)
+  unfolding shownAfterOf
+  shown-fits = subst⁻¹ (λ (t : ShownAfter). Fits (t .seen .asked .list)) is (seen-fits _)
+
+  short-shows : s ≡ shownAfterOf coeffs tol (firstReplies rs)
+  unfolding shownAfterOf
+  short-shows = is ∙ ap (λ (t : Started). record { number = t .number; seen = seenOf (given (t .inquiry) (firstReplies rs)) }) (short-starts coeffs tol)
+
+  pub shown-number : s .number ≡ start .number
+  unfolding shownAfterOf
+  shown-number = ap (λ (t : ShownAfter). t .number) short-shows
+
+  pub shown-numbers : seenNumbers (s .seen) ≡ inquiryNumbers (fedAll rs (start .inquiry))
+  shown-numbers = ap (λ (t : ShownAfter). seenNumbers (t .seen)) short-shows ∙ fed-once coeffs tol rs
 
 -- ---- a crank's inquiry, k beside it
 abbrev beside : ℕ → Replied → CrankReplied
@@ -107,10 +134,21 @@ unfolding eachReply crankRepliedOf
 crank-fed k [] p = refl
 crank-fed k (b ∷ rs) p = crank-fed k rs (next p (replyAt b))
 
-pub crank-once : (confusion a2 b2 c1 d1 e : Float) (rs : List ℕ)
-    → crankNumbersAfter rs (crankStartOf confusion a2 b2 c1 d1 e .crank) ≡ shownAfter rs (crankStartOf confusion a2 b2 c1 d1 e)
-unfolding crankStartOf crankNumbers crankAskedOf inquiryNumbers
-crank-once confusion a2 b2 c1 d1 e rs =
-    let f = crankFrontOf a2 b2 c1 d1 e in
-    ap (λ (l : List Float). number (f .k) ∷ l) (fed-once (f .q) confusion rs)
-    ∙ sym (ap crankNumbers (crank-fed (f .k) rs (fresh (startOf (f .q) confusion .inquiry))))
+module _ (confusion a2 b2 c1 d1 e : Float) (rs : List ℕ) (s : CrankShown) (is : s ≡ crankShownOf confusion a2 b2 c1 d1 e (firstReplies rs)) where
+  abbrev front : Crank
+  front = crankFrontOf a2 b2 c1 d1 e
+
+  pub crank-fits : Fits (s .seen .asked .list)
+  unfolding crankShownOf
+  crank-fits = subst⁻¹ (λ (t : CrankShown). Fits (t .seen .asked .list)) is (seen-fits _)
+
+  pub crank-number : s .number ≡ crankStartOf confusion a2 b2 c1 d1 e .number
+  unfolding crankShownOf
+  crank-number = ap (λ (t : CrankShown). t .number) is
+
+  pub crank-numbers : crankShownNumbers s ≡ shownAfter rs (crankStartOf confusion a2 b2 c1 d1 e)
+  unfolding crankStartOf crankShownOf shownAfterOf crankNumbers crankAskedOf inquiryNumbers
+  crank-numbers =
+      ap crankShownNumbers is
+      ∙ ap (λ (l : List Float). number (front .k) ∷ l) (fed-once (front .q) confusion rs)
+      ∙ sym (ap crankNumbers (crank-fed (front .k) rs (fresh (startOf (front .q) confusion .inquiry))))

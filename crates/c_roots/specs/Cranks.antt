@@ -6,9 +6,10 @@ use lib.Ieee.{Float}
 use Rattle.crank.specs.declared.CrankInquiry.{CrankInquiry}
 use Rattle.crank.specs.declared.CrankStarted.{CrankStarted}
 use Rattle.crank.specs.declared.CrankReplied.{CrankReplied}
+use Rattle.crank.specs.declared.CrankShown.{CrankShown}
 use Rattle.crank.specs.Crank.{crankAskedOf, crankRepliedOf}
 use Rattle.lent_bytes.specs.Numbers.{number}
-use Rattle.c_roots.specs.Inquiries.{eachReply, shownNumbers, numbersAfter}
+use Rattle.c_roots.specs.Inquiries.{eachReply, shownNumbers, seenNumbers}
 
 abbrev pub nextCrank : CrankReplied → Bool → CrankReplied
 nextCrank p reply = crankRepliedOf (p .crank) reply
@@ -24,6 +25,6 @@ crankNumbers p = let a = crankAskedOf (p .crank) in number (a .k) ∷ shownNumbe
 abbrev pub shownAfter : List ℕ → CrankStarted → List Float
 shownAfter rs s = crankNumbers (crankFedAll rs (s .crank))
 
--- the same with the replies put in at once
-abbrev pub crankNumbersAfter : List ℕ → CrankInquiry → List Float
-crankNumbersAfter rs c = number (c .k) ∷ numbersAfter rs (c .inquiry)
+-- the same of replies that were put in at once
+abbrev pub crankShownNumbers : CrankShown → List Float
+crankShownNumbers s = number (s .k) ∷ seenNumbers (s .seen)

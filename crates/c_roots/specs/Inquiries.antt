@@ -12,7 +12,7 @@ use Rattle.inquiry.specs.declared.Inquiry.{Inquiry}
 use Rattle.inquiry.specs.declared.Started.{Started}
 use Rattle.inquiry.specs.declared.Replied.{Replied}
 use Rattle.inquiry.specs.declared.Seen.{Seen}
-use Rattle.inquiry.specs.Inquiry.{askedOf, repliedOf, seenOf}
+use Rattle.inquiry.specs.Inquiry.{askedOf, repliedOf}
 use Rattle.inquiry.specs.Start.{startOf}
 use Rattle.lent_bytes.specs.Bytes.{unless}
 use Rattle.lent_bytes.specs.Numbers.{number, flagOf}
@@ -67,11 +67,5 @@ noReplies = record { reply = replicate 4 false; count = 0 }
 unfoldable pub firstReplies : List ℕ → Replies
 firstReplies rs = eachReply repliedBy (take 4 rs) noReplies
 
-abbrev pub given : Inquiry → Replies → Inquiry
-given q s = record { poly = q .poly; tol = q .tol; roots = q .roots; pairs = q .pairs; replies = s }
-
 abbrev pub seenNumbers : Seen → List Float
 seenNumbers s = let a = s .asked in shownNumbers (s .number) (a .asking) (a .place) (a .list)
-
-unfoldable pub numbersAfter : List ℕ → Inquiry → List Float
-numbersAfter rs q = seenNumbers (seenOf (given q (firstReplies rs)))

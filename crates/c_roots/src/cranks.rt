@@ -3,17 +3,20 @@
 ghost use mathlib.Core.Path.{_≡_};
 ghost use Rattle.crank.specs.Crank.{crankStartOf};
 ghost use Rattle.lent_bytes.specs.Bytes.{Answered};
-ghost use Rattle.c_roots.specs.Cranks.{crankNumbersAfter, shownAfter};
-use crate::inquiries::numbers_after;
-use crank::CrankInquiry;
+ghost use Rattle.roots.specs.Listed.{Fits};
+ghost use Rattle.c_roots.specs.Cranks.{crankShownNumbers, shownAfter};
+use crate::inquiries::first_replies;
+use crate::inquiries::seen_numbers;
+use crank::CrankShown;
 use lent_bytes::answer;
 
-fn crank_numbers_after(crank: CrankInquiry, replies: &[u8]) -> [f64; 13]
-    ensures { λ r. ⌜ r ≡ crankNumbersAfter (now (replies .entry)) crank ⌝ }
+fn crank_shown_numbers(s: CrankShown) -> [f64; 13]
+    requires { ⌜ Fits (s .seen .asked .list) ⌝ }
+    ensures { λ r. ⌜ r ≡ crankShownNumbers s ⌝ }
 {
-    let shown = numbers_after(crank.inquiry, replies);
+    let shown = seen_numbers(s.seen);
     [
-        crank.k as f64,
+        s.k as f64,
         shown[0],
         shown[1],
         shown[2],
@@ -42,6 +45,6 @@ pub extern "C" fn crank_inquire(
 ) -> u64
     ensures { λ r. ⌜ Answered (crankStartOf confusion a2 b2 c1 d1 e .number) (shownAfter (now (replies .entry)) (crankStartOf confusion a2 b2 c1 d1 e)) (now (out .entry)) r (now (out .exit)) ⌝ }
 {
-    let s = crank::start(confusion, a2, b2, c1, d1, e);
-    answer(out, s.number, &crank_numbers_after(s.crank, replies))
+    let s = crank::shown_after(confusion, a2, b2, c1, d1, e, first_replies(replies));
+    answer(out, s.number, &crank_shown_numbers(s))
 }

@@ -4,10 +4,10 @@
 ghost use mathlib.Core.Path.{_≡_};
 ghost use Rattle.roots.specs.Listed.{Fits};
 ghost use Rattle.lent_bytes.specs.Bytes.{Answered};
-ghost use Rattle.c_roots.specs.Inquiries.{shownNumbers, firstReplies, numbersAfter, inquiryRefusal, shownAt};
+ghost use Rattle.c_roots.specs.Inquiries.{shownNumbers, firstReplies, seenNumbers, inquiryRefusal, shownAt};
 use crate::lists::not_doubles;
 use c_clusters::root_numbers;
-use inquiry::Inquiry;
+use inquiry::Seen;
 use lent_bytes::answer;
 use lent_bytes::flag;
 use lent_coefficients::short_at;
@@ -15,7 +15,7 @@ use roots::Roots;
 use touching::Replies;
 
 // Those after the first four are left out: at most three questions are asked, so that each is refused, as the fourth is.
-fn first_replies(replies: &[u8]) -> Replies
+pub fn first_replies(replies: &[u8]) -> Replies
     ensures { λ r. ⌜ r ≡ firstReplies (now (replies .entry)) ⌝ }
 {
     let mut first = Replies {
@@ -56,14 +56,10 @@ fn shown_numbers(number: u32, asks: bool, place: f64, list: Roots) -> [f64; 12]
     ]
 }
 
-// What an inquiry without replies shows after these, in one walk.
-pub fn numbers_after(inquiry: Inquiry, replies: &[u8]) -> [f64; 12]
-    ensures { λ r. ⌜ r ≡ numbersAfter (now (replies .entry)) inquiry ⌝ }
+pub fn seen_numbers(s: Seen) -> [f64; 12]
+    requires { ⌜ Fits (s .asked .list) ⌝ }
+    ensures { λ r. ⌜ r ≡ seenNumbers s ⌝ }
 {
-    let first = first_replies(replies);
-    let mut given = inquiry;
-    given.replies = first;
-    let s = given.see();
     let a = s.asked;
     shown_numbers(s.number, a.asking, a.place, a.list)
 }
@@ -75,6 +71,6 @@ pub extern "C" fn inquire(coeffs: &[u8], tol: f64, replies: &[u8], out: &mut [u8
     if not_doubles(coeffs) {
         return 0;
     }
-    let s = inquiry::start(&short_at(coeffs), tol);
-    answer(out, s.number, &numbers_after(s.inquiry, replies))
+    let s = inquiry::shown_after(&short_at(coeffs), tol, first_replies(replies));
+    answer(out, s.number, &seen_numbers(s.seen))
 }

@@ -13,11 +13,12 @@ use Rattle.roots.specs.Roots.{rootsOf}
 use Rattle.poly.specs.Coefficients.{degreeLeft}
 use Rattle.asking.specs.Asking.{Asking, placesAsked, walked}
 use Rattle.asking.proofs.Feeding.{always}
+use Rattle.touching.specs.declared.Replies.{Replies}
 use Rattle.inquiry.specs.declared.Inquiry.{Inquiry}
 use Rattle.inquiry.specs.declared.Asked.{Asked}
 use Rattle.inquiry.specs.declared.Replied.{Replied}
 use Rattle.inquiry.specs.Inquiry.{shown, nothing, asking, soundOf, askedOf}
-use Rattle.inquiry.specs.Start.{realRootsTouching, realRootsTouchingOf, placesTouchingOf, startOf, fed}
+use Rattle.inquiry.specs.Start.{realRootsTouching, realRootsTouchingOf, placesTouchingOf, startOf, given, fed}
 use Rattle.inquiry.proofs.Sound.{sound-is, sound-holds}
 use Rattle.inquiry.proofs.Fresh.{start-sound, start-asks}
 use Rattle.inquiry.proofs.Theorem.{start-fed, start-most}
@@ -66,8 +67,11 @@ module _ (touches : ℕ → Float → Bool) (k : ℕ) (coeffs : List Float) (tol
       }
 
 -- ---- every question replied no
+abbrev pub fourNo : Replies
+fourNo = record { reply = replicate 4 false; count = 4 }
+
 abbrev pub allNo : Inquiry → Inquiry
-allNo q = record { poly = q .poly; tol = q .tol; roots = q .roots; pairs = q .pairs; replies = record { reply = replicate 4 false; count = 4 } }
+allNo q = given q fourNo
 
 no-sound : (q : Inquiry) → soundOf q ≡ true → soundOf (allNo q) ≡ true
 no-sound q h =

@@ -20,10 +20,13 @@ use Rattle.asking.specs.Asking.{done}
 use Rattle.trig_quartic.specs.declared.Crank.{Crank}
 use Rattle.trig_quartic.specs.Crank.{fAtOf, sampledOf, sampleOf, quarticOf, noCrank, crankFrontOf}
 use Rattle.inquiry.specs.declared.Started.{Started}
-use Rattle.inquiry.specs.Start.{realRootsTouching, startOf}
+use Rattle.touching.specs.declared.Replies.{Replies}
+use Rattle.inquiry.specs.declared.ShownAfter.{ShownAfter}
+use Rattle.inquiry.specs.Start.{realRootsTouching, startOf, shownAfterOf}
 use Rattle.inquiry.proofs.Fresh.{start-number}
 use Rattle.crank.specs.declared.CrankStarted.{CrankStarted}
-use Rattle.crank.specs.Crank.{trigQuarticOf, crankStartOf}
+use Rattle.crank.specs.declared.CrankShown.{CrankShown}
+use Rattle.crank.specs.Crank.{trigQuarticOf, crankStartOf, crankShownOf}
 use Rattle.crank.specs.Claims.{Numbers}
 use Rattle.crank.proofs.Finite.{numbers-finite}
 
@@ -170,7 +173,7 @@ module _ (a2 b2 c1 d1 e : Float) where
         (λ n g. refused-asks q confusion (ne-eqb (refusalOf q) 0 (λ z. absurd (omega (arith, h, z, ap byFront (made n g) ∙ start-number q confusion)))))
         (λ g is. refused-asks q confusion (quartic-refused g))
 
-    -- ---- the two ways out of `start`
+    -- ---- the two ways out of `start`, and of `shown_after`
     pub start-with : {n : ℕ} (f : Crank) (s : Started) → f ≡ front → s ≡ startOf (f .q) confusion → n ≡ cond (eqb (f .number) 0) (s .number) (f .number)
         → record { number = n; crank = record { k = f .k; inquiry = s .inquiry } } ≡ crankStartOf confusion a2 b2 c1 d1 e
     unfolding crankStartOf
@@ -181,3 +184,14 @@ module _ (a2 b2 c1 d1 e : Float) where
       where
         by : Crank → Started → CrankStarted
         by g t = record { number = cond (eqb (g .number) 0) (t .number) (g .number); crank = record { k = g .k; inquiry = t .inquiry } }
+
+    pub shown-with : {n : ℕ} (rs : Replies) (f : Crank) (s : ShownAfter) → f ≡ front → s ≡ shownAfterOf (f .q) confusion rs
+        → n ≡ cond (eqb (f .number) 0) (s .number) (f .number) → record { number = n; k = f .k; seen = s .seen } ≡ crankShownOf confusion a2 b2 c1 d1 e rs
+    unfolding crankShownOf crankStartOf shownAfterOf
+    shown-with rs f s is-f is-s is-n =
+        ap (λ (m : ℕ). record { number = m; k = f .k; seen = s .seen }) is-n
+        ∙ ap (by f) is-s
+        ∙ ap (λ (g : Crank). by g (shownAfterOf (g .q) confusion rs)) is-f
+      where
+        by : Crank → ShownAfter → CrankShown
+        by g t = record { number = cond (eqb (g .number) 0) (t .number) (g .number); k = g .k; seen = t .seen }

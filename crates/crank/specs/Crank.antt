@@ -7,12 +7,14 @@ use lib.Ieee.{Float}
 use Rattle.roots.specs.declared.RealRoot.{RealRoot}
 use Rattle.roots.specs.Roots.{rootsOf, noRoots}
 use Rattle.trig_quartic.specs.Crank.{sampleOf, quarticOf, crankFrontOf}
-use Rattle.inquiry.specs.Inquiry.{askedOf, repliedOf}
-use Rattle.inquiry.specs.Start.{realRootsTouchingOf, placesTouchingOf, startOf}
+use Rattle.touching.specs.declared.Replies.{Replies}
+use Rattle.inquiry.specs.Inquiry.{askedOf, seenOf, repliedOf}
+use Rattle.inquiry.specs.Start.{realRootsTouchingOf, placesTouchingOf, startOf, given}
 use Rattle.crank.specs.declared.CrankInquiry.{CrankInquiry}
 use Rattle.crank.specs.declared.CrankStarted.{CrankStarted}
 use Rattle.crank.specs.declared.CrankAsked.{CrankAsked}
 use Rattle.crank.specs.declared.CrankReplied.{CrankReplied}
+use Rattle.crank.specs.declared.CrankShown.{CrankShown}
 use Rattle.crank.specs.declared.CrankAnswer.{CrankAnswer}
 
 -- ---- the Rust's function, for all bits
@@ -45,6 +47,12 @@ crankAskedOf c = let a = askedOf (c .inquiry) in record { asking = a .asking; k 
 -- `reply`
 unfoldable pub crankRepliedOf : CrankInquiry → Bool → CrankReplied
 crankRepliedOf c reply = let r = repliedOf (c .inquiry) reply in record { number = r .number; crank = record { k = c .k; inquiry = r .inquiry } }
+
+-- `start`, and `see` with these replies put in at once
+unfoldable pub crankShownOf : Float → Float → Float → Float → Float → Float → Replies → CrankShown
+crankShownOf confusion a2 b2 c1 d1 e rs =
+    let s = crankStartOf confusion a2 b2 c1 d1 e in
+    record { number = s .number; k = s .crank .k; seen = seenOf (given (s .crank .inquiry) rs) }
 
 -- n questions, each given the reply of touches
 unfoldable pub crankFed : (ℕ → Float → Bool) → ℕ → CrankInquiry → CrankInquiry

@@ -11,10 +11,12 @@ use Rattle.poly.specs.declared.Solved.{Solved}
 use Rattle.poly.specs.Coefficients.{refusalOf}
 use Rattle.poly.specs.Solve.{solveOf}
 use Rattle.asking.specs.Asking.{Asking, done, answered, placesAsked}
+use Rattle.touching.specs.declared.Replies.{Replies}
 use Rattle.touching.specs.Touching.{touching}
 use Rattle.inquiry.specs.declared.Inquiry.{Inquiry}
 use Rattle.inquiry.specs.declared.Started.{Started}
-use Rattle.inquiry.specs.Inquiry.{askedOf, repliedOf}
+use Rattle.inquiry.specs.declared.ShownAfter.{ShownAfter}
+use Rattle.inquiry.specs.Inquiry.{askedOf, seenOf, repliedOf}
 
 -- ---- the Rust's function
 -- `let Some((poly, cands, pairs)) = Scaled::solve(coeffs, tol) else { return out }`, finish, and the rest
@@ -39,6 +41,14 @@ freshBy s = record { poly = s .poly; tol = s .tol; roots = s .roots; pairs = s .
 -- `start`: the inquiry and 0, or the number of the refusal
 unfoldable pub startOf : List Float → Float → Started
 startOf coeffs tol = let s = solveOf coeffs tol in record { number = s .number; inquiry = freshBy s }
+
+-- the inquiry with these replies in place of its own
+abbrev pub given : Inquiry → Replies → Inquiry
+given q rs = record { poly = q .poly; tol = q .tol; roots = q .roots; pairs = q .pairs; replies = rs }
+
+-- `start`, and `see` with these replies put in at once
+unfoldable pub shownAfterOf : List Float → Float → Replies → ShownAfter
+shownAfterOf coeffs tol rs = let s = startOf coeffs tol in record { number = s .number; seen = seenOf (given (s .inquiry) rs) }
 
 -- n questions, each given the reply of touches
 unfoldable pub fed : (Float → Bool) → ℕ → Inquiry → Inquiry

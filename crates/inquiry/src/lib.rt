@@ -11,7 +11,7 @@ ghost use Rattle.touching.specs.Touching.{chained, touching};
 ghost use Rattle.touching.specs.Replies.{repliesOf};
 ghost use Rattle.touching.specs.Walk.{leftOf, RepliesFit, Held};
 ghost use Rattle.inquiry.specs.Inquiry.{countedIn, sizesFit, soundOf, overBy, seenAt, unseen, askedOf, seenOf, repliedOf};
-ghost use Rattle.inquiry.specs.Start.{startOf};
+ghost use Rattle.inquiry.specs.Start.{freshBy, startOf, given, shownAfterOf};
 use touching::chains::chains;
 use touching::chains::emit;
 use touching::items::pairs;
@@ -42,6 +42,12 @@ pub struct Asked {
 pub struct Seen {
     pub number: u32,
     pub asked: Asked,
+}
+
+// The number of the start, 0 or that of its refusal, and what is shown.
+pub struct ShownAfter {
+    pub number: u32,
+    pub seen: Seen,
 }
 
 // The inquiry after a reply; number is 0, or 4 where nothing was being asked.
@@ -171,29 +177,45 @@ fn walk_all(
     finished(poly, tol, replies, its, w.used)
 }
 
-// 1, 2 and 3 are refused as for a list.
-pub fn start(coeffs: &[f64], tol: f64) -> Started
-    ensures { λ r. ⌜ r ≡ startOf (now (coeffs .entry)) tol ⌝ }
+// What was solved, with these replies.
+fn begun(s: poly::Solved, replies: touching::Replies) -> Inquiry
+    ensures { λ r. ⌜ r ≡ given (freshBy s) replies ⌝ }
 {
-    let s = poly::solve(coeffs, tol);
     let poly = s.poly;
     let roots = s.roots;
     let pairs = s.pairs;
-    let replies = touching::Replies {
-        reply: [false; 4],
-        count: 0,
-    };
-    let inquiry = Inquiry {
+    Inquiry {
         poly,
         tol: s.tol,
         roots,
         pairs,
         replies,
-    };
-    Started {
-        number: s.number,
-        inquiry,
     }
+}
+
+// 1, 2 and 3 are refused as for a list.
+pub fn start(coeffs: &[f64], tol: f64) -> Started
+    ensures { λ r. ⌜ r ≡ startOf (now (coeffs .entry)) tol ⌝ }
+{
+    let s = poly::solve(coeffs, tol);
+    let number = s.number;
+    let replies = touching::Replies {
+        reply: [false; 4],
+        count: 0,
+    };
+    let inquiry = begun(s, replies);
+    Started { number, inquiry }
+}
+
+// What `start` and `see` show with these replies put in at once. The inquiry is not handed out, so a level list is solved without logarithms.
+pub fn shown_after(coeffs: &[f64], tol: f64, replies: touching::Replies) -> ShownAfter
+    ensures { λ r. ⌜ r ≡ shownAfterOf (now (coeffs .entry)) tol replies ⌝ }
+{
+    let s = poly::solve_brief(coeffs, tol);
+    let number = s.number;
+    let inquiry = begun(s, replies);
+    let seen = inquiry.see();
+    ShownAfter { number, seen }
 }
 
 impl Inquiry {

@@ -21,15 +21,14 @@ use Rattle.factors.specs.declared.Factors.{Factors}
 use Rattle.factorize.specs.Factorize.{outOf, secondOf, factorsFrom, factorizeOf}
 use Rattle.roots.specs.declared.RealRoot.{RealRoot}
 use Rattle.roots.specs.declared.Pair.{Pair}
-use Rattle.roots.specs.Roots.{rootsOf}
+use Rattle.roots.specs.Roots.{kept, rootsOf, pairsOf}
 use Rattle.band.specs.Band.{noiseOf, bandOf, withinBandOf}
 use Rattle.critical.specs.Critical.{criticalPointOf}
 use Rattle.push.specs.Quadratic.{quadraticRootsOf, pushQuadraticOf}
 use Rattle.finish.specs.Finish.{orderedOf, polishedAt, polishedOf, isNearOf, joinOf, joinedFrom, joinedOf, finishOf}
-use Rattle.roots.specs.Roots.{kept}
 use Rattle.level.specs.Level.{NoGap}
 use Rattle.poly.specs.declared.Solved.{Solved}
-use Rattle.poly.specs.Brief.{Enough, SameList}
+use Rattle.poly.specs.Brief.{Enough, otherLogs, relogged, ButLogs}
 use Rattle.poly.specs.Solve.{candidatesOf, finishedOf}
 
 -- ---- the factors
@@ -49,7 +48,7 @@ none-found (suc (suc (suc (suc (suc d))))) l = absurd (omega arith)
 -- ---- a polynomial with other logarithms
 module _ (sc : Scaled) (lg : List Float) where
   abbrev other : Scaled
-  other = record { f = sc .f; g = sc .g; lg = lg; d = sc .d; e = sc .e; unit = sc .unit }
+  other = otherLogs lg sc
 
   same-candidates : (zeros : ℕ) (f : Factors) (tol : Float) → candidatesOf other zeros f tol ≡ candidatesOf sc zeros f tol
   unfolding candidatesOf pushQuadraticOf quadraticRootsOf bandOf noiseOf withinBandOf criticalPointOf
@@ -68,20 +67,27 @@ module _ (sc : Scaled) (lg : List Float) where
       go [] = refl
       go (a ∷ l) = same-joined tol [] a l
 
-  same-list : (zeros : ℕ) (tol : Float) → factorizeOf other 0 ≡ factorizeOf sc 0 → SameList (finishedOf other zeros tol) (finishedOf sc zeros tol)
+  same-solved : (zeros : ℕ) (tol : Float) → factorizeOf other 0 ≡ factorizeOf sc 0 → finishedOf other zeros tol ≡ relogged lg (finishedOf sc zeros tol)
   unfolding finishedOf
-  same-list zeros tol e =
-      let c : candidatesOf other zeros (factorizeOf other 0) tol ≡ candidatesOf sc zeros (factorizeOf sc 0) tol = ap (λ (f : Factors). candidatesOf other zeros f tol) e ∙ same-candidates zeros (factorizeOf sc 0) tol in
-      record { number = refl; roots = ap (λ (x : List RealRoot × List Pair). rootsOf (finishOf other (x .0) tol)) c ∙ ap rootsOf (same-finish _ tol); e = refl }
+  same-solved zeros tol e =
+      let c : candidatesOf other zeros (factorizeOf other 0) tol ≡ candidatesOf sc zeros (factorizeOf sc 0) tol =
+      ap (λ (f : Factors). candidatesOf other zeros f tol) e ∙ same-candidates zeros (factorizeOf sc 0) tol in
+      let roots = ap (λ (x : List RealRoot × List Pair). rootsOf (finishOf other (x .0) tol)) c ∙ ap rootsOf (same-finish _ tol) in
+      λ i. record { number = 0; poly = other; tol = tol; roots = roots i; pairs = pairsOf (c i .1) }
 
-pub brief-list : (a : List Float) (d l zeros : ℕ) (tol : Float) → d ≤ 4 → Enough a d l → SameList (finishedOf (withLogsOf a d l) zeros tol) (finishedOf (scaledOf a d) zeros tol)
-unfolding withLogsOf scaledOf logSizesOf
-brief-list a d l zeros tol D = ⊎-elim (λ h. full h) (λ h. brief (h .0) (h .1))
+pub brief-solved : (a : List Float) (d l zeros : ℕ) (tol : Float) → d ≤ 4 → Enough a d l
+    → ButLogs (finishedOf (withLogsOf a d l) zeros tol) (finishedOf (scaledOf a d) zeros tol)
+unfolding withLogsOf scaledOf logSizesOf finishedOf
+brief-solved a d l zeros tol D = ⊎-elim full (λ h. brief (h .0) (h .1))
   where
-    full : l ≡ d → SameList (finishedOf (withLogsOf a d l) zeros tol) (finishedOf (scaledOf a d) zeros tol)
-    full h = subst (λ (n : ℕ). SameList (finishedOf (withLogsOf a d n) zeros tol) (finishedOf (scaledOf a d) zeros tol)) (sym h) (record { number = refl; roots = refl; e = refl })
+    Brief : ℕ → Type 0
+    Brief n = ButLogs (finishedOf (withLogsOf a d n) zeros tol) (finishedOf (scaledOf a d) zeros tol)
 
-    brief : l ≡ 0 → NoGap a d → SameList (finishedOf (withLogsOf a d l) zeros tol) (finishedOf (scaledOf a d) zeros tol)
+    full : l ≡ d → Brief l
+    full h = subst Brief (sym h) (scaledOf a d .lg, refl)
+
+    brief : l ≡ 0 → NoGap a d → Brief l
     brief h n =
-        subst (λ (n : ℕ). SameList (finishedOf (withLogsOf a d n) zeros tol) (finishedOf (scaledOf a d) zeros tol)) (sym h)
-        (same-list (scaledOf a d) (replicate 5 (neg inf64)) zeros tol (no-second (withLogsOf a d 0) (none-found d D) ∙ sym (no-second (scaledOf a d) n)))
+        let lg = replicate 5 (neg inf64) in
+        let same = no-second (withLogsOf a d 0) (none-found d D) ∙ sym (no-second (scaledOf a d) n) in
+        subst Brief (sym h) (lg, same-solved (scaledOf a d) lg zeros tol same)

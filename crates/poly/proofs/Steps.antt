@@ -20,9 +20,9 @@ use Rattle.finish.specs.Finish.{finishOf}
 use Rattle.poly.specs.declared.Solved.{Solved}
 use Rattle.poly.specs.Coefficients.{trimmedOf, zerosOf, refusalBy, middleOf, polyOf}
 use Rattle.poly.specs.Solve.{candidatesOf, finishedOf, refusedBy, solveOf}
-use Rattle.poly.specs.Brief.{Enough, SameList}
+use Rattle.poly.specs.Brief.{Enough, relogged, ButLogs}
 use Rattle.poly.specs.RealRoots.{unscaledAll, answerOf, realRootsOf}
-use Rattle.poly.proofs.Brief.{brief-list}
+use Rattle.poly.proofs.Brief.{brief-solved}
 
 pub finished-is : (poly : Scaled) (zeros : ℕ) (tol : Float) (c : Found) (roots : Roots) → c ≡ foundOf (candidatesOf poly zeros (factorizeOf poly 0) tol)
     → roots ≡ rootsOf (finishOf poly (listOf (c .roots)) tol)
@@ -41,11 +41,12 @@ module _ (coeffs : List Float) (tol : Float) (finite : Bool) (n number : ℕ) (F
   refusal-is : number ≡ refusalBy (allFiniteOf coeffs) (trimmedOf coeffs)
   refusal-is = R ∙ rw (F, N)
 
-  pub solve-refused : (all : Bool) (r : Solved) → r ≡ refusedBy number → (number ≡ 0 → ⊥) → (all ≡ true → r ≡ solveOf coeffs tol) × SameList r (solveOf coeffs tol)
+  pub solve-refused : (all : Bool) (r : Solved) → r ≡ refusedBy number → (number ≡ 0 → ⊥)
+      → (all ≡ true → r ≡ solveOf coeffs tol) × ButLogs r (solveOf coeffs tol)
   unfolding solveOf
   solve-refused all r e h =
       let x : r ≡ solveOf coeffs tol = e ∙ rw (sym refusal-is, ne-eqb number 0 h) in
-      (λ b. x, subst (SameList r) x (record { number = refl; roots = refl; e = refl }))
+      (λ b. x, subst (ButLogs r) x (r .poly .lg, refl))
 
   module _ (a : List Float) (zeros : ℕ) (t : Float) (h : number ≡ 0) (Z : zeros ≡ zerosOf coeffs) (A : a ≡ middleOf coeffs zeros n) (T : t ≡ maxOf tol zero64) where
     abbrev d : ℕ
@@ -60,14 +61,16 @@ module _ (coeffs : List Float) (tol : Float) (finite : Bool) (n number : ℕ) (F
     all-logs = refl
 
     pub solve-answered : (all : Bool) (l : ℕ) (poly : Scaled) (r : Solved) → d ≤ 4 → (all ≡ true → l ≡ d) → Enough a d l → poly ≡ withLogsOf a d l → r ≡ finishedOf poly zeros t
-        → (all ≡ true → r ≡ solveOf coeffs tol) × SameList r (solveOf coeffs tol)
+        → (all ≡ true → r ≡ solveOf coeffs tol) × ButLogs r (solveOf coeffs tol)
     solve-answered all l poly r D L E P e =
         let p : r ≡ finishedOf (withLogsOf a d l) zeros t = rw (e, P) in (
           λ b. p ∙ ap (λ (k : ℕ). finishedOf (withLogsOf a d k) zeros t) (L b) ∙ ap (λ (s : Scaled). finishedOf s zeros t) all-logs ∙ solve-is,
-          subst (λ (s : Solved). SameList s (solveOf coeffs tol)) (sym p) (subst (SameList (finishedOf (withLogsOf a d l) zeros t)) solve-is (brief-list a d l zeros t D E)),
+          subst (λ (s : Solved). ButLogs s (solveOf coeffs tol)) (sym p)
+              (subst (ButLogs (finishedOf (withLogsOf a d l) zeros t)) solve-is (brief-solved a d l zeros t D E)),
         )
 
-pub answer-is : (coeffs : List Float) (tol : Float) (s : Solved) (roots : Roots) → SameList s (solveOf coeffs tol) → roots ≡ rootsOf (unscaledAll (s .poly .e) (listOf (s .roots)))
+pub answer-is : (coeffs : List Float) (tol : Float) (s : Solved) (roots : Roots) → ButLogs s (solveOf coeffs tol)
+    → roots ≡ rootsOf (unscaledAll (s .poly .e) (listOf (s .roots)))
     → record { number = s .number; roots = roots } ≡ realRootsOf coeffs tol
 unfolding realRootsOf answerOf
-answer-is coeffs tol s roots L f = rw (f, L .e, L .roots, L .number)
+answer-is coeffs tol s roots L f = ap (λ (l : Roots). record { number = s .number; roots = l }) f ∙ ap answerOf (L .1)

@@ -4,6 +4,7 @@ use mathlib.Core.Logic.{_⊎_}
 use mathlib.Core.List.{List}
 use Prim.Native.Nat.{ℕ}
 use lib.Ieee.{Float}
+use Rattle.scaled.specs.declared.Scaled.{Scaled}
 use Rattle.level.specs.Level.{NoGap}
 use Rattle.poly.specs.declared.Solved.{Solved}
 
@@ -11,8 +12,13 @@ use Rattle.poly.specs.declared.Solved.{Solved}
 abbrev pub Enough : List Float → ℕ → ℕ → Type 0
 Enough a d l = (l ≡ d) ⊎ ((l ≡ 0) × NoGap a d)
 
--- what a list of roots shows of r and of s is the same
-pub record SameList (r s : Solved) : Type 0 where
-  pub number : r .number ≡ s .number
-  pub roots : r .roots ≡ s .roots
-  pub e : r .poly .e ≡ s .poly .e
+-- the same with other logarithms
+abbrev pub otherLogs : List Float → Scaled → Scaled
+otherLogs lg sc = record { f = sc .f; g = sc .g; lg = lg; d = sc .d; e = sc .e; unit = sc .unit }
+
+abbrev pub relogged : List Float → Solved → Solved
+relogged lg s = record { number = s .number; poly = otherLogs lg (s .poly); tol = s .tol; roots = s .roots; pairs = s .pairs }
+
+-- r is s, but for the logarithms, of which nothing is said
+abbrev pub ButLogs : Solved → Solved → Type 0
+ButLogs r s = (lg : List Float) × (r ≡ relogged lg s)

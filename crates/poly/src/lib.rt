@@ -13,7 +13,7 @@ ghost use Rattle.roots.specs.Listed.{Within};
 ghost use Rattle.poly.specs.Coefficients.{trimmedOf, degreeLeft, zerosOf, refusalBy, middleAt, middleOf};
 ghost use Rattle.poly.specs.Solve.{zeroRootsOf, candidatesOf, finishedOf, refusedBy, solveOf};
 ghost use Rattle.poly.specs.Found.{turnAt, withLinIn, withQuadIn, unscaledIn};
-ghost use Rattle.poly.specs.Brief.{Enough, SameList};
+ghost use Rattle.poly.specs.Brief.{Enough, ButLogs};
 ghost use Rattle.poly.specs.RealRoots.{unscaledAll, realRootsOf};
 
 // What Scaled::solve and finish give: the scaled polynomial, the tolerance, its finished roots and its complex pairs. On a refusal the number alone, and zeros.
@@ -208,7 +208,7 @@ fn refused(number: u32) -> Solved
     }
 }
 
-// The degree whose logarithms are taken: d, or 0 where a list of roots is asked for and a level one needs none.
+// The degree whose logarithms are taken: d, or 0 where they are not all asked for and a level list needs none.
 fn logs(a: [f64; 5], d: usize, all: bool) -> usize
     requires { ⌜ d ≤ 4 ⌝ }
     ensures { λ r. ⌜ (r ≤ 4) × (all ≡ true → r ≡ d) × Enough a d r ⌝ }
@@ -222,9 +222,9 @@ fn logs(a: [f64; 5], d: usize, all: bool) -> usize
     d
 }
 
-// Solved with all logarithms, or with those that the list of roots needs.
+// Solved with all logarithms, or with those that factoring needs.
 fn solve_by(coeffs: &[f64], tol: f64, all: bool) -> Solved
-    ensures { λ r. ⌜ (all ≡ true → r ≡ solveOf (now (coeffs .entry)) tol) × SameList r (solveOf (now (coeffs .entry)) tol) ⌝ }
+    ensures { λ r. ⌜ (all ≡ true → r ≡ solveOf (now (coeffs .entry)) tol) × ButLogs r (solveOf (now (coeffs .entry)) tol) ⌝ }
 {
     let n = trimmed(coeffs);
     let number = refusal(float::all_finite(coeffs), n);
@@ -242,6 +242,13 @@ pub fn solve(coeffs: &[f64], tol: f64) -> Solved
     ensures { λ r. ⌜ r ≡ solveOf (now (coeffs .entry)) tol ⌝ }
 {
     solve_by(coeffs, tol, true)
+}
+
+// The same for those who never look at a logarithm.
+pub fn solve_brief(coeffs: &[f64], tol: f64) -> Solved
+    ensures { λ r. ⌜ ButLogs r (solveOf (now (coeffs .entry)) tol) ⌝ }
+{
+    solve_by(coeffs, tol, false)
 }
 
 // Root k in x = y * 2^e, where it counts and is finite.

@@ -19,14 +19,14 @@ with-demand confusion a2 b2 c1 d1 e r is =
 
 returns : tie.Need-returns
 returns c =
-    let began = c .before .before .before .before in
-    let s = began .before .before .start in
-    with-demand _ _ _ _ _ _ _ (answer-listed _ _ _ _ _ _ (s .result) (s .ensures) _ (began .if1 .taken) (c .before .ask .ensures .0))
+    let began = c .before .before .before in
+    let s = began .before .before .shown-after in
+    with-demand _ _ _ _ _ _ _ (answer-listed _ _ _ _ _ _ (s .result) (s .ensures) (began .if1 .taken))
 
 returns-2 : tie.Need-returns-2
 returns-2 c =
-    let s = c .before .before .before .start in
+    let s = c .before .before .before .shown-after in
     with-demand _ _ _ _ _ _ _ (answer-refused _ _ _ _ _ _ (s .result) (s .ensures) _ (c .before .if1 .left) (c .none .ensures))
 
 pub crank-spec : {M : Type 1} → statement M
-crank-spec = tie.close (tie.spec (λ c κs. search needs) (λ c κs. search needs) returns (λ c κs. search needs) returns-2)
+crank-spec = tie.close (tie.spec (λ c κs. search needs) returns (λ c κs. search needs) returns-2)

@@ -5,9 +5,9 @@ use Prim.Native.Nat.{_≤_}
 use lib.IntN.{ℤ}
 use lib.Ieee.{Float}
 use mir.Facts.{toZ-ofZ}
-use Rattle.roots.specs.declared.Roots.{Roots}
 use Rattle.roots.specs.Roots.{listOf, rootsOf}
 use Rattle.roots.specs.Listed.{Within}
+use Rattle.poly.specs.declared.Solved.{Solved}
 use Rattle.poly.specs.declared.Answer.{Answer}
 use Rattle.poly.specs.Coefficients.{degreeLeft}
 use Rattle.poly.specs.RealRoots.{unscaledAll, realRootsOf}
@@ -18,7 +18,7 @@ use Rattle.poly.proofs.real_roots.Statement.{statement}
 use Rattle.poly.proofs.real_roots.Tie as tie
 
 unscaled-all-requires : tie.Need-unscaled-all-requires
-unscaled-all-requires c κs = subst (λ (s : Roots). s .len ≤ 4) (sym (c .before .solve-by .ensures .1 .roots)) (solved-fits _ _ .0 .1)
+unscaled-all-requires c κs = subst (λ (s : Solved). s .roots .len ≤ 4) (sym (c .before .solve-by .ensures .1 .1)) (solved-fits _ _ .0 .1)
 
 with-demand : (coeffs : List Float) (tol : Float) (r : Answer) → r ≡ realRootsOf coeffs tol
     → (r ≡ realRootsOf coeffs tol) × Within (degreeLeft coeffs) (listOf (r .roots))

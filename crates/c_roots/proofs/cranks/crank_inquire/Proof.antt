@@ -1,24 +1,32 @@
--- `crank_inquire` meets its contract: the replies put in at once show what they show one by one.
--- Assumes nothing.
-use mathlib.Core.Path.{ap, _∙_}
-use Rattle.crank.specs.declared.CrankStarted.{CrankStarted}
-use Rattle.c_roots.specs.Cranks.{crankNumbersAfter}
+-- The replies put in at once show what they show one by one.
+use mathlib.Core.Path.{_∙_}
 use Rattle.lent_bytes.proofs.Whole.{answered-as}
-use Rattle.c_roots.proofs.Once.{crank-once}
+use Rattle.c_roots.proofs.Once.{crank-fits, crank-number, crank-numbers}
 use borrow.Author.Needs.{needs}
 use Rattle.c_roots.proofs.cranks.crank_inquire.Statement.{statement}
 use Rattle.c_roots.proofs.cranks.crank_inquire.Tie as tie
 
+crank-shown-numbers-requires : tie.Need-crank-shown-numbers-requires
+crank-shown-numbers-requires c κs =
+    let shown = c .before in
+    crank-fits _ _ _ _ _ _ _ _ (rw (shown .before .first-replies .ensures) at (shown .shown-after .ensures))
+
 returns : tie.Need-returns
 returns c =
-    let shown = c .before .before .before .before in
-    let began = shown .before .before in
-    let replies = began .before .before .before .args .replies .now in
-    let is = began .start .ensures in
-    let numbers = shown .crank-numbers-after .ensures ∙ ap (λ (s : CrankStarted). crankNumbersAfter replies (s .crank)) is in
-    answered-as (ap (λ (s : CrankStarted). s .number) is) (numbers ∙ crank-once _ _ _ _ _ _ replies) (c .before .before .answer .ensures)
+    let handed = c .before .before in
+    let numbers = handed .before .before in
+    let shown = numbers .before .before in
+    let is = rw (shown .before .first-replies .ensures) at (shown .shown-after .ensures) in
+    answered-as (crank-number _ _ _ _ _ _ _ _ is) (numbers .crank-shown-numbers .ensures ∙ crank-numbers _ _ _ _ _ _ _ _ is) (handed .answer .ensures)
 
 pub crank-inquire-spec : {M : Type 1} → statement M
 crank-inquire-spec =
     tie.close
-    (tie.spec (λ c κs. search needs) (λ c κs. search needs) (λ c. search needs) (λ c κs. search needs) (λ c. search needs) returns)
+    (tie.spec
+    (λ c κs. search needs)
+    (λ c κs. search needs)
+    crank-shown-numbers-requires
+    (λ c. search needs)
+    (λ c κs. search needs)
+    (λ c. search needs)
+    returns)

@@ -1,31 +1,34 @@
--- `inquire` meets its contract: the test says which case of the definition holds, and the replies put in at once show what they show one by one.
--- Assumes nothing.
-use Rattle.inquiry.specs.declared.Started.{Started}
+-- The test says which case of the definition holds, and the replies put in at once show what they show one by one.
+use mathlib.Core.Path.{_∙_}
 use borrow.Author.Needs.{needs}
-use mathlib.Core.Path.{ap, _∙_}
-use Rattle.inquiry.proofs.Short.{short-starts}
-use Rattle.c_roots.specs.Inquiries.{startAt, numbersAfter}
+use Rattle.c_roots.specs.Inquiries.{startAt}
 use Rattle.c_roots.proofs.Listing.{no-doubles, of-doubles}
-use Rattle.c_roots.proofs.Once.{fed-once}
+use Rattle.c_roots.proofs.Once.{shown-fits, shown-number, shown-numbers}
 use Rattle.c_roots.proofs.inquiries.inquire.Statement.{statement}
 use Rattle.c_roots.proofs.inquiries.inquire.Tie as tie
 
 returns : tie.Need-returns
 returns c = no-doubles _ _ _ (c .before .not-doubles .ensures) (c .if1 .taken)
 
+seen-numbers-requires : tie.Need-seen-numbers-requires
+seen-numbers-requires c κs =
+    let shown = c .before in
+    let replies = shown .before in
+    let read = replies .before .before in
+    shown-fits _ _ _ _ (rw (read .short-at .ensures, replies .first-replies .ensures) at (shown .shown-after .ensures))
+
 returns-2 : tie.Need-returns-2
 unfolding startAt
 returns-2 c =
-    let shown = c .before .before .before .before in
-    let began = shown .before .before in
-    let read = began .before .before in
+    let handed = c .before .before in
+    let numbers = handed .before .before in
+    let shown = numbers .before .before in
+    let replies = shown .before in
+    let read = replies .before .before in
     let told = read .before .before in
-    let args = told .before .before .before .before .args in
-    let replies = args .replies .now in
-    let is = rw (read .short-at .ensures) at (began .start .ensures) ∙ short-starts _ _ in
-    let numbers = shown .numbers-after .ensures ∙ ap (λ (s : Started). numbersAfter replies (s .inquiry)) is in
+    let is = rw (read .short-at .ensures, replies .first-replies .ensures) at (shown .shown-after .ensures) in
     of-doubles _ _ _ (told .not-doubles .ensures) (read .before .if1 .left)
-    (ap (λ (s : Started). s .number) is) (numbers ∙ fed-once _ _ replies) (c .before .before .answer .ensures)
+    (shown-number _ _ _ _ is) (numbers .seen-numbers .ensures ∙ shown-numbers _ _ _ _ is) (handed .answer .ensures)
 
 pub inquire-spec : {M : Type 1} → statement M
 inquire-spec =
@@ -37,6 +40,7 @@ inquire-spec =
     (λ c. search needs)
     (λ c κs. search needs)
     (λ c κs. search needs)
+    seen-numbers-requires
     (λ c. search needs)
     (λ c κs. search needs)
     (λ c. search needs)

@@ -1,16 +1,13 @@
--- `crank_numbers_after` is its definition: k, and the numbers of the inquiry. Assumes nothing.
 use borrow.Author.Needs.{needs}
-use Rattle.c_roots.specs.Inquiries.{numbersAfter}
 use Rattle.c_roots.proofs.Crank.{crank-is}
-use Rattle.c_roots.proofs.cranks.crank_numbers_after.Statement.{statement}
-use Rattle.c_roots.proofs.cranks.crank_numbers_after.Tie as tie
+use Rattle.c_roots.proofs.cranks.crank_shown_numbers.Statement.{statement}
+use Rattle.c_roots.proofs.cranks.crank_shown_numbers.Tie as tie
 
 returns : tie.Need-returns
-unfolding numbersAfter
-returns c = crank-is _ _ _ _ _ _ (c .before .numbers-after .ensures)
+returns c = crank-is _ _ _ _ _ _ (c .before .seen-numbers .ensures)
 
-pub crank-numbers-after-spec : {M : Type 1} → statement M
-crank-numbers-after-spec =
+pub crank-shown-numbers-spec : {M : Type 1} → statement M
+crank-shown-numbers-spec =
     tie.close
     (tie.spec
     (λ c κs. search needs)
