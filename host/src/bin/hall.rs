@@ -1,6 +1,6 @@
 //! The test host's program for people.
 use host::documents;
-use host::people::{self, bench};
+use host::people::{self, architecture, bench};
 use host::stored::leaves;
 use std::io;
 use std::path::Path;
@@ -47,7 +47,7 @@ fn main() -> ExitCode {
     match words[..] {
         ["--help" | "-h" | "help"] => print!("{}{HELP}", people::HELP),
         ["bench"] => bench::run(),
-        ["documents"] => return written(documents::write()),
+        ["documents"] => return written(documents::write().and_then(|()| architecture::write())),
         [what, count, seed] if RUNS.iter().any(|run| run.0 == what) => {
             return compare(what, count, seed);
         }

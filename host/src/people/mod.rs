@@ -1,8 +1,10 @@
 //! What the program `hall` does for people with hall files.
+pub mod architecture;
 pub mod bench;
 #[cfg(geomcore)]
 pub mod differences;
 pub mod doubt;
+pub mod picture;
 pub mod progress;
 pub mod show;
 pub mod text;
