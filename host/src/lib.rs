@@ -6,7 +6,6 @@
 compile_error!("the reference build has no fma: compile for a target without it");
 
 pub mod compare;
-pub mod documents;
 pub mod inputs;
 pub mod people;
 pub mod port;

@@ -1,7 +1,7 @@
 //! docs/ARCHITECTURE.md and its picture are what crates.txt makes, and its table of crates has them
 //! all.
-use host::documents::{files, root};
 use host::people::architecture::{DOCUMENT, Layers, made};
+use host::people::documents::{files, root};
 use std::fs;
 
 fn text(file: &str) -> String {

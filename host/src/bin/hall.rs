@@ -1,6 +1,5 @@
 //! The test host's program for people.
-use host::documents;
-use host::people::{self, architecture, bench};
+use host::people::{self, architecture, bench, documents};
 use host::stored::leaves;
 use std::io;
 use std::path::Path;

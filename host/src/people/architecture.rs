@@ -1,6 +1,6 @@
 //! The crates by layer, as crates.txt has them: a table in docs/ARCHITECTURE.md between two marks,
 //! and a picture, docs/layers.svg. tests/architecture.rs says where one is no longer true.
-use crate::documents::root;
+use crate::people::documents::root;
 use crate::people::picture;
 use std::collections::BTreeSet;
 use std::path::Path;

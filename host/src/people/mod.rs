@@ -3,6 +3,7 @@ pub mod architecture;
 pub mod bench;
 #[cfg(geomcore)]
 pub mod differences;
+pub mod documents;
 pub mod doubt;
 pub mod picture;
 pub mod progress;

@@ -319,7 +319,7 @@ pub fn drawn(layers: &Layers) -> String {
 #[cfg(test)]
 mod tests {
     use super::*;
-    use crate::documents::root;
+    use crate::people::documents::root;
 
     #[test]
     fn nothing_lies_over_a_box() {
