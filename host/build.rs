@@ -97,7 +97,7 @@ fn write_rust(folder: &Path, here: &Path, out: &Path) {
     }
     if chosen("MUTANTS") {
         modules += &write_mutants(folder, out, &mutants::all());
-        modules += &write_own(&here.join("src"), out, &mutants::all());
+        modules += &write_own(&here.join("src/truth"), out, &mutants::all());
     }
     if chosen("CAUSES") {
         modules += &write_variants(folder, out, "causes", causes::CAUSES);
@@ -119,10 +119,11 @@ fn write_variants(folder: &Path, out: &Path, name: &str, variants: &[Variant]) -
             patched(text, copy, &[OPENED, CUT, PUT_IN, patches])
         });
         let file = patches[0].0;
-        list += &format!("    ({title:?}, {what:?}, {file:?}, crate::trees::tree!({tree})),\n");
+        list +=
+            &format!("    ({title:?}, {what:?}, {file:?}, crate::runs::trees::tree!({tree})),\n");
     }
     let count = variants.len();
-    let head = "(&str, &str, &str, crate::trees::Tree)";
+    let head = "(&str, &str, &str, crate::runs::trees::Tree)";
     let list = format!("pub const ALL: [{head}; {count}] = [\n{list}];\n");
     fs::write(out.join(format!("{name}.rs")), list).unwrap();
     modules

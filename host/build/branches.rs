@@ -194,7 +194,7 @@ impl Counted<'_> {
         let line = self.bare[..at].rfind('\n').map_or(0, |n| n + 1);
         let Some(id) = self.branch("arm", line, at) else { return };
         let (from, _) = self.trimmed(at + 2, self.bare.len());
-        let count = format!("crate::coverage::arm({id});");
+        let count = format!("crate::runs::coverage::arm({id});");
         if self.byte(from) == b'{' {
             self.put(from + 1, true, usize::MAX, count);
         } else {
@@ -207,7 +207,7 @@ impl Counted<'_> {
     fn wrap(&mut self, counter: &'static str, from: usize, to: usize) {
         let (from, to) = self.trimmed(from, to);
         if let Some(id) = self.branch(counter, from, to) {
-            self.put(from, true, to - from, format!("crate::coverage::{counter}({id}, "));
+            self.put(from, true, to - from, format!("crate::runs::coverage::{counter}({id}, "));
             self.put(to, false, to - from, ")".to_string());
         }
     }
@@ -222,7 +222,10 @@ impl Counted<'_> {
             return None;
         }
         let words: Vec<&str> = self.bare[from..to].split_whitespace().collect();
-        let text = words.join(" ").replace("crate::methods::", "").replace("crate::exact::", "");
+        let text = words
+            .join(" ")
+            .replace("crate::truth::methods::", "")
+            .replace("crate::truth::exact::", "");
         let line = 1
             + self.text[..from].matches('\n').count()
             + self.bare[from..to].bytes().take_while(|b| *b == b'\n').count();

@@ -6,8 +6,8 @@ pub const CAUSES: &[Variant] = &[
         "cube root",
         "the C library's `cbrt`",
         &[
-            ("poly.rs", "crate::exact::cbrt(q)", "q.cbrt()", 1),
-            ("poly.rs", "-crate::exact::cbrt(0.5 * q", "-f64::cbrt(0.5 * q", 1),
+            ("poly.rs", "crate::truth::exact::cbrt(q)", "q.cbrt()", 1),
+            ("poly.rs", "-crate::truth::exact::cbrt(0.5 * q", "-f64::cbrt(0.5 * q", 1),
         ],
     ),
     (
@@ -15,7 +15,7 @@ pub const CAUSES: &[Variant] = &[
         "`acos`, a third of it, `sin_cos`",
         &[(
             "poly.rs",
-            "let (cos, sin) = crate::exact::third_angle(cos3);",
+            "let (cos, sin) = crate::truth::exact::third_angle(cos3);",
             "let (sin, cos) = (cos3.acos() / 3.0).sin_cos();",
             1,
         )],
@@ -23,14 +23,14 @@ pub const CAUSES: &[Variant] = &[
     (
         "L",
         "`log2` in the gaps between root sizes",
-        &[("poly.rs", "*l = crate::exact::log2(c.abs());", "*l = c.abs().log2();", 1)],
+        &[("poly.rs", "*l = crate::truth::exact::log2(c.abs());", "*l = c.abs().log2();", 1)],
     ),
     (
         "e",
         "the largest ratio of logarithms, rounded up",
         &[(
             "poly.rs",
-            "let e = crate::exact::scale_exponent(a);",
+            "let e = crate::truth::exact::scale_exponent(a);",
             r"let log: Vec<f64> = a.iter().map(|c| c.abs().log2()).collect();
         let mut ef = f64::NEG_INFINITY;
         for (i, &l) in log[..d].iter().enumerate() {
@@ -43,7 +43,12 @@ pub const CAUSES: &[Variant] = &[
     (
         "leading exponent",
         "the logarithm, rounded down",
-        &[("poly.rs", "crate::exact::exponent(a[d])", "(a[d].abs().log2().floor() as i32)", 1)],
+        &[(
+            "poly.rs",
+            "crate::truth::exact::exponent(a[d])",
+            "(a[d].abs().log2().floor() as i32)",
+            1,
+        )],
     ),
     (
         "2^k of the gap's middle",
@@ -61,22 +66,22 @@ pub const CAUSES: &[Variant] = &[
         &[
             (
                 "poly.rs",
-                "crate::methods::powi(half - base, self.d as u32)",
+                "crate::truth::methods::powi(half - base, self.d as u32)",
                 "(half - base).powi(self.d as i32)",
                 1,
             ),
-            ("poly.rs", "crate::methods::powi(a.0 - b.0, 2)", "(a.0 - b.0).powi(2)", 1),
-            ("poly.rs", "crate::methods::powi(a.1 - b.1, 2)", "(a.1 - b.1).powi(2)", 1),
+            ("poly.rs", "crate::truth::methods::powi(a.0 - b.0, 2)", "(a.0 - b.0).powi(2)", 1),
+            ("poly.rs", "crate::truth::methods::powi(a.1 - b.1, 2)", "(a.1 - b.1).powi(2)", 1),
         ],
     ),
     (
         "min and max",
         "the compiler's `min` and `max`, for zeros of unlike sign",
         &[
-            ("poly.rs", "crate::methods::max", "f64::max", 7),
-            ("poly.rs", "crate::methods::min", "f64::min", 5),
-            ("equation.rs", "crate::methods::min", "f64::min", 1),
-            ("equation.rs", "crate::methods::max", "f64::max", 1),
+            ("poly.rs", "crate::truth::methods::max", "f64::max", 7),
+            ("poly.rs", "crate::truth::methods::min", "f64::min", 5),
+            ("equation.rs", "crate::truth::methods::min", "f64::min", 1),
+            ("equation.rs", "crate::truth::methods::max", "f64::max", 1),
         ],
     ),
     (

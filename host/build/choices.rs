@@ -69,7 +69,7 @@ fn choice(function: &str, others: &[(usize, &str)]) -> String {
     };
     let handed = names.iter().filter(|n| *n != "self").cloned().collect::<Vec<_>>().join(", ");
     let call = |number: usize| format!("{before}{name}_{number}({handed})");
-    let mut out = format!("{head} {{\n    match crate::mutants::chosen() {{\n");
+    let mut out = format!("{head} {{\n    match crate::runs::mutants::chosen() {{\n");
     for (number, _) in others {
         out += &format!("        {number} => {},\n", call(*number));
     }

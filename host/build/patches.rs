@@ -102,22 +102,22 @@ pub const CUT: &[Patch] = &[
 /// `solve_square` is 002's as it stands, and the host does not compile where there is fma.
 pub const PUT_IN: &[Patch] = &[
     // the nearest cube root
-    ("poly.rs", "q.cbrt()", "crate::exact::cbrt(q)", 1),
+    ("poly.rs", "q.cbrt()", "crate::truth::exact::cbrt(q)", 1),
     (
         "poly.rs",
         "-(0.5 * q + disc.max(0.0).sqrt().copysign(q)).cbrt()",
-        "-crate::exact::cbrt(0.5 * q + crate::methods::max(disc, 0.0).sqrt().copysign(q))",
+        "-crate::truth::exact::cbrt(0.5 * q + crate::truth::methods::max(disc, 0.0).sqrt().copysign(q))",
         1,
     ),
     // c and s
     (
         "poly.rs",
         "let (sin, cos) = (cos3.acos() / 3.0).sin_cos();",
-        "let (cos, sin) = crate::exact::third_angle(cos3);",
+        "let (cos, sin) = crate::truth::exact::third_angle(cos3);",
         1,
     ),
     // L
-    ("poly.rs", "*l = c.abs().log2();", "*l = crate::exact::log2(c.abs());", 1),
+    ("poly.rs", "*l = c.abs().log2();", "*l = crate::truth::exact::log2(c.abs());", 1),
     // e, and the exact exponent
     (
         "poly.rs",
@@ -135,8 +135,8 @@ pub const PUT_IN: &[Patch] = &[
         };
         let top = lead.floor() as i32 + e * d as i32;
 ",
-        r"        let e = crate::exact::scale_exponent(a);
-        let top = crate::exact::exponent(a[d]) + e * d as i32;
+        r"        let e = crate::truth::exact::scale_exponent(a);
+        let top = crate::truth::exact::exponent(a[d]) + e * d as i32;
 ",
         1,
     ),
@@ -146,28 +146,33 @@ pub const PUT_IN: &[Patch] = &[
     (
         "poly.rs",
         "(half - base).powi(self.d as i32)",
-        "crate::methods::powi(half - base, self.d as u32)",
+        "crate::truth::methods::powi(half - base, self.d as u32)",
         1,
     ),
     (
         "poly.rs",
         "(a.0 - b.0).powi(2) + (a.1 - b.1).powi(2)",
-        "crate::methods::powi(a.0 - b.0, 2) + crate::methods::powi(a.1 - b.1, 2)",
+        "crate::truth::methods::powi(a.0 - b.0, 2) + crate::truth::methods::powi(a.1 - b.1, 2)",
         1,
     ),
     // min and max: of two zeros with unlike signs, the first
-    ("poly.rs", "tol.max(0.0)", "crate::methods::max(tol, 0.0)", 3),
-    ("poly.rs", "r.min(", "crate::methods::min(r, ", 2),
-    ("poly.rs", "below.min(above)", "crate::methods::min(below, above)", 1),
-    ("poly.rs", "f64::min)", "crate::methods::min)", 1),
-    ("poly.rs", "f64::max)", "crate::methods::max)", 1),
-    ("poly.rs", "(p * p - 4.0 * r).max(0.0)", "crate::methods::max(p * p - 4.0 * r, 0.0)", 1),
-    ("poly.rs", "iso.min(", "crate::methods::min(iso, ", 1),
-    ("poly.rs", "spread.max(", "crate::methods::max(spread, ", 1),
+    ("poly.rs", "tol.max(0.0)", "crate::truth::methods::max(tol, 0.0)", 3),
+    ("poly.rs", "r.min(", "crate::truth::methods::min(r, ", 2),
+    ("poly.rs", "below.min(above)", "crate::truth::methods::min(below, above)", 1),
+    ("poly.rs", "f64::min)", "crate::truth::methods::min)", 1),
+    ("poly.rs", "f64::max)", "crate::truth::methods::max)", 1),
+    (
+        "poly.rs",
+        "(p * p - 4.0 * r).max(0.0)",
+        "crate::truth::methods::max(p * p - 4.0 * r, 0.0)",
+        1,
+    ),
+    ("poly.rs", "iso.min(", "crate::truth::methods::min(iso, ", 1),
+    ("poly.rs", "spread.max(", "crate::truth::methods::max(spread, ", 1),
     (
         "equation.rs",
         "r1.min(r2), r1.max(r2)",
-        "crate::methods::min(r1, r2), crate::methods::max(r1, r2)",
+        "crate::truth::methods::min(r1, r2), crate::truth::methods::max(r1, r2)",
         1,
     ),
     // sorts that keep ties in their earlier order
@@ -179,108 +184,109 @@ pub const COUNTED: &[Patch] = &[
     (
         "poly.rs",
         "(hi - lo > SPLIT_BITS).then(",
-        "(hi - lo > SPLIT_BITS && crate::met::way(k)).then(",
+        "(hi - lo > SPLIT_BITS && crate::compare::ways::way(k)).then(",
         1,
     ),
     (
         "poly.rs",
         "magnitude_split(&sc.lg, sc.d) else {\n",
-        "magnitude_split(&sc.lg, sc.d) else {\n        crate::met::way(3);\n",
+        "magnitude_split(&sc.lg, sc.d) else {\n        crate::compare::ways::way(3);\n",
         1,
     ),
     (
         "poly.rs",
         "if large.degree() != sc.d - small {\n",
-        "if large.degree() != sc.d - small {\n        crate::met::way(4);\n",
+        "if large.degree() != sc.d - small {\n        crate::compare::ways::way(4);\n",
         1,
     ),
     (
         "poly.rs",
         "&& s[0] != 0.0 && s[small] != 0.0) {\n",
-        "&& s[0] != 0.0 && s[small] != 0.0) {\n        crate::met::way(5);\n",
+        "&& s[0] != 0.0 && s[small] != 0.0) {\n        crate::compare::ways::way(5);\n",
         1,
     ),
     (
         "poly.rs",
         "    let inner = factorize(&sub, depth + 1);\n",
-        "    crate::met::way(6 + depth as usize);\n    let inner = factorize(&sub, depth + 1);\n",
+        "    crate::compare::ways::way(6 + depth as usize);\n    let inner = factorize(&sub, depth + 1);\n",
         1,
     ),
     (
         "poly.rs",
         "                Some(r) => {\n",
-        "                Some(r) => {\n                    crate::met::way(9);\n",
+        "                Some(r) => {\n                    crate::compare::ways::way(9);\n",
         1,
     ),
     (
         "poly.rs",
-        "value[k] = self.polish(vals[k], crate::methods::min(below, above));\n",
-        "value[k] = self.polish(vals[k], crate::methods::min(below, above));\n                crate::met::polished(value[k]);\n",
+        "value[k] = self.polish(vals[k], crate::truth::methods::min(below, above));\n",
+        "value[k] = self.polish(vals[k], crate::truth::methods::min(below, above));\n                crate::compare::ways::polished(value[k]);\n",
         1,
     ),
     (
         "poly.rs",
         "            let band = self.band(mid, tol);\n",
-        "            crate::met::way(12);\n            let band = self.band(mid, tol);\n",
+        "            crate::compare::ways::way(12);\n            let band = self.band(mid, tol);\n",
         1,
     ),
     (
         "poly.rs",
         "            pairs.centre[pairs.len] = mid;\n",
-        "            crate::met::way(13);\n            pairs.centre[pairs.len] = mid;\n",
+        "            crate::compare::ways::way(13);\n            pairs.centre[pairs.len] = mid;\n",
         1,
     ),
     (
         "poly.rs",
         "                let total = m + mult[k];\n",
-        "                crate::met::way(14);\n                let total = m + mult[k];\n",
+        "                crate::compare::ways::way(14);\n                let total = m + mult[k];\n",
         1,
     ),
     (
         "poly.rs",
         "value.is_finite().then_some(RealRoot {",
-        "(value.is_finite() || crate::met::left()).then_some(RealRoot {",
+        "(value.is_finite() || crate::compare::ways::left()).then_some(RealRoot {",
         1,
     ),
     (
         "poly.rs",
         "            items[n] = (y, if touches_at(y) { 2 } else { 0 });\n",
-        "            crate::met::way(16);\n            items[n] = (y, if touches_at(y) { 2 } else { 0 });\n",
+        "            crate::compare::ways::way(16);\n            items[n] = (y, if touches_at(y) { 2 } else { 0 });\n",
         1,
     ),
     (
         "poly.rs",
         "lo < y && y < hi && touches_at(y)",
-        "lo < y && y < hi && crate::met::way(17) && touches_at(y)",
+        "lo < y && y < hi && crate::compare::ways::way(17) && touches_at(y)",
         1,
     ),
     (
         "poly.rs",
         "            mult += items[k].1;\n",
-        "            crate::met::way(18);\n            mult += items[k].1;\n",
+        "            crate::compare::ways::way(18);\n            mult += items[k].1;\n",
         1,
     ),
 ];
 
 /// The host's own reader and lister of hall files.
-pub const OWN: [&str; 2] = ["format.rs", "lister.rs"];
+pub const OWN: [&str; 2] = ["hall_file.rs", "lister.rs"];
 
 /// In their copies: what is private is opened, paths lead to the copies, and printing is a function
 /// of its own.
 pub const OWN_OPENED: &[Patch] = &[
-    ("format.rs", "pub mod text;\n", "", 1),
-    ("format.rs", "\nfn ", "\npub fn ", 5),
-    ("lister.rs", "use crate::format::", "use super::format::", 1),
+    ("hall_file.rs", "\nfn ", "\npub fn ", 5),
+    ("lister.rs", "use crate::truth::hall_file::", "use super::hall_file::", 1),
     (
         "lister.rs",
         "impl fmt::Display for Answer {\n    fn fmt(",
-        "impl fmt::Display for Answer {\n    fn fmt(&self, f: &mut fmt::Formatter) -> fmt::Result {\n        self.print(f)\n    }\n}\n\nimpl Answer {\n    pub fn print(",
+        "impl fmt::Display for Answer {\n    fn fmt(&self, f: &mut fmt::Formatter) -> fmt::Result {\n        self.print(f)\n    }\n}\n\nimpl Answer {\n    \
+         pub fn print(",
         1,
     ),
     (
         "lister.rs",
         "impl fmt::Display for Line {\n    fn fmt(",
-        "impl fmt::Display for Line {\n    fn fmt(&self, f: &mut fmt::Formatter) -> fmt::Result {\n        self.print(f)\n    }\n}\n\nimpl Line {\n    pub fn print(",
+        "impl fmt::Display for Line {\n    fn fmt(&self, f: &mut fmt::Formatter) -> fmt::Result {\n        self.print(f)\n    }\n}\n\nimpl Line {\n    \
+         pub fn print(",
         1,
     ),
 ];

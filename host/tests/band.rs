@@ -1,16 +1,16 @@
 //! The band, what is found in it, polishing and the finished roots by the port, against the
 //! reference build.
 #![cfg(geomcore)]
-use host::clustering::{
+use host::compare::compare_made;
+use host::compare::tally::Tally;
+use host::inputs::clustering::{
     Ends, Handed, Within, base, candidates, critical_way, found_numbers, gap, half, handed,
     interval, placed, polish_way, quadratic, radius, root_numbers, scaled, within,
 };
-use host::compare::compare_made;
-use host::lists::{KINDS, List, list, tolerance};
+use host::inputs::lists::{KINDS, List, list, tolerance};
+use host::inputs::random::Random;
 use host::port::{bytes, clustering as port, forty};
-use host::random::Random;
-use host::reference::patched::poly;
-use host::tally::Tally;
+use host::truth::reference::patched::poly;
 
 const EACH: u64 = 65_000;
 

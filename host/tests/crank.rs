@@ -1,10 +1,10 @@
 //! Crank equations by the port against the reference build's `solve_trig` up to its list of r.
 #![cfg(geomcore)]
-use host::answer::{Answer, Root};
+use host::compare::answer::{Answer, Root};
 use host::compare::say;
-use host::cranks::made;
-use host::met::named;
+use host::compare::ways::named;
 use host::port::inquiries::{crank_inquire, crank_inquire_bytes};
+use host::runs::cranks::made;
 
 const TOL: f64 = 1.0 / (1u64 << 30) as f64;
 

@@ -2,7 +2,7 @@
 //! has them as a table.
 #![cfg(geomcore)]
 use host::port;
-use host::roots::{by_untouched, reference};
+use host::runs::lists::{by_untouched, reference};
 
 /// In each paragraph a cause and in what it departs; the tolerance and the list, in bits; the
 /// untouched Rust's answer; the reference build's, which is the port's.

@@ -1,5 +1,5 @@
 //! The documents that are made from the repository's own text are what it makes.
-use host::documents::{functions, made, root};
+use host::people::documents::{functions, made, root};
 use std::fs;
 
 #[test]

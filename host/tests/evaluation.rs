@@ -1,11 +1,11 @@
 //! Evaluation by the port against the reference build.
 #![cfg(geomcore)]
 use host::compare::compare;
-use host::lent::whole_or_nothing;
-use host::polynomials::{evaluated, every_kind, quadratics};
+use host::compare::lent_bytes::whole_or_nothing;
+use host::inputs::polynomials::{evaluated, every_kind, quadratics};
+use host::inputs::random::Random;
 use host::port::{self, exported};
-use host::random::Random;
-use host::reference::patched::poly;
+use host::truth::reference::patched::poly;
 
 const EACH: usize = 120_000;
 

@@ -1,9 +1,10 @@
 //! `exact` against `plain`: the guesses and shortcuts of the one against the other's search, a
 //! binary digit at a time.
 use host::compare::{Kind, compare, kind};
-use host::exact::{self, digits};
-use host::random::Random;
-use host::{inputs, plain};
+use host::inputs::leaves;
+use host::inputs::random::Random;
+use host::truth::exact::{self, digits};
+use host::truth::plain;
 
 /// `n` of each kind, and only those that are finite and above 0.
 fn some(kinds: Vec<Kind<f64>>, n: usize, wanted: impl Fn(f64) -> bool) -> Vec<Kind<f64>> {
@@ -22,10 +23,10 @@ fn positive(x: f64) -> bool {
 #[test]
 fn sqrt() {
     let mut r = Random::new(201);
-    let mut kinds = inputs::common(&mut r, 10);
-    inputs::without_sign(&mut kinds);
-    kinds.push(kind("at squares", inputs::squares(&mut r, 100)));
-    kinds.push(kind("at middles", inputs::square_middles(&mut r, 100)));
+    let mut kinds = leaves::common(&mut r, 10);
+    leaves::without_sign(&mut kinds);
+    kinds.push(kind("at squares", leaves::squares(&mut r, 100)));
+    kinds.push(kind("at middles", leaves::square_middles(&mut r, 100)));
     let kinds = some(kinds, 150, positive);
     compare("exact sqrt", 201, &kinds, exact::sqrt, plain::sqrt);
 }
@@ -33,9 +34,9 @@ fn sqrt() {
 #[test]
 fn cbrt() {
     let mut r = Random::new(202);
-    let mut kinds = inputs::common(&mut r, 10);
-    kinds.push(kind("at cubes", inputs::cubes(&mut r, 100)));
-    kinds.push(kind("at middles", inputs::cube_middles(&mut r, 100)));
+    let mut kinds = leaves::common(&mut r, 10);
+    kinds.push(kind("at cubes", leaves::cubes(&mut r, 100)));
+    kinds.push(kind("at middles", leaves::cube_middles(&mut r, 100)));
     let kinds = some(kinds, 150, |x| x.is_finite() && x != 0.0);
     let plainly = |x: f64| plain::cbrt(x).copysign(x);
     compare("exact cbrt", 202, &kinds, exact::cbrt, plainly);
@@ -43,7 +44,7 @@ fn cbrt() {
 
 #[test]
 fn third_angle() {
-    let kinds = inputs::third(&mut Random::new(203));
+    let kinds = leaves::third(&mut Random::new(203));
     let kinds = some(kinds, 100, |v| v.abs() <= 1.0);
     let plainly = |v| {
         let c = plain::third_cos(v);
@@ -55,11 +56,11 @@ fn third_angle() {
 #[test]
 fn log2() {
     let mut r = Random::new(204);
-    let mut kinds = inputs::common(&mut r, 10);
-    inputs::without_sign(&mut kinds);
+    let mut kinds = leaves::common(&mut r, 10);
+    leaves::without_sign(&mut kinds);
     let mut kinds = some(kinds, 20, positive);
     // The power of 256 of a number of 2,098 digits takes milliseconds; of one of 53 digits, not.
-    let places = inputs::threshold_places(&mut r, 2).into_iter().map(near_the_unit);
+    let places = leaves::threshold_places(&mut r, 2).into_iter().map(near_the_unit);
     kinds.push(kind("at thresholds", places.collect()));
     let plainly = |x| plain::log2_grid(x) as f64 / 256.0;
     compare("exact log2", 204, &kinds, exact::log2, plainly);
@@ -72,7 +73,7 @@ fn near_the_unit(x: f64) -> f64 {
 
 #[test]
 fn ldexp() {
-    let kinds = inputs::scaled(&mut Random::new(205));
+    let kinds = leaves::scaled(&mut Random::new(205));
     let few = |k: Kind<(f64, i32)>| {
         let step = k.inputs.len().div_ceil(4000);
         let inputs = k.inputs.into_iter().step_by(step);
@@ -110,7 +111,7 @@ fn scale_exponent() {
     let close = |r: &mut Random| {
         let x = r.unit() + 0.5;
         let near = |r: &mut Random| {
-            exact::ldexp(inputs::step(x, r.below(3) as i64 - 1), r.below(9) as i32)
+            exact::ldexp(leaves::step(x, r.below(3) as i64 - 1), r.below(9) as i32)
         };
         std::array::from_fn(|_| near(r))
     };
@@ -144,7 +145,7 @@ fn entries() {
     let (c, s) = exact::third_angle(-0.0);
     assert_eq!((c.to_bits(), s.to_bits()), (0x3FEB_B67A_E858_4CAA, 0x3FE0_0000_0000_0001));
     assert_eq!(exact::third_angle(-1.0).0, 0.5);
-    assert_eq!(exact::third_angle(inputs::step(1.0, -1)), (1.0, 0.0));
+    assert_eq!(exact::third_angle(leaves::step(1.0, -1)), (1.0, 0.0));
     assert_eq!(exact::thresholds()[0], 1 << 52);
     assert_eq!(exact::thresholds()[255], 8982844293129178);
 }

@@ -1,11 +1,11 @@
 //! Factors of cubics and quartics by the port against the reference build.
 #![cfg(geomcore)]
+use host::compare::lent_bytes::whole_or_nothing;
 use host::compare::{compare, say};
-use host::lent::whole_or_nothing;
-use host::polynomials::{every_kind, monic, polynomial, quadratics};
+use host::inputs::polynomials::{every_kind, monic, polynomial, quadratics};
+use host::inputs::random::Random;
 use host::port::{self, exported};
-use host::random::Random;
-use host::reference::patched::poly;
+use host::truth::reference::patched::poly;
 
 const EACH: usize = 115_000;
 

@@ -1,23 +1,25 @@
 //! The port's methods on doubles against Rust's own where document 01 keeps them, else against
 //! `methods`.
 use host::compare::{Kind, compare, kind};
-use host::random::Random;
-use host::{inputs, methods, port};
+use host::inputs::leaves;
+use host::inputs::random::Random;
+use host::port;
+use host::truth::methods;
 
 const SEED: u64 = 301;
 
 fn singles() -> Vec<Kind<f64>> {
-    inputs::common(&mut Random::new(SEED), 1500)
+    leaves::common(&mut Random::new(SEED), 1500)
 }
 
 fn pairs() -> Vec<Kind<(f64, f64)>> {
     let mut r = Random::new(SEED);
-    let edges = inputs::edges();
+    let edges = leaves::edges();
     let all = edges.iter().flat_map(|&x| edges.iter().map(move |&y| (x, y)));
     let any = (0..1_500_000).map(|_| (r.any(), r.any())).collect();
     let close = |r: &mut Random| {
         let x = r.any();
-        (x, inputs::step(x, r.below(5) as i64 - 2))
+        (x, leaves::step(x, r.below(5) as i64 - 2))
     };
     vec![
         kind("pairs of edges", all.collect()),
@@ -29,7 +31,7 @@ fn pairs() -> Vec<Kind<(f64, f64)>> {
 /// Three numbers from a list of two kinds: edges, and what is close to the first.
 fn triples() -> Vec<Kind<(f64, f64, f64)>> {
     let mut r = Random::new(SEED);
-    let edges = inputs::edges();
+    let edges = leaves::edges();
     let mut all = Vec::new();
     for &x in &edges {
         for &lo in &edges {
@@ -102,7 +104,7 @@ fn total_le() {
 fn powi() {
     let mut r = Random::new(SEED);
     let powers = [0, 1, 2, 3, 4, 5, 6, u32::MAX];
-    let edges = inputs::edges().into_iter().flat_map(|v| powers.map(|n| (v, n)));
+    let edges = leaves::edges().into_iter().flat_map(|v| powers.map(|n| (v, n)));
     let any = |r: &mut Random| (r.any(), r.below(6) as u32);
     let middling = |r: &mut Random| (16.0 * r.unit() - 8.0, 1 + r.below(4) as u32);
     let kinds = [
@@ -118,7 +120,7 @@ fn floor() {
     let mut r = Random::new(SEED);
     let mut kinds = singles();
     let whole = (-8300..=8300).map(|n| n as f64);
-    kinds.push(kind("at whole numbers", inputs::neighbours(whole, 2)));
+    kinds.push(kind("at whole numbers", leaves::neighbours(whole, 2)));
     let middling = (0..500_000).map(|_| 17_000.0 * r.unit() - 8500.0);
     kinds.push(kind("from -8500 to 8500", middling.collect()));
     compare("floor", SEED, &kinds, |x| port::float_floor(x), methods::floor);

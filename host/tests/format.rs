@@ -1,8 +1,8 @@
 //! The hall file both ways, and the host's own lister.
-use host::format::text::{self, TextError};
-use host::format::{Kind, Record, file, items};
-use host::halls::records;
-use host::random::Random;
+use host::inputs::hall_files::records;
+use host::inputs::random::Random;
+use host::people::text::{self, TextError};
+use host::truth::hall_file::{Kind, Record, file, items};
 
 fn read(text: &str) -> Result<Vec<u8>, TextError> {
     text::read(text.as_bytes()).map(|records| file(&records))
@@ -100,12 +100,12 @@ fn nan_bits_are_kept() {
 mod listings {
     use super::read;
     use host::compare::say;
-    use host::halls::any_file;
-    use host::lister::{Reference, Untouched, lines, listing};
-    use host::random::Random;
-    use host::stored_files::{
+    use host::inputs::hall_files::any_file;
+    use host::inputs::random::Random;
+    use host::stored::files::{
         DOCUMENT, DOCUMENT_LISTING, ENTRIES, FINE_POINTS, MISTAKES, REFUSED, files, of_size,
     };
+    use host::truth::lister::{Reference, Untouched, lines, listing};
 
     fn listed(bytes: &[u8]) -> String {
         String::from_utf8(listing(bytes, &Reference)).unwrap()

@@ -1,13 +1,13 @@
 //! Inquiries by the port against the reference build's `real_roots_touching`, and document 01's
 //! entries.
 #![cfg(geomcore)]
-use host::answer::{Answer, Root};
+use host::compare::answer::{Answer, Root};
 use host::compare::say;
-use host::inquiries::{each, every_reply, made, made_long};
-use host::lists::long_lists;
-use host::met::named;
+use host::compare::ways::named;
+use host::inputs::lists::long_lists;
 use host::port;
 use host::port::inquiries::{inquire, inquire_bytes};
+use host::runs::inquiries::{each, every_reply, made, made_long};
 
 const TOL: f64 = 1.0 / (1u64 << 30) as f64;
 

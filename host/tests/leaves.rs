@@ -1,17 +1,19 @@
 //! Every leaf of the port against `exact`, and against Rust's own and geomcore's where document 01
 //! keeps those.
 use host::compare::{Kind, bits, compare, kind, say};
-use host::random::Random;
-use host::{exact, hard, inputs, port, reference};
+use host::inputs::random::Random;
+use host::inputs::{leaves, near_ties};
+use host::port;
+use host::truth::{exact, reference};
 
 #[test]
 fn sqrt() {
     let mut r = Random::new(101);
-    let mut kinds = inputs::common(&mut r, 2000);
-    inputs::without_sign(&mut kinds);
-    kinds.push(kind("at squares", inputs::squares(&mut r, 300_000)));
-    kinds.push(kind("at middles", inputs::square_middles(&mut r, 400_000)));
-    kinds.push(kind("nearly ties", hard::sqrt_ties(1_000_000)));
+    let mut kinds = leaves::common(&mut r, 2000);
+    leaves::without_sign(&mut kinds);
+    kinds.push(kind("at squares", leaves::squares(&mut r, 300_000)));
+    kinds.push(kind("at middles", leaves::square_middles(&mut r, 400_000)));
+    kinds.push(kind("nearly ties", near_ties::sqrt_ties(1_000_000)));
     compare("sqrt", 101, &kinds, |x| port::leaf_sqrt(x), exact::sqrt);
     compare("sqrt beside f64::sqrt", 101, &kinds, |x| port::leaf_sqrt(x), f64::sqrt);
 }
@@ -19,9 +21,9 @@ fn sqrt() {
 #[test]
 fn cbrt() {
     let mut r = Random::new(102);
-    let mut kinds = inputs::common(&mut r, 2000);
-    kinds.push(kind("at cubes", inputs::cubes(&mut r, 200_000)));
-    kinds.push(kind("at middles", inputs::cube_middles(&mut r, 400_000)));
+    let mut kinds = leaves::common(&mut r, 2000);
+    kinds.push(kind("at cubes", leaves::cubes(&mut r, 200_000)));
+    kinds.push(kind("at middles", leaves::cube_middles(&mut r, 400_000)));
     compare("cbrt", 102, &kinds, |x| port::leaf_cbrt(x), exact::cbrt);
     let all = kinds.iter().flat_map(|k| &k.inputs);
     let agree = all.clone().filter(|x| bits(x.cbrt()) == bits(port::leaf_cbrt(**x)));
@@ -31,9 +33,9 @@ fn cbrt() {
 #[test]
 fn log2() {
     let mut r = Random::new(103);
-    let mut kinds = inputs::common(&mut r, 2000);
-    inputs::without_sign(&mut kinds);
-    kinds.push(kind("at thresholds", inputs::threshold_places(&mut r, 400)));
+    let mut kinds = leaves::common(&mut r, 2000);
+    leaves::without_sign(&mut kinds);
+    kinds.push(kind("at thresholds", leaves::threshold_places(&mut r, 400)));
     compare("log2", 103, &kinds, |x| port::leaf_log2(x), exact::log2);
     let five: Vec<Kind<[f64; 5]>> = kinds.iter().map(by_five).collect();
     compare("log2_five", 103, &five, log2_five, |a| a.map(exact::log2));
@@ -53,13 +55,13 @@ fn log2_five(a: [f64; 5]) -> [f64; 5] {
 
 #[test]
 fn third_angle() {
-    let kinds = inputs::third(&mut Random::new(104));
+    let kinds = leaves::third(&mut Random::new(104));
     compare("third_angle", 104, &kinds, port::third_angle, exact::third_angle);
 }
 
 #[test]
 fn ldexp() {
-    let kinds = inputs::scaled(&mut Random::new(105));
+    let kinds = leaves::scaled(&mut Random::new(105));
     let scaled = |(x, k)| port::leaf_ldexp(x, k);
     compare("ldexp", 105, &kinds, scaled, |(x, k)| exact::ldexp(x, k));
     beside_the_rust::ldexp(&kinds);
@@ -81,7 +83,7 @@ fn pow2() {
 
 #[test]
 fn exponent() {
-    let kinds = inputs::common(&mut Random::new(107), 2000);
+    let kinds = leaves::common(&mut Random::new(107), 2000);
     compare("exponent", 107, &kinds, |x| port::leaf_exponent(x), exact::exponent);
 }
 

@@ -1,18 +1,18 @@
 //! Whole hall files: their listings by the port, and by the program itself, against the host's own
 //! lister over the reference build.
 #![cfg(geomcore)]
+use host::compare::outcome::Outcome;
 use host::compare::say;
-use host::files::damaged::Hunt;
-use host::files::made;
-use host::format::MOST_BYTES;
-use host::halls::any_file;
-use host::lister::{Reference, listing};
-use host::met::{OF_LISTS, WAYS};
-use host::outcome::Outcome;
+use host::compare::ways::{OF_LISTS, WAYS};
+use host::inputs::hall_files::any_file;
+use host::inputs::random::Random;
+use host::people::show::whole_listing;
 use host::port;
-use host::random::Random;
-use host::show::whole_listing;
-use host::stored_files::{DOCUMENT_LISTING, files, of_size};
+use host::runs::damage::Hunt;
+use host::runs::files::made;
+use host::stored::files::{DOCUMENT_LISTING, files, of_size};
+use host::truth::hall_file::MOST_BYTES;
+use host::truth::lister::{Reference, listing};
 use std::env;
 use std::io::Write;
 use std::path::Path;

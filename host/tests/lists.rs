@@ -1,13 +1,13 @@
 //! Whole lists by the port against the reference build, and document 01's entries.
 #![cfg(geomcore)]
-use host::answer::{Answer, Root};
+use host::compare::answer::{Answer, Root};
+use host::compare::outcome::Outcome;
 use host::compare::say;
-use host::exact::ldexp;
-use host::lists::{TOLERANCES, long_lists};
-use host::met::{OF_LISTS, WAYS};
-use host::outcome::Outcome;
+use host::compare::ways::{OF_LISTS, WAYS};
+use host::inputs::lists::{TOLERANCES, long_lists};
 use host::port;
-use host::roots::{each, every_short_list, made, made_long, reference};
+use host::runs::lists::{each, every_short_list, made, made_long, reference};
+use host::truth::exact::ldexp;
 
 const TOL: f64 = 1.0 / (1u64 << 30) as f64;
 const INFINITE: f64 = f64::INFINITY;

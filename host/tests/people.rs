@@ -1,7 +1,7 @@
 //! What the program `hall` does with hall files, as people call it.
 #![cfg(geomcore)]
-use host::format::items;
-use host::stored_files::{DOCUMENT, DOCUMENT_LISTING};
+use host::stored::files::{DOCUMENT, DOCUMENT_LISTING};
+use host::truth::hall_file::items;
 use std::fs;
 use std::io::Write;
 use std::path::{Path, PathBuf};
@@ -149,7 +149,7 @@ fn long_runs() {
     };
     assert!(said(&["files", "2000", "1"]).contains("2000 files, 0 differ"));
     // in no time, the stored files alone, on two threads
-    let all = 2 * host::stored_files::files().len();
+    let all = 2 * host::stored::files::files().len();
     assert!(said(&["damage", "0", "1"]).contains(&format!("{all} files, 0 differ")));
 }
 

@@ -1,16 +1,16 @@
 //! Quadratics and the crank's quartic by the port against the reference build, and document 01's
 //! entries.
 #![cfg(geomcore)]
+use host::compare::lent_bytes::whole_or_nothing;
 use host::compare::{Kind, bits, compare, kind, say};
-use host::lent::whole_or_nothing;
-use host::polynomials::every_kind;
+use host::inputs::polynomials::every_kind;
+use host::inputs::quadratics::{Quadratic, TOL, crank, quadratic, solution};
+use host::inputs::random::Random;
 use host::port::exported;
 use host::port::quadratics::{self as port, Solution};
-use host::quadratics::{Quadratic, TOL, crank, quadratic, solution};
-use host::random::Random;
-use host::reference::patched::{Tolerance, equation};
-use host::solved::refusing;
-use host::trees::REFERENCE;
+use host::runs::quadratics::refusing;
+use host::runs::trees::REFERENCE;
+use host::truth::reference::patched::{Tolerance, equation};
 
 const EACH: usize = 340_000;
 

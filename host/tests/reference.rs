@@ -3,11 +3,11 @@
 //! and answer in the order of the port's, as the search for mistakes takes them.
 #![cfg(geomcore)]
 use host::compare::bits;
-use host::pieces::Pieces;
-use host::random::Random;
-use host::reference::patched;
-use host::reference::patched::equation::{QuadraticSolution, solve_quadratic, solve_trig};
-use host::trees::REFERENCE;
+use host::inputs::pieces::Pieces;
+use host::inputs::random::Random;
+use host::runs::trees::REFERENCE;
+use host::truth::reference::patched;
+use host::truth::reference::patched::equation::{QuadraticSolution, solve_quadratic, solve_trig};
 use std::cell::RefCell;
 
 const TOL: f64 = 1.0 / (1u64 << 30) as f64;

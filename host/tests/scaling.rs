@@ -1,14 +1,15 @@
 //! Scaling and gaps by the port against the reference build.
 #![cfg(geomcore)]
+use host::compare::lent_bytes::whole_or_nothing;
+use host::compare::tally::Tally;
+use host::compare::ways;
 use host::compare::{Same, compare_made, say};
-use host::lent::whole_or_nothing;
-use host::lists::{KINDS, List, list, steps};
+use host::inputs::lists::{KINDS, List, list, steps};
+use host::inputs::random::Random;
+use host::port;
 use host::port::exported;
-use host::random::Random;
-use host::reference::patched::poly::{self, Scaled};
-use host::reference::untouched;
-use host::tally::Tally;
-use host::{met, port};
+use host::truth::reference::patched::poly::{self, Scaled};
+use host::truth::reference::untouched;
 use std::cell::Cell;
 use std::ops::Range;
 
@@ -109,7 +110,7 @@ fn scalings() {
 fn gaps(name: &str, tally: &Tally) {
     tally.say(name);
     let edges = ["gap at edge 0", "gap at edge 1", "gap at edge 2"];
-    let edges = met::named(&met::counts(), edges);
+    let edges = ways::named(&ways::counts(), edges);
     say(&format!("{name}: {edges:?}"));
     assert!(edges.iter().all(|e| e.1 > 0), "{name}: {edges:?}");
 }
@@ -218,8 +219,8 @@ fn factors(((a, d), depth): (List, u32)) -> [f64; 10] {
 }
 
 /// Compares over `each` lists of every kind, made at a depth, and says which ways the Rust went.
-fn factorizations(seed: u64, each: u64, depth: fn(&mut Random) -> u32) -> met::Counts {
-    let before = met::counts();
+fn factorizations(seed: u64, each: u64, depth: fn(&mut Random) -> u32) -> ways::Counts {
+    let before = ways::counts();
     let tally = Tally::new(&[
         "of degree 0",
         "a line",
@@ -244,13 +245,13 @@ fn factorizations(seed: u64, each: u64, depth: fn(&mut Random) -> u32) -> met::C
     let port = |((a, d), depth)| port::factorize(a, d, depth);
     compare_made("factorize", seed, (&KINDS, each), make, port, rust);
     tally.say("factorize");
-    met::since(&before)
+    ways::since(&before)
 }
 
 #[test]
 fn factored() {
     let ways = factorizations(604, EACH, |_| 0);
-    let ways = met::named(
+    let ways = ways::named(
         &ways,
         [
             "no gap",
@@ -263,7 +264,7 @@ fn factored() {
     );
     say(&format!("factorize: {ways:?}"));
     assert!(ways.iter().all(|way| way.1 > 0), "factorize: {ways:?}");
-    let deepest = met::named(&met::counts(), ["second scaling at depth 2"]);
+    let deepest = ways::named(&ways::counts(), ["second scaling at depth 2"]);
     say(&format!("factorize: {deepest:?}, which nothing asks for"));
 }
 
@@ -272,7 +273,7 @@ fn factored() {
 fn factored_at_depths() {
     let depth = |r: &mut Random| [1, 2, 3, 4, u32::MAX][r.below(5) as usize];
     let ways = factorizations(605, EACH / 5, depth);
-    let ways = met::named(&ways, ["second scaling at depth 1", "second scaling at depth 2"]);
+    let ways = ways::named(&ways, ["second scaling at depth 1", "second scaling at depth 2"]);
     say(&format!("factorize at depths: {ways:?}"));
     assert!(ways.iter().all(|way| way.1 > 0), "factorize at depths: {ways:?}");
 }

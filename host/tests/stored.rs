@@ -1,7 +1,7 @@
 //! The stored hall files of the crate `hallcases`, listed by the port: these need no geomcore.
 use host::compare::say;
+use host::people::show::whole_listing;
 use host::port;
-use host::show::whole_listing;
 use std::fs;
 use std::path::{Path, PathBuf};
 
@@ -43,8 +43,8 @@ fn the_example() {
 #[cfg(geomcore)]
 #[test]
 fn stored_files_are_up_to_date() {
-    use host::lister::{Reference, listing};
-    use host::stored_files::{DOCUMENT_LISTING, files};
+    use host::stored::files::{DOCUMENT_LISTING, files};
+    use host::truth::lister::{Reference, listing};
     let (mut made, mut all) = (Vec::new(), Vec::new());
     for (name, file) in files() {
         assert!(file == bytes(&format!("hallcases/data/{name}")), "{name}");

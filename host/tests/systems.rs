@@ -1,11 +1,11 @@
 //! Square systems and their refinement by the port against the reference build.
 #![cfg(geomcore)]
+use host::compare::lent_bytes::whole_or_nothing;
 use host::compare::{Kind, Same, Shown, bits, compare, say};
-use host::lent::whole_or_nothing;
-use host::polynomials::{every_kind, polynomial, refined, system};
+use host::inputs::polynomials::{every_kind, polynomial, refined, system};
+use host::inputs::random::Random;
 use host::port::{self, exported};
-use host::random::Random;
-use host::reference::patched::{poly, solve};
+use host::truth::reference::patched::{poly, solve};
 
 const EACH: usize = 115_000;
 

@@ -1,10 +1,10 @@
 //! Stored lists by the port against the reference build, under all three closures.
 #![cfg(geomcore)]
-use host::inquiries::{List, add, cases};
-use host::outcome::Outcome;
+use host::compare::outcome::Outcome;
 use host::port;
-use host::roots::reference;
-use host::telling::{LISTS, Telling};
+use host::runs::inquiries::{List, add, cases};
+use host::runs::lists::reference;
+use host::stored::telling::{LISTS, Telling};
 
 #[test]
 fn stored_lists() {

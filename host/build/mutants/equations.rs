@@ -49,8 +49,8 @@ pub const ALL: &[Variant] = &[
         "min and max exchanged",
         &[(
             E,
-            "crate::methods::min(r1, r2), crate::methods::max(r1, r2)",
-            "crate::methods::max(r1, r2), crate::methods::min(r1, r2)",
+            "crate::truth::methods::min(r1, r2), crate::truth::methods::max(r1, r2)",
+            "crate::truth::methods::max(r1, r2), crate::truth::methods::min(r1, r2)",
             1,
         )],
     ),
@@ -60,7 +60,7 @@ pub const ALL: &[Variant] = &[
         &[(
             E,
             "if sep <= tol.confusion *",
-            "if sep <= crate::methods::max(tol.confusion, 0.0) *",
+            "if sep <= crate::truth::methods::max(tol.confusion, 0.0) *",
             1,
         )],
     ),

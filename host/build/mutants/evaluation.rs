@@ -282,7 +282,8 @@ pub const ALL: &[Variant] = &[
         &[(
             P,
             "    if (-STEP..=STEP).contains(&k) {\n        return x * pow2(k);",
-            "    if let Some(d) = crate::exact::digits(x) {\n        let size = crate::exact::nearest(d.w, d.k + k);\n        return if d.negative { -size } else { size };\n    }\n    if (-STEP..=STEP).contains(&k) {\n        return x * pow2(k);",
+            "    if let Some(d) = crate::truth::exact::digits(x) {\n        let size = crate::truth::exact::nearest(d.w, d.k + k);\n        \
+             return if d.negative { -size } else { size };\n    }\n    if (-STEP..=STEP).contains(&k) {\n        return x * pow2(k);",
             1,
         )],
     ),
@@ -292,7 +293,8 @@ pub const ALL: &[Variant] = &[
         &[(
             P,
             "    while k > STEP &&",
-            "    if k > STEP || k < -STEP {\n        let rest = (k.abs() - 1) % STEP + 1;\n        x *= pow2(rest * k.signum());\n        k -= rest * k.signum();\n    }\n    while k > STEP &&",
+            "    if k > STEP || k < -STEP {\n        let rest = (k.abs() - 1) % STEP + 1;\n        x *= pow2(rest * k.signum());\n        \
+             k -= rest * k.signum();\n    }\n    while k > STEP &&",
             1,
         )],
     ),
@@ -315,8 +317,9 @@ pub const ALL: &[Variant] = &[
         "((v v) v) v in place of (v v)(v v)",
         &[(
             P,
-            "crate::methods::powi(half - base, self.d as u32)",
-            "(if self.d == 4 { (half - base) * (half - base) * (half - base) * (half - base) } else { crate::methods::powi(half - base, self.d as u32) })",
+            "crate::truth::methods::powi(half - base, self.d as u32)",
+            "(if self.d == 4 { (half - base) * (half - base) * (half - base) * (half - base) } else { crate::truth::methods::powi(half - base, self.d as \
+             u32) })",
             1,
         )],
     ),
@@ -325,8 +328,8 @@ pub const ALL: &[Variant] = &[
         "max does not pass a NaN over",
         &[(
             P,
-            "crate::methods::max",
-            "(|x: f64, y: f64| if x.is_nan() || y.is_nan() { f64::NAN } else { crate::methods::max(x, y) })",
+            "crate::truth::methods::max",
+            "(|x: f64, y: f64| if x.is_nan() || y.is_nan() { f64::NAN } else { crate::truth::methods::max(x, y) })",
             7,
         )],
     ),
@@ -335,8 +338,9 @@ pub const ALL: &[Variant] = &[
         "the cube root is rounded toward 0",
         &[(
             P,
-            "crate::exact::cbrt(",
-            "(|x: f64| { let c = crate::exact::cbrt(x); if c.is_finite() && c != 0.0 && (c * c * c).abs() > x.abs() { f64::from_bits(c.to_bits() - 1) } else { c } })(",
+            "crate::truth::exact::cbrt(",
+            "(|x: f64| { let c = crate::truth::exact::cbrt(x); if c.is_finite() && c != 0.0 && (c * c * c).abs() > x.abs() { f64::from_bits(c.to_bits() - \
+             1) } else { c } })(",
             2,
         )],
     ),
@@ -345,8 +349,9 @@ pub const ALL: &[Variant] = &[
         "s is the sine of a third of the angle",
         &[(
             P,
-            "let (cos, sin) = crate::exact::third_angle(cos3);",
-            "let (cos, sin) = (crate::exact::third_angle(cos3).0, ((1.0 - crate::exact::third_angle(cos3).0) * (1.0 + crate::exact::third_angle(cos3).0)).sqrt());",
+            "let (cos, sin) = crate::truth::exact::third_angle(cos3);",
+            "let (cos, sin) = (crate::truth::exact::third_angle(cos3).0, ((1.0 - crate::truth::exact::third_angle(cos3).0) * (1.0 + \
+             crate::truth::exact::third_angle(cos3).0)).sqrt());",
             1,
         )],
     ),
@@ -355,8 +360,8 @@ pub const ALL: &[Variant] = &[
         "the angle's third of the other end",
         &[(
             P,
-            "let (cos, sin) = crate::exact::third_angle(cos3);",
-            "let (cos, sin) = crate::exact::third_angle(-cos3);",
+            "let (cos, sin) = crate::truth::exact::third_angle(cos3);",
+            "let (cos, sin) = crate::truth::exact::third_angle(-cos3);",
             1,
         )],
     ),

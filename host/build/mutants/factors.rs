@@ -25,8 +25,8 @@ pub const ALL: &[Variant] = &[
         "s is the sine of the angle, not √(1 - c²) of the rounded c",
         &[(
             P,
-            "let (cos, sin) = crate::exact::third_angle(cos3);",
-            "let (cos, sin) = (crate::exact::third_angle(cos3).0, (cos3.acos() / 3.0).sin());",
+            "let (cos, sin) = crate::truth::exact::third_angle(cos3);",
+            "let (cos, sin) = (crate::truth::exact::third_angle(cos3).0, (cos3.acos() / 3.0).sin());",
             1,
         )],
     ),
@@ -140,8 +140,8 @@ pub const ALL: &[Variant] = &[
         "min in place of max",
         &[(
             P,
-            "fold(f64::NEG_INFINITY, crate::methods::max)",
-            "fold(f64::INFINITY, crate::methods::min)",
+            "fold(f64::NEG_INFINITY, crate::truth::methods::max)",
+            "fold(f64::INFINITY, crate::truth::methods::min)",
             1,
         )],
     ),
@@ -178,7 +178,12 @@ pub const ALL: &[Variant] = &[
     (
         "min and max exchanged in isolated_root",
         "iso is the largest distance",
-        &[(P, "iso = crate::methods::min(iso, ", "iso = crate::methods::max(0.0 * iso, ", 1)],
+        &[(
+            P,
+            "iso = crate::truth::methods::min(iso, ",
+            "iso = crate::truth::methods::max(0.0 * iso, ",
+            1,
+        )],
     ),
     (
         "the cluster's root before the peeled one",

@@ -2,7 +2,7 @@
 //! format.rs and lister.rs.
 use crate::patches::Variant;
 
-const F: &str = "format.rs";
+const F: &str = "hall_file.rs";
 const N: &str = "lister.rs";
 
 pub const ALL: &[Variant] = &[
@@ -82,7 +82,8 @@ pub const ALL: &[Variant] = &[
         &[(
             F,
             "if usize::from(count) > MOST_COEFFICIENTS {",
-            "if rest.len() < 8 * (1 + usize::from(count)) {\n                return Err(7);\n            }\n            if usize::from(count) > MOST_COEFFICIENTS {",
+            "if rest.len() < 8 * (1 + usize::from(count)) {\n                return Err(7);\n            }\n            \
+             if usize::from(count) > MOST_COEFFICIENTS {",
             1,
         )],
     ),
@@ -93,7 +94,8 @@ pub const ALL: &[Variant] = &[
         &[(
             F,
             "            let (tolerance, rest) = double(rest)?;\n            Ok(Record::List { tolerance, coeffs: doubles(rest, count.into())? })",
-            "            let mut coeffs = doubles(rest, usize::from(count) + 1)?;\n            let tolerance = coeffs.pop().ok_or(7)?;\n            Ok(Record::List { tolerance, coeffs })",
+            "            let mut coeffs = doubles(rest, usize::from(count) + 1)?;\n            let tolerance = coeffs.pop().ok_or(7)?;\n            \
+             Ok(Record::List { tolerance, coeffs })",
             1,
         )],
     ),

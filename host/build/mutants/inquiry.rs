@@ -49,7 +49,7 @@ pub const ALL: &[Variant] = &[
         "the smallest is not taken",
         &[(
             P,
-            "crate::methods::min(r, 0.5 * (it.0 - m).abs())",
+            "crate::truth::methods::min(r, 0.5 * (it.0 - m).abs())",
             "(0.0 * r + 0.5 * (it.0 - m).abs())",
             1,
         )],
@@ -59,8 +59,8 @@ pub const ALL: &[Variant] = &[
         "the distances with their signs",
         &[(
             P,
-            "crate::methods::min(r, 0.5 * (it.0 - m).abs())",
-            "crate::methods::min(r, 0.5 * (it.0 - m))",
+            "crate::truth::methods::min(r, 0.5 * (it.0 - m).abs())",
+            "crate::truth::methods::min(r, 0.5 * (it.0 - m))",
             1,
         )],
     ),
@@ -179,8 +179,10 @@ pub const ALL: &[Variant] = &[
         "the question first",
         &[(
             P,
-            "        if items[..n]\n            .iter()\n            .all(|it| (it.0 - y).abs() > tol * (poly.unit + y.abs()))\n        {\n            items[n] = (y, if touches_at(y) { 2 } else { 0 });",
-            "        let yes = touches_at(y);\n        if items[..n]\n            .iter()\n            .all(|it| (it.0 - y).abs() > tol * (poly.unit + y.abs()))\n        {\n            items[n] = (y, if yes { 2 } else { 0 });",
+            "        if items[..n]\n            .iter()\n            .all(|it| (it.0 - y).abs() > tol * (poly.unit + y.abs()))\n        {\n            \
+             items[n] = (y, if touches_at(y) { 2 } else { 0 });",
+            "        let yes = touches_at(y);\n        if items[..n]\n            .iter()\n            \
+             .all(|it| (it.0 - y).abs() > tol * (poly.unit + y.abs()))\n        {\n            items[n] = (y, if yes { 2 } else { 0 });",
             1,
         )],
     ),

@@ -9,7 +9,7 @@ pub const ALL: &[Variant] = &[
         "the band and the noise radius alone decide",
         &[(
             P,
-            "if crate::methods::powi(half - base, self.d as u32) * self.f[self.d].abs() > budget {",
+            "if crate::truth::methods::powi(half - base, self.d as u32) * self.f[self.d].abs() > budget {",
             "if half < base && budget < 0.0 {",
             1,
         )],
@@ -54,30 +54,40 @@ pub const ALL: &[Variant] = &[
         "min does not pass a NaN over",
         &[(
             P,
-            "crate::methods::min",
-            "(|x: f64, y: f64| if x.is_nan() || y.is_nan() { f64::NAN } else { crate::methods::min(x, y) })",
+            "crate::truth::methods::min",
+            "(|x: f64, y: f64| if x.is_nan() || y.is_nan() { f64::NAN } else { crate::truth::methods::min(x, y) })",
             5,
         )],
     ),
     (
         "max(-0, 0) = +0",
         "of two zeros with unlike signs max takes the positive one",
-        &[(P, "crate::methods::max", "(|x: f64, y: f64| crate::methods::max(x, y) + 0.0)", 7)],
+        &[(
+            P,
+            "crate::truth::methods::max",
+            "(|x: f64, y: f64| crate::truth::methods::max(x, y) + 0.0)",
+            7,
+        )],
     ),
     (
         "the last of two zeros",
         "of two zeros with unlike signs min takes the last",
-        &[(P, "crate::methods::min", "(|x: f64, y: f64| crate::methods::min(y, x))", 5)],
+        &[(
+            P,
+            "crate::truth::methods::min",
+            "(|x: f64, y: f64| crate::truth::methods::min(y, x))",
+            5,
+        )],
     ),
     (
         "the size of a negative tolerance",
         "`tol.abs()` in place of max(tol, 0)",
-        &[(P, "crate::methods::max(tol, 0.0)", "tol.abs()", 3)],
+        &[(P, "crate::truth::methods::max(tol, 0.0)", "tol.abs()", 3)],
     ),
     (
         "a NaN tolerance stays",
         "NaN is not read as 0",
-        &[(P, "crate::methods::max(tol, 0.0)", "(if tol < 0.0 { 0.0 } else { tol })", 3)],
+        &[(P, "crate::truth::methods::max(tol, 0.0)", "(if tol < 0.0 { 0.0 } else { tol })", 3)],
     ),
     (
         "a factor of discriminant 0 beyond the band is real",
@@ -203,7 +213,12 @@ pub const ALL: &[Variant] = &[
     (
         "the larger gap",
         "max in place of min",
-        &[(P, "crate::methods::min(below, above)", "crate::methods::max(below, above)", 1)],
+        &[(
+            P,
+            "crate::truth::methods::min(below, above)",
+            "crate::truth::methods::max(below, above)",
+            1,
+        )],
     ),
     (
         "joined with the neighbour, not the mean",

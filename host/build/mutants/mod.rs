@@ -1,12 +1,16 @@
 //! Plausible mistakes, and one for each operator of the definitions.
 mod bands;
-mod closed_forms;
+mod critical_points;
+mod cubics;
 mod equations;
 mod evaluation;
 mod factors;
 mod files;
 mod inquiry;
 mod listing;
+mod polishing;
+mod quartics;
+mod refined_systems;
 mod scales;
 mod scaling;
 mod solutions;
@@ -20,10 +24,14 @@ pub fn all() -> Vec<Variant> {
         scaling::ALL,
         scales::ALL,
         factors::ALL,
-        closed_forms::ALL,
+        cubics::ALL,
+        quartics::ALL,
         systems::ALL,
+        refined_systems::ALL,
         listing::ALL,
         bands::ALL,
+        critical_points::ALL,
+        polishing::ALL,
         inquiry::ALL,
         equations::ALL,
         solutions::ALL,

@@ -62,8 +62,8 @@ pub const ALL: &[Variant] = &[
         "e + 1",
         &[(
             P,
-            "let e = crate::exact::scale_exponent(a);",
-            "let e = crate::exact::scale_exponent(a) + 1;",
+            "let e = crate::truth::exact::scale_exponent(a);",
+            "let e = crate::truth::exact::scale_exponent(a) + 1;",
             1,
         )],
     ),
@@ -72,8 +72,8 @@ pub const ALL: &[Variant] = &[
         "a_0 does not bound e",
         &[(
             P,
-            "let e = crate::exact::scale_exponent(a);",
-            "let e = if d > 1 { crate::exact::scale_exponent(&[&[0.0], &a[1..]].concat()) } else { crate::exact::scale_exponent(a) };",
+            "let e = crate::truth::exact::scale_exponent(a);",
+            "let e = if d > 1 { crate::truth::exact::scale_exponent(&[&[0.0], &a[1..]].concat()) } else { crate::truth::exact::scale_exponent(a) };",
             1,
         )],
     ),
@@ -82,8 +82,8 @@ pub const ALL: &[Variant] = &[
         "a negative e becomes 0",
         &[(
             P,
-            "let e = crate::exact::scale_exponent(a);",
-            "let e = crate::exact::scale_exponent(a).max(0);",
+            "let e = crate::truth::exact::scale_exponent(a);",
+            "let e = crate::truth::exact::scale_exponent(a).max(0);",
             1,
         )],
     ),
@@ -92,8 +92,9 @@ pub const ALL: &[Variant] = &[
         "the Rust's own e, by `log2` rounded up",
         &[(
             P,
-            "let e = crate::exact::scale_exponent(a);",
-            "let e = (0..d).map(|i| ((lg[i] - lg[d]) / (d - i) as f64).ceil()).fold(f64::NEG_INFINITY, f64::max) as i32;\n        let e = if d == 0 { 0 } else { e };",
+            "let e = crate::truth::exact::scale_exponent(a);",
+            "let e = (0..d).map(|i| ((lg[i] - lg[d]) / (d - i) as f64).ceil()).fold(f64::NEG_INFINITY, f64::max) as i32;\n        \
+             let e = if d == 0 { 0 } else { e };",
             1,
         )],
     ),
@@ -102,15 +103,20 @@ pub const ALL: &[Variant] = &[
         "the exponent of a_d is that of the next power of two",
         &[(
             P,
-            "crate::exact::exponent(a[d]) + e * d as i32",
-            "crate::exact::exponent(a[d]) + 1 + e * d as i32",
+            "crate::truth::exact::exponent(a[d]) + e * d as i32",
+            "crate::truth::exact::exponent(a[d]) + 1 + e * d as i32",
             1,
         )],
     ),
     (
         "top without e d",
         "top is the exponent alone",
-        &[(P, "crate::exact::exponent(a[d]) + e * d as i32", "crate::exact::exponent(a[d])", 1)],
+        &[(
+            P,
+            "crate::truth::exact::exponent(a[d]) + e * d as i32",
+            "crate::truth::exact::exponent(a[d])",
+            1,
+        )],
     ),
     (
         "lg without the shift",
@@ -122,7 +128,7 @@ pub const ALL: &[Variant] = &[
         "L is rounded to the nearest multiple of 1/256",
         &[(
             P,
-            "*l = crate::exact::log2(c.abs());",
+            "*l = crate::truth::exact::log2(c.abs());",
             "*l = (256.0 * c.abs().log2()).round() / 256.0;",
             1,
         )],
@@ -132,15 +138,15 @@ pub const ALL: &[Variant] = &[
         "L is a multiple of 1/128",
         &[(
             P,
-            "*l = crate::exact::log2(c.abs());",
-            "*l = (128.0 * crate::exact::log2(c.abs())).floor() / 128.0;",
+            "*l = crate::truth::exact::log2(c.abs());",
+            "*l = (128.0 * crate::truth::exact::log2(c.abs())).floor() / 128.0;",
             1,
         )],
     ),
     (
         "L exact",
         "L is the logarithm itself",
-        &[(P, "*l = crate::exact::log2(c.abs());", "*l = c.abs().log2();", 1)],
+        &[(P, "*l = crate::truth::exact::log2(c.abs());", "*l = c.abs().log2();", 1)],
     ),
     (
         "monic by the reciprocal",
@@ -199,7 +205,8 @@ pub const ALL: &[Variant] = &[
         &[(
             P,
             "        if large.degree() >= sc.d - small || m < threshold * f64::EPSILON || m.is_nan() {\n            break;",
-            "        if m.is_nan() {\n            continue;\n        }\n        if large.degree() >= sc.d - small || m < threshold * f64::EPSILON {\n            break;",
+            "        if m.is_nan() {\n            continue;\n        }\n        \
+             if large.degree() >= sc.d - small || m < threshold * f64::EPSILON {\n            break;",
             1,
         )],
     ),
@@ -391,7 +398,8 @@ pub const ALL: &[Variant] = &[
             (
                 P,
                 "    merged\n}",
-                "    for &r in &large.lin[..large.nlin] {\n        merged.push_lin(r);\n    }\n    for &(al, be) in &large.quad[..large.nquad] {\n        merged.push_quad(al, be);\n    }\n    merged\n}",
+                "    for &r in &large.lin[..large.nlin] {\n        merged.push_lin(r);\n    }\n    for &(al, be) in &large.quad[..large.nquad] {\n        \
+                 merged.push_quad(al, be);\n    }\n    merged\n}",
                 1,
             ),
         ],

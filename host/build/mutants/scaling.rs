@@ -7,7 +7,7 @@ pub const ALL: &[Variant] = &[
     (
         "lg from the scaled coefficient",
         "lg is L of f_i, which may have become 0, in place of L of a_i plus the shift",
-        &[(P, "lg[i] += shift as f64;", "lg[i] = crate::exact::log2(fi.abs());", 1)],
+        &[(P, "lg[i] += shift as f64;", "lg[i] = crate::truth::exact::log2(fi.abs());", 1)],
     ),
     (
         "a gap of 8 bits splits",
@@ -66,7 +66,8 @@ pub const ALL: &[Variant] = &[
         &[(
             P,
             "        let disc = discriminant(al, be);\n        if disc > 0.0 {\n            let q = -0.5 * (al + disc.sqrt().copysign(al));\n            for r",
-            "        let disc = discriminant(al, be);\n        if disc >= 0.0 {\n            let q = -0.5 * (al + disc.sqrt().copysign(al));\n            for r",
+            "        let disc = discriminant(al, be);\n        if disc >= 0.0 {\n            let q = -0.5 * (al + disc.sqrt().copysign(al));\n            \
+             for r",
             1,
         )],
     ),
@@ -118,15 +119,20 @@ pub const ALL: &[Variant] = &[
     (
         "the exponent of a subnormal from its field",
         "the exponent of a number below 2^-1022 is -1023",
-        &[(P, "crate::exact::exponent(a[d])", "crate::exact::exponent(a[d]).max(-1023)", 1)],
+        &[(
+            P,
+            "crate::truth::exact::exponent(a[d])",
+            "crate::truth::exact::exponent(a[d]).max(-1023)",
+            1,
+        )],
     ),
     (
         "a strict bound in e",
         "e with |a_i| < |a_d| 2^(e(d-i))",
         &[(
             P,
-            "crate::exact::scale_exponent(a)",
-            "crate::exact::scale_exponent(&[&a.iter().take(d).map(|x| x * (1.0 + f64::EPSILON)).collect::<Vec<_>>()[..], &a[d..]].concat())",
+            "crate::truth::exact::scale_exponent(a)",
+            "crate::truth::exact::scale_exponent(&[&a.iter().take(d).map(|x| x * (1.0 + f64::EPSILON)).collect::<Vec<_>>()[..], &a[d..]].concat())",
             1,
         )],
     ),

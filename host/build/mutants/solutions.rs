@@ -289,7 +289,7 @@ pub const ALL: &[Variant] = &[
         "min and max do not pass a NaN over",
         &[(
             E,
-            "crate::methods::min(r1, r2), crate::methods::max(r1, r2)",
+            "crate::truth::methods::min(r1, r2), crate::truth::methods::max(r1, r2)",
             "if r1 < r2 { r1 } else { r2 }, if r1 < r2 { r2 } else { r1 }",
             1,
         )],

@@ -1,5 +1,6 @@
 //! The test host's program for people.
-use host::{bench, documents, people, stored};
+use host::people::{self, architecture, bench, documents};
+use host::stored::leaves;
 use std::io;
 use std::path::Path;
 use std::process::ExitCode;
@@ -45,7 +46,7 @@ fn main() -> ExitCode {
     match words[..] {
         ["--help" | "-h" | "help"] => print!("{}{HELP}", people::HELP),
         ["bench"] => bench::run(),
-        ["documents"] => return written(documents::write()),
+        ["documents"] => return written(documents::write().and_then(|()| architecture::write())),
         [what, count, seed] if RUNS.iter().any(|run| run.0 == what) => {
             return compare(what, count, seed);
         }
@@ -71,12 +72,12 @@ fn compare(what: &str, count: &str, seed: &str) -> ExitCode {
 #[cfg(geomcore)]
 fn long_run(what: &str, count: u64, seed: u64) -> bool {
     match what {
-        "lists" => host::roots::run(count, seed),
-        "inquiries" => host::inquiries::run(count, seed),
-        "files" => host::files::run(count, seed),
-        "damage" => host::files::damaged::run(count, seed),
-        "cranks" => host::cranks::run(count, seed),
-        "quadratics" => host::solved::run(count, seed),
+        "lists" => host::runs::lists::run(count, seed),
+        "inquiries" => host::runs::inquiries::run(count, seed),
+        "files" => host::runs::files::run(count, seed),
+        "damage" => host::runs::damage::run(count, seed),
+        "cranks" => host::runs::cranks::run(count, seed),
+        "quadratics" => host::runs::quadratics::run(count, seed),
         _ => with_feature(what, count, seed),
     }
 }
@@ -86,11 +87,11 @@ fn long_run(what: &str, count: u64, seed: u64) -> bool {
 fn with_feature(what: &str, count: u64, seed: u64) -> bool {
     match what {
         #[cfg(feature = "coverage")]
-        "coverage" => host::coverage::run(count, seed),
+        "coverage" => host::runs::coverage::run(count, seed),
         #[cfg(feature = "mutants")]
-        "mutants" => host::mutants::run(count, seed),
+        "mutants" => host::runs::mutants::run(count, seed),
         #[cfg(feature = "causes")]
-        "causes" => host::causes::run(count, seed),
+        "causes" => host::runs::causes::run(count, seed),
         _ => {
             eprintln!(
                 "hall: `{what}` needs a build with `--features {what}`; not run with {count} {seed}"
@@ -102,7 +103,7 @@ fn with_feature(what: &str, count: u64, seed: u64) -> bool {
 
 #[cfg(not(geomcore))]
 fn long_run(what: &str, _: u64, _: u64) -> bool {
-    println!("{what}: {}", host::reference::SKIPPED);
+    println!("{what}: {}", host::truth::reference::SKIPPED);
     true
 }
 
@@ -118,7 +119,7 @@ fn written(outcome: io::Result<()>) -> ExitCode {
 }
 
 fn store_leaves(dir: &Path) -> ExitCode {
-    match stored::write_leaves(dir) {
+    match leaves::write_leaves(dir) {
         Ok(n) => {
             println!("{n} records and answers written below {}", dir.display());
             ExitCode::SUCCESS

@@ -1,6 +1,6 @@
 //! Inquiries by the port, replayed from the start with the replies so far.
 use super::{answered, exported, of_bytes};
-use crate::answer::Answer;
+use crate::compare::answer::Answer;
 
 pub use exported::inquire as inquire_bytes;
 

@@ -1,0 +1,202 @@
+//! Each record of a file by three: the port, the reference build and the untouched Rust.
+use crate::compare::bits;
+use crate::people::progress::Progress;
+use crate::people::show::{ListFile, answered};
+use crate::people::text;
+use crate::truth::hall_file::Item;
+use crate::truth::lister::{Answer, Reference, Untouched, line};
+
+/// A record and its three answers.
+pub struct Compared {
+    pub item: Item,
+    pub port: Answer,
+    pub reference: Answer,
+    pub untouched: Answer,
+}
+
+/// All records of a file; an error where the port's listing is none of it.
+pub fn compared(bytes: &[u8], list_file: ListFile) -> Result<Vec<Compared>, String> {
+    let records = answered(bytes, list_file)?;
+    let mut progress = Progress::new("records", records.len());
+    let by_all = |(item, port): (Item, crate::truth::lister::Line)| {
+        progress.step();
+        let reference = line(&item, &Reference).answer;
+        let untouched = line(&item, &Untouched).answer;
+        Compared { item, port: port.answer, reference, untouched }
+    };
+    Ok(records.into_iter().map(by_all).collect())
+}
+
+/// How many doubles further on y lies; -0 and +0 are neighbours.
+pub fn steps(x: f64, y: f64) -> u64 {
+    let place = |x: f64| match bits(x) as i64 {
+        n @ 0.. => n,
+        n => -1 - (n & i64::MAX),
+    };
+    place(x).abs_diff(place(y))
+}
+
+/// In what an answer departs from another; none where both print alike.
+pub fn departure(from: &Answer, other: &Answer) -> Option<String> {
+    if from.to_string() == other.to_string() {
+        return None;
+    }
+    let (here, there) = (from.roots(), other.roots());
+    let front = |answer: &Answer| match answer {
+        Answer::Refused(n) => format!("refused {n}"),
+        Answer::List(_) => "ok".to_string(),
+        Answer::Quadratic(solution) => solution.word().to_string(),
+        Answer::Crank(k, _) => format!("k {k}"),
+    };
+    let (was, is) = (front(from), front(other));
+    Some(match () {
+        _ if was != is => format!("answer: {is} for {was}"),
+        _ if here.len() != there.len() => format!("count: {} for {}", there.len(), here.len()),
+        _ if here.iter().zip(&there).any(|(a, b)| a.1 != b.1) => "multiplicity".to_string(),
+        _ => {
+            let apart = here.iter().zip(&there).map(|(a, b)| steps(a.0, b.0).to_string());
+            format!("bits, steps {}", apart.collect::<Vec<_>>().join(" "))
+        }
+    })
+}
+
+impl Compared {
+    pub fn port_differs(&self) -> bool {
+        departure(&self.reference, &self.port).is_some()
+    }
+
+    pub fn untouched_differs(&self) -> bool {
+        departure(&self.reference, &self.untouched).is_some()
+    }
+
+    /// The record as a line of text, or what stands in its place.
+    pub fn input(&self) -> String {
+        match &self.item.record {
+            Ok(record) => text::line(record),
+            Err(number) => format!("refused {number}"),
+        }
+    }
+
+    /// The lines that show how the three differ.
+    pub fn text(&self) -> String {
+        let Compared { item, port, reference, untouched } = self;
+        let mut all = format!("record {} at byte {}: {}\n", item.number, item.at, self.input());
+        for (name, answer) in [("reference", reference), ("port", port), ("untouched", untouched)] {
+            let how = departure(reference, answer).map(|d| format!("   [{d}]")).unwrap_or_default();
+            all += &format!("  {name:9}  {answer}{how}\n");
+        }
+        all
+    }
+
+    /// The untouched Rust's departure as a row of a table.
+    pub fn row(&self) -> Option<String> {
+        let how = departure(&self.reference, &self.untouched)?;
+        let (input, untouched, reference) = (self.input(), &self.untouched, &self.reference);
+        Some(format!("| {how} | {input} | {untouched} | {reference} |\n"))
+    }
+}
+
+/// The head of the table of departures.
+pub const HEAD: &str =
+    "| departs in | input | untouched Rust | reference build |\n|---|---|---|---|\n";
+
+/// What a comparison found, for people.
+pub struct Report {
+    pub text: String,
+    pub port_differs: usize,
+    pub summary: String,
+}
+
+/// The records that differ; with `table`, the untouched Rust's departures as rows.
+pub fn report(bytes: &[u8], list_file: ListFile, table: bool) -> Result<Report, String> {
+    let all = compared(bytes, list_file)?;
+    let count = |differs: fn(&Compared) -> bool| all.iter().filter(|c| differs(c)).count();
+    let (port_differs, departures) =
+        (count(Compared::port_differs), count(Compared::untouched_differs));
+    let text = match table {
+        true => all.iter().filter_map(Compared::row).collect::<String>(),
+        false => {
+            let differs = all.iter().filter(|c| c.port_differs() || c.untouched_differs());
+            differs.map(Compared::text).collect()
+        }
+    };
+    let summary = format!(
+        "{} records: the port differs from the reference build in {port_differs}, \
+         the untouched Rust in {departures}",
+        all.len()
+    );
+    Ok(Report { text, port_differs, summary })
+}
+
+#[cfg(test)]
+mod tests {
+    use super::*;
+    use crate::inputs::leaves::step;
+    use crate::people::text::read;
+    use crate::truth::lister::listing;
+
+    #[test]
+    fn steps_between_doubles() {
+        assert_eq!(steps(1.0, 1.0), 0);
+        assert_eq!(steps(1.0, step(1.0, 7)), 7);
+        assert_eq!(steps(step(-1.0, 3), -1.0), 3);
+        assert_eq!(steps(-0.0, 0.0), 1);
+        assert_eq!(steps(-f64::from_bits(1), f64::from_bits(1)), 3);
+        assert_eq!(steps(f64::NEG_INFINITY, f64::INFINITY), 0xFFE0_0000_0000_0001);
+    }
+
+    fn honest(bytes: &[u8], out: &mut [u8]) -> u64 {
+        let listing = listing(bytes, &Reference);
+        let kept = listing.len().min(out.len());
+        out[..kept].copy_from_slice(&listing[..kept]);
+        listing.len() as u64
+    }
+
+    /// The same, with another last digit of a simple root at 2 that ends its line.
+    fn lying(bytes: &[u8], out: &mut [u8]) -> u64 {
+        let len = honest(bytes, out) as usize;
+        let text = String::from_utf8_lossy(&out[..len]);
+        let text = text.replace("4000000000000000 1\n", "4000000000000003 1\n");
+        out[..len].copy_from_slice(text.as_bytes());
+        len as u64
+    }
+
+    const TEXT: &str = "list 2^-30 2 -3 1\nlist 2^-30 -18 21 -8 1\nquad 2^-30 2^-30 1 -3 2\n";
+
+    fn sample() -> Vec<u8> {
+        crate::truth::hall_file::file(&read(TEXT.as_bytes()).unwrap())
+    }
+
+    #[test]
+    fn only_what_differs_is_shown() {
+        let found = report(&sample(), honest, false).unwrap();
+        assert_eq!(found.port_differs, 0);
+        assert!(found.text.starts_with("record 2 at byte 35: list 2^-30 -18 21 -8 1\n"));
+        assert!(found.text.contains("[bits, steps 0 4]"), "{}", found.text);
+        assert!(found.summary.contains("build in 0, the untouched Rust in 1"));
+        let rows = report(&sample(), honest, true).unwrap().text;
+        let (untouched, reference) = ("4007FFFFFFFFFFFE 2", "4008000000000002 2");
+        let cells =
+            [untouched, reference].map(|x| format!("ok 2 4000000000000000 1 {x} |")).join(" ");
+        assert_eq!(rows, format!("| bits, steps 0 4 | list 2^-30 -18 21 -8 1 | {cells}\n"));
+    }
+
+    #[test]
+    fn a_wrong_port_is_found() {
+        let found = report(&sample(), lying, false).unwrap();
+        assert_eq!(found.port_differs, 1);
+        assert!(found.text.contains("[bits, steps 0 3]"), "{}", found.text);
+    }
+
+    #[test]
+    fn ways_to_depart() {
+        let list = |roots: &[(f64, u32)]| Answer::List(roots.to_vec());
+        let from = list(&[(1.0, 1), (2.0, 1)]);
+        assert_eq!(departure(&from, &from), None);
+        assert_eq!(departure(&from, &list(&[(1.0, 2)])).unwrap(), "count: 1 for 2");
+        assert_eq!(departure(&from, &list(&[(1.0, 2), (2.0, 1)])).unwrap(), "multiplicity");
+        assert_eq!(departure(&from, &Answer::Refused(1)).unwrap(), "answer: refused 1 for ok");
+        let crank = |k| Answer::Crank(k, vec![(1.0, 1)]);
+        assert_eq!(departure(&crank(1), &crank(2)).unwrap(), "answer: k 2 for k 1");
+    }
+}
