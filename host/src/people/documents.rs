@@ -1,13 +1,25 @@
 //! Documents that are made from the repository's own text: `hall documents` writes them, and
 //! tests/documents.rs says where one is no longer true.
+pub mod index;
+pub mod pieces;
+
 use std::collections::BTreeMap;
 use std::fmt::Write;
 use std::path::{Path, PathBuf};
-use std::{fs, io};
+use std::{env, fs, io};
 
 /// The repository's root.
 pub fn root() -> PathBuf {
     Path::new(env!("CARGO_MANIFEST_DIR")).join("..")
+}
+
+/// The folder with geomcore's source, found as build.rs finds it, or a line that says where it was looked for.
+pub fn geomcore(root: &Path) -> Result<PathBuf, String> {
+    let folder = env::var("GEOMCORE").map_or(root.join("../shared/docs/src"), PathBuf::from);
+    match folder.join("src/math/poly.rs").exists() {
+        true => Ok(folder),
+        false => Err(format!("no geomcore in {}", folder.display())),
+    }
 }
 
 /// A public function of crates/*/src, with the text of its contract.
@@ -178,7 +190,10 @@ pub fn exceptions(functions: &[Function]) -> String {
 
 /// Each made document: its file, and the text that it should have.
 pub fn made(root: &Path) -> io::Result<Vec<(&'static str, String)>> {
-    Ok(vec![("docs/EXCEPTIONS.md", exceptions(&functions(root)?))])
+    Ok(vec![
+        ("docs/EXCEPTIONS.md", exceptions(&functions(root)?)),
+        ("docs/INDEX.md", index::index(root)?),
+    ])
 }
 
 /// `hall documents`
