@@ -19,16 +19,16 @@ use Rattle.crank.specs.declared.CrankAnswer.{CrankAnswer}
 
 -- ---- the Rust's function, for all bits
 module _ (a2 b2 c1 d1 e : Float) where
-  -- q, for the k of the largest sample
+  -- `q`, for the k of the largest sample
   abbrev pub trigQuarticOf : List Float
   trigQuarticOf = quarticOf a2 b2 c1 d1 e (sampleOf a2 b2 c1 d1 e)
 
 module _ (touches : ℕ → Float → Bool) (confusion a2 b2 c1 d1 e : Float) where
-  -- k and the list of `roots_with_tangency(&q, tol, |u| touches(to_t(u)))`, where touches is told k and u in place of t: 'Questions name k and u'
+  -- `for r in &roots_with_tangency(&q, tol, |u| touches(to_t(u)))`: k and that list, where touches is told k and u in place of t: 'Questions name k and u'
   abbrev pub solveTrigOf : ℕ × List RealRoot
   solveTrigOf = let k = sampleOf a2 b2 c1 d1 e in (k, realRootsTouchingOf (touches k) (trigQuarticOf a2 b2 c1 d1 e) confusion)
 
-  -- the places u at which it calls touches, in order
+  -- the places u at which it calls `touches`, in order
   abbrev pub placesTrigOf : List Float
   placesTrigOf = placesTouchingOf (touches (sampleOf a2 b2 c1 d1 e)) (trigQuarticOf a2 b2 c1 d1 e) confusion
 
@@ -40,11 +40,11 @@ crankStartOf confusion a2 b2 c1 d1 e =
     let s = startOf (front .q) confusion in
     record { number = cond (eqb (front .number) 0) (s .number) (front .number); crank = record { k = front .k; inquiry = s .inquiry } }
 
--- `ask`
+-- the crank's own `ask`: what is asked, with k
 unfoldable pub crankAskedOf : CrankInquiry → CrankAsked
 crankAskedOf c = let a = askedOf (c .inquiry) in record { asking = a .asking; k = c .k; place = a .place; list = a .list }
 
--- `reply`
+-- the crank's own `reply`
 unfoldable pub crankRepliedOf : CrankInquiry → Bool → CrankReplied
 crankRepliedOf c reply = let r = repliedOf (c .inquiry) reply in record { number = r .number; crank = record { k = c .k; inquiry = r .inquiry } }
 

@@ -15,43 +15,46 @@ use Rattle.equation.specs.declared.QuadraticAnswer.{QuadraticAnswer}
 
 -- ---- the equation a*t^2 + b*t + c = 0
 
--- mid, and `quadratic_centre`'s t0: -b / (2.0 * a)
+-- `let mid = -b / (2.0 * a);`, and `let t0 = -b / (2.0 * a);` of `quadratic_centre`
 abbrev pub midOf : Float → Float → Float
 midOf a b = neg b /ᶠ (two64 *ᶠ a)
 
--- `quadratic_centre`: 0 where the equation is near linear, or t0 not finite
+-- `if a.abs() > tol.angular && t0.is_finite() { t0 } else { 0.0 }`: 0 where the equation is near linear
 unfoldable pub quadraticCentreOf : Float → Float → Float → Float
 quadraticCentreOf a b angular = let t0 = midOf a b in cond (lt angular (absOf a) && isFiniteOf t0) t0 zero64
 
--- where |a| <= angular: b*t + c = 0. It never looks at c alone, so (0, 0, 5) is degenerate.
+-- `if b.abs() <= tol.confusion { return QuadraticSolution::Degenerate; }`, `return QuadraticSolution::Linear(-c / b);`: b*t + c = 0. It never looks at c alone,
+-- so (0, 0, 5) is degenerate.
 unfoldable pub linearOf : Float → Float → Float → QuadraticSolution
 linearOf b c confusion = cond (le (absOf b) confusion) Degenerate (Linear (neg c /ᶠ b))
 
--- disc: b * b - 4.0 * a * c
+-- `let disc = b * b - 4.0 * a * c;`
 abbrev pub quadraticDiscOf : Float → Float → Float → Float
 quadraticDiscOf a b c = b *ᶠ b -ᶠ four64 *ᶠ a *ᶠ c
 
--- noise: (4.0 * f64::EPSILON * (b * b + 4.0 * (a * c).abs())).sqrt() / (2.0 * a.abs())
+-- `let noise = (4.0 * f64::EPSILON * (b * b + 4.0 * (a * c).abs())).sqrt() / (2.0 * a.abs());`
 abbrev pub quadraticNoiseOf : Float → Float → Float → Float
-quadraticNoiseOf a b c =
-    let sum = b *ᶠ b +ᶠ four64 *ᶠ absOf (a *ᶠ c) in
-    sqrtOf (four64 *ᶠ epsilon64 *ᶠ sum) /ᶠ (two64 *ᶠ absOf a)
+quadraticNoiseOf a b c = sqrtOf (four64 *ᶠ epsilon64 *ᶠ (b *ᶠ b +ᶠ four64 *ᶠ absOf (a *ᶠ c))) /ᶠ (two64 *ᶠ absOf a)
 
--- sep <= tol.confusion * (1.0 + mid.abs()) + noise, where sep = root / (2.0 * a.abs()): the roots count as one
+-- `if sep <= tol.confusion * (1.0 + mid.abs()) + noise`: the roots count as one. `root` is `disc.abs().sqrt()`.
 unfoldable pub isGrazingOf : Float → Float → Float → Float → Float → Float → Bool
 isGrazingOf a b c mid root confusion =
+    -- let sep = disc.abs().sqrt() / (2.0 * a.abs());
     let sep = root /ᶠ (two64 *ᶠ absOf a) in
-    le sep (confusion *ᶠ (one64 +ᶠ absOf mid) +ᶠ quadraticNoiseOf a b c)
+    let noise = quadraticNoiseOf a b c in
+    le sep (confusion *ᶠ (one64 +ᶠ absOf mid) +ᶠ noise)
 
--- Two roots, the smaller first: q / a and c / q, where q = -0.5 * (b + root.copysign(b)). `min` and `max` pass a NaN over.
+-- `QuadraticSolution::Two(r1.min(r2), r1.max(r2))`: two roots, the smaller first. `root` is `disc.sqrt()`. `min` and `max` pass a NaN over.
 unfoldable pub twoOf : Float → Float → Float → Float → QuadraticSolution
 twoOf a b c root =
+    -- let q = -0.5 * (b + disc.sqrt().copysign(b));
     let q = neg half64 *ᶠ (b +ᶠ copysignOf root b) in
+    -- let (r1, r2) = (q / a, c / q);
     let r1 = q /ᶠ a in
     let r2 = c /ᶠ q in
     Two (minOf r1 r2) (maxOf r1 r2)
 
--- `solve_quadratic`: sep is taken from disc.abs().sqrt(), two places from disc.sqrt()
+-- `solve_quadratic`: `if a.abs() <= tol.angular { .. }`, `QuadraticSolution::One(mid)`, `else if disc < 0.0 { QuadraticSolution::Empty }`, and two roots
 unfoldable pub solveQuadraticOf : Float → Float → Float → Float → Float → QuadraticSolution
 solveQuadraticOf a b c confusion angular =
     let disc = quadraticDiscOf a b c in

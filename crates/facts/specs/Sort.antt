@@ -1,5 +1,7 @@
--- A stable sort: each item in turn goes behind those that the test puts before it, so ties stay in their earlier order. It keeps the number of items, each sum over them,
--- and what holds of all of them; it goes by what the test says of the items; and to sort numbers of places by the keys there, and then to read, is to sort what is read. Assumes nothing.
+-- A stable sort: each item in turn goes behind those that the test puts before it, so ties stay in their earlier order. It keeps the number of items, each sum
+-- over them, and what holds of all of them; it goes by what the test says of the items; and to sort numbers of places by the keys there, and then to read, is
+-- to sort what is read. Assumes nothing.
+-- The definition to read is `sortedBy`, with the two before it. Its laws stand here with their proofs: tools of other proofs, with nothing to believe.
 use mathlib.Core.Path.{_≡_, refl, ap, _∙_}
 use mathlib.Core.Bool.{Bool, true, false, cond}
 use mathlib.Core.List.{List, [], _∷_, map}

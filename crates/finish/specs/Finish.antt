@@ -19,26 +19,27 @@ use Rattle.band.specs.Band.{withinBandOf}
 use Rattle.polish.specs.Polish.{polishOf}
 
 -- ---- in order
--- vals[k], and mult[k]
+-- `vals[k]`
 abbrev pub valueAt : List RealRoot → ℕ → Float
 valueAt l k = getD l k blank .value
 
+-- `mult[k]`
 abbrev pub multiplicityAt : List RealRoot → ℕ → ℕ
 multiplicityAt l k = getD l k blank .multiplicity
 
--- `order`: by the total order, 'ties stay in their earlier order'
+-- `order[..n].sort_unstable_by(|&i, &j| c.value[i].total_cmp(&c.value[j]));`: 'ties stay in their earlier order'
 unfoldable pub byValue : List RealRoot → List RealRoot
 byValue c = sortedBy (λ a b. totalLeOf (a .value) (b .value)) c
 
--- `below`: vals[k] - vals[k - 1], infinite at the first place
+-- `let below = if k > 0 { vals[k] - vals[k - 1] } else { f64::INFINITY };`
 unfoldable pub belowOf : List RealRoot → ℕ → Float
-belowOf l k = cond (ltb 0 k) (valueAt l k -ᶠ valueAt l (k - 1)) inf64
+belowOf vals k = cond (ltb 0 k) (valueAt vals k -ᶠ valueAt vals (k - 1)) inf64
 
--- `above`: vals[k + 1] - vals[k], infinite at the last
+-- `let above = if k + 1 < n { vals[k + 1] - vals[k] } else { f64::INFINITY };`
 unfoldable pub aboveOf : List RealRoot → ℕ → Float
-aboveOf l k = cond (ltb (k + 1) (length l)) (valueAt l (k + 1) -ᶠ valueAt l k) inf64
+aboveOf vals k = cond (ltb (k + 1) (length vals)) (valueAt vals (k + 1) -ᶠ valueAt vals k) inf64
 
--- a place in the order, its multiplicity, and its gap below.min(above)
+-- a place in the order, its multiplicity, and its gap, `below.min(above)`
 pub record Ordered : Type 0 where
   pub value : Float
   pub multiplicity : ℕ
@@ -57,38 +58,40 @@ unfoldable pub orderedOf : List RealRoot → List Ordered
 orderedOf c = fromFn (length c) (orderedAt (byValue c))
 
 -- ---- polished
--- value[k]: a place of multiplicity 1 is polished, any other is as it is
+-- `if mult[k] == 1`: `value[k] = self.polish(vals[k], below.min(above));`, and any other is as it is
 unfoldable pub polishedAt : ℕ → Scaled → Ordered → RealRoot
 polishedAt n poly o = root (cond (eqb (o .multiplicity) 1) (polishOf n (poly .f) (poly .d) (o .gap) (o .value)) (o .value)) (o .multiplicity)
 
--- The polished places, after at most n turns each, four in the Rust.
+-- `for k in 0..n`: the polished places, after at most n turns each, four in the Rust
 unfoldable pub polishedOf : ℕ → Scaled → List Ordered → List RealRoot
 polishedOf n poly l = map (polishedAt n poly) l
 
 -- ---- joined
--- half the distance from y to the next place is within the band of their middle
+-- `self.within_band(0.5 * (value[k + 1] - y), 0.5 * (value[k + 1] + y), tol)`
 unfoldable pub isNearOf : Scaled → Float → Float → Float → Bool
 isNearOf poly y next tol = withinBandOf poly (half64 *ᶠ (next -ᶠ y)) (half64 *ᶠ (next +ᶠ y)) tol
 
--- (y * m + v * k) / (m + k), with the multiplicity m + k
+-- `let total = m + mult[k];` and `y = (y * m as f64 + value[k] * mult[k] as f64) / total as f64;`
 unfoldable pub joinOf : RealRoot → RealRoot → RealRoot
 joinOf a b =
-    let m = a .multiplicity in
-    let k = b .multiplicity in
-    root ((a .value *ᶠ ofInt binary64 (pos m) +ᶠ b .value *ᶠ ofInt binary64 (pos k)) /ᶠ ofInt binary64 (pos (m + k))) (m + k)
+    let total = a .multiplicity + b .multiplicity in
+    let sum = a .value *ᶠ ofInt binary64 (pos (a .multiplicity)) +ᶠ b .value *ᶠ ofInt binary64 (pos (b .multiplicity)) in
+    root (sum /ᶠ ofInt binary64 (pos total)) total
 
--- The Rust's two loops are one over the places: the next place b joins the run at hand, a, or ends it, and then begins the next one.
+-- `while k < n` and `while k + 1 < n` are one loop over the places here: the next place b joins the run at hand, a, or ends it, `out.push(y, m);`, and
+-- then begins the next one.
 unfoldable pub joinedFrom : Scaled → Float → List RealRoot → RealRoot → List RealRoot → List RealRoot
 joinedFrom poly tol out a [] = kept out a
 joinedFrom poly tol out a (b ∷ l) =
     let near = isNearOf poly (a .value) (b .value) tol in
     joinedFrom poly tol (cond near out (kept out a)) (cond near (joinOf a b) b) l
 
--- all runs, the first begun by the first place
+-- all runs, the first begun by the first place: `let (mut y, mut m) = (value[k], mult[k]);`
 unfoldable pub joinedOf : Scaled → Float → List RealRoot → List RealRoot
 joinedOf poly tol [] = []
 joinedOf poly tol (a ∷ l) = joinedFrom poly tol [] a l
 
--- ---- Scaled::finish
+-- ---- all three
+-- `fn finish(&self, c: Candidates, tol: f64) -> Candidates`
 unfoldable pub finishOf : Scaled → List RealRoot → Float → List RealRoot
 finishOf poly c tol = joinedOf poly tol (polishedOf 4 poly (orderedOf c))

@@ -13,21 +13,24 @@ use Rattle.horner.specs.declared.ValueSlope.{ValueSlope}
 -- one turn of `value_slope`, at the coefficient c: the slope takes the value of the turn before
 unfoldable pub hornerStep : Float → Float → ValueSlope → ValueSlope
 hornerStep y c h = record {
-  value = h .value *ᶠ y +ᶠ c;
+  -- s = s * y + v;
   slope = h .slope *ᶠ y +ᶠ h .value;
+  -- v = v * y + c;
+  value = h .value *ᶠ y +ᶠ c;
 }
 
--- `value_slope`: the value and the first derivative at y
+-- `value_slope`, the value and the first derivative at y: `let (mut v, mut s) = (p[d], 0.0);`, then `for &c in p[..d].iter().rev()`
 unfoldable pub valueSlopeOf : List Float → ℕ → Float → ValueSlope
 valueSlopeOf p d y = countDown (atPlace (hornerStep y) p) d (record { value = getD p d nan; slope = zero64 })
 
--- `sum_err` of `value_slope_compensated`: the rounding error of the sum of prod and c, by Knuth's formula
+-- `let sum_err = (prod - (sum - back)) + (c - back);`: the rounding error of the sum of prod and c, by Knuth's formula
 unfoldable pub sumError : Float → Float → Float → Float
 sumError prod c sum =
+    -- let back = sum - prod;
     let back = sum -ᶠ prod in
     prod -ᶠ (sum -ᶠ back) +ᶠ (c -ᶠ back)
 
--- the compensated rule's locals: the plain value, the error gathered so far, and the slope
+-- the locals of `value_slope_compensated`: the plain value, the error gathered so far, and the slope
 pub record Horner : Type 0 where
   pub v : Float
   pub err : Float
@@ -36,19 +39,26 @@ pub record Horner : Type 0 where
 -- one turn of `value_slope_compensated`, at the coefficient c
 unfoldable pub compensatedStep : Float → Float → Horner → Horner
 compensatedStep y c h =
+    -- let (prod, prod_err) = two_prod(v, y);
     let prod = h .v *ᶠ y in
+    let prodErr = productError (h .v) y prod in
+    -- let sum = prod + c;
     let sum = prod +ᶠ c in
+    let sumErr = sumError prod c sum in
     record {
-      v = sum;
-      err = h .err *ᶠ y +ᶠ (productError (h .v) y prod +ᶠ sumError prod c sum);
+      -- s = s * y + v;
       s = h .s *ᶠ y +ᶠ h .v;
+      -- err = err * y + (prod_err + sum_err);
+      err = h .err *ᶠ y +ᶠ (prodErr +ᶠ sumErr);
+      -- v = sum;
+      v = sum;
     }
 
--- its locals after the loop
+-- the locals after the loop: `let (mut v, mut err, mut s) = (p[d], 0.0, 0.0);`, then `for &c in p[..d].iter().rev()`
 unfoldable pub compensatedOf : List Float → ℕ → Float → Horner
 compensatedOf p d y = countDown (atPlace (compensatedStep y) p) d (record { v = getD p d nan; err = zero64; s = zero64 })
 
--- the value with its error added, and the slope
+-- `(v + err, s)`: the value with its error added, and the slope
 abbrev pub corrected : Horner → ValueSlope
 corrected h = record { value = h .v +ᶠ h .err; slope = h .s }
 

@@ -19,13 +19,13 @@ use Rattle.inquiry.specs.declared.ShownAfter.{ShownAfter}
 use Rattle.inquiry.specs.Inquiry.{askedOf, seenOf, repliedOf}
 
 -- ---- the Rust's function
--- `let Some((poly, cands, pairs)) = Scaled::solve(coeffs, tol) else { return out }`, finish, and the rest
+-- `let Some((poly, cands, pairs)) = Scaled::solve(coeffs, tol) else { return out; };`, `let roots = poly.finish(cands, tol);`, and the rest
 unfoldable pub realRootsTouching : List Float → Float → Asking (List RealRoot)
 realRootsTouching coeffs tol =
     let s = solveOf coeffs tol in
     cond (eqb (refusalOf coeffs) 0) (touching (s .poly) (s .tol) (listOf (s .roots)) (pairListOf (s .pairs))) (done [])
 
--- its list
+-- `real_roots_touching`: its list
 abbrev pub realRootsTouchingOf : (Float → Bool) → List Float → Float → List RealRoot
 realRootsTouchingOf touches coeffs tol = answered touches (realRootsTouching coeffs tol)
 

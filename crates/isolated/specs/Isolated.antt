@@ -1,5 +1,6 @@
--- `isolated_root`: a real root of two quadratics that is far from the other three while those lie close together, a near-triple root that no pairing in quadratics
--- resolves. `peel_root`: the monic quartic y^4 + b*y^3 + c*y^2 + d*y + e as (y - r) * (y^3 + h2*y^2 + h1*y + h0), from such a root. Definitions only.
+-- `isolated_root`: a real root of two quadratics that is far from the other three while those lie close together, a near-triple root that no pairing in
+-- quadratics resolves. `peel_root`: the monic quartic y^4 + b*y^3 + c*y^2 + d*y + e as (y - r) * (y^3 + h2*y^2 + h1*y + h0), from such a root.
+-- Definitions only.
 use mathlib.Core.Bool.{Bool, true, cond, _&&_}
 use mathlib.Core.List.{List, [], _∷_}
 use Prim.Native.Nat.{ℕ, _+_, _-_}
@@ -25,7 +26,8 @@ use Rattle.isolated.specs.declared.Pairing.{Pairing}
 use Rattle.isolated.specs.declared.Peeled.{Peeled}
 use Rattle.cubic.specs.Cubic.{overOr}
 
--- Of two real roots of y^2 + al*y + be, whose discriminant is disc, the one of larger size: q = -0.5 * (al + disc.sqrt().copysign(al)), without cancellation
+-- `let q = -0.5 * (al + disc.sqrt().copysign(al));`: of two real roots of y^2 + al*y + be, whose discriminant is disc, the one of larger size, without
+-- cancellation
 unfoldable pub farRootOf : Float → Float → Float
 farRootOf al disc = neg half64 *ᶠ (al +ᶠ copysignOf (sqrtOf disc) al)
 
@@ -36,64 +38,70 @@ discOf al be = let disc = discriminantOf al be in record { disc = disc; root = s
 unfoldable pub farBy : Float → Float → Float
 farBy al root = neg half64 *ᶠ (al +ᶠ copysignOf root al)
 
--- The roots of y^2 + al*y + be as (re, im). Real ones, a double one too (disc = 0): q of larger size, cancellation-free, and the other from their product be.
+-- The roots of y^2 + al*y + be as (re, im). Real ones, a double one too, `if disc >= 0.0`: q, and the other from their product be.
 -- Else conjugate ones, also where disc is a NaN: their im is a NaN then, so neither counts as real.
 unfoldable pub rootPairOf : Float → Float → RootPair
 rootPairOf al be =
+    -- let disc = discriminant(al, be);
     let disc = discriminantOf al be in
     let q = farRootOf al disc in
+    -- let other = if q != 0.0 { be / q } else { 0.0 };
+    let other = overOr be q zero64 in
+    -- let half = 0.5 * (-disc).sqrt();
     let half = half64 *ᶠ sqrtOf (neg disc) in
+    -- z[2 * k] = (-0.5 * al, half);
     let re = neg half64 *ᶠ al in
-    cond (le zero64 disc) (record { re0 = q; im0 = zero64; re1 = overOr be q zero64; im1 = zero64 }) (record { re0 = re; im0 = half; re1 = re; im1 = neg half })
+    cond (le zero64 disc) (record { re0 = q; im0 = zero64; re1 = other; im1 = zero64 }) (record { re0 = re; im0 = half; re1 = re; im1 = neg half })
 
--- `dist`: the squared distance; it is only compared
+-- `let dist = |a: (f64, f64), b: (f64, f64)| (a.0 - b.0).powi(2) + (a.1 - b.1).powi(2);`: the squared distance; it is only compared
 abbrev pub distOf : Float → Float → Float → Float → Float
 distOf re im re' im' = powiOf (re -ᶠ re') 2 +ᶠ powiOf (im -ᶠ im') 2
 
--- of the roots i and j
+-- `dist(z[i], z[j])`
 abbrev pub distAt : List Float → List Float → ℕ → ℕ → Float
 distAt re im i j = distOf (getD re i nan) (getD im i nan) (getD re j nan) (getD im j nan)
 
--- d2[i][j]; the Rust computes it for i < j, and copies it
+-- `d2[i][j] = dist(z[i], z[j]);` for i < j, and `d2[j][i] = d2[i][j];`
 abbrev pub d2Of : List Float → List Float → ℕ → ℕ → Float
 d2Of re im i j = cond (ltb i j) (distAt re im i j) (distAt re im j i)
 
--- `iso` of root i: how far the nearest other is
+-- `iso = iso.min(d2[i][j]);` over the others: how far the nearest is
 abbrev pub isoOf : List Float → List Float → ℕ → Float
 isoOf re im i = countUp 4 (λ j iso. cond (eqb j i) iso (minOf iso (d2Of re im i j))) 4 inf64
 
--- `spread` at root i: how far two others are apart at most
+-- `spread = spread.max(d2[j][k]);` over the pairs of others: how far two of them are apart at most
 abbrev pub spreadOf : List Float → List Float → ℕ → Float
 spreadOf re im i =
     countUp 4 (λ j spread. cond (eqb j i) spread (countUp 4 (λ k most. cond (eqb k i) most (maxOf most (d2Of re im j k))) (4 - (j + 1)) spread)) 4 zero64
 
--- both, from the distances of root i to the others, and from theirs
+-- both, from the distances of root i to the others, and from theirs: for the functions' contracts
 abbrev pub leastOf : Float → Float → Float → Float
 leastOf a b c = minOf (minOf (minOf inf64 a) b) c
 
 abbrev pub greatestOf : Float → Float → Float → Float
 greatestOf a b c = maxOf (maxOf (maxOf zero64 a) b) c
 
--- iso is greater than that of the best so far, if there is one. So the first of equals stays.
+-- `best.is_none_or(|(b, _)| iso > b)`. So the first of equals stays.
 abbrev pub beats : Float → Best → Bool
-beats iso (Root far r) = lt far iso
+beats iso (Root b r) = lt b iso
 beats iso NoRoot = true
 
--- A spread under a quarter of the distance, 16 in squares, and that.
+-- `if 16.0 * spread < iso && best.is_none_or(|(b, _)| iso > b)`: a spread under a quarter of the distance, 16 in squares, and that
 unfoldable pub isBetterOf : Best → Float → Float → Bool
 isBetterOf best iso spread = lt (sixteen64 *ᶠ spread) iso && beats iso best
 
--- the best so far once one more root was looked at: only a real one may take its place
+-- `best = Some((iso, z[i].0));`, which only a real root may be: `if z[i].1 != 0.0 { continue; }`
 unfoldable pub judgedOf : Best → Float → Float → Float → Float → Best
 judgedOf best re im iso spread = cond (ne im zero64) best (cond (isBetterOf best iso spread) (Root iso re) best)
 
--- `best` after the four roots
+-- `let mut best: Option<(f64, f64)> = None;`, then `for i in 0..4`
 unfoldable pub bestRootOf : QuarticFactor → Best
 bestRootOf quads =
-    let z = rootPairOf (quads .al) (quads .be) in
-    let y = rootPairOf (quads .ga) (quads .de) in
-    let re = z .re0 ∷ z .re1 ∷ y .re0 ∷ y .re1 ∷ [] in
-    let im = z .im0 ∷ z .im1 ∷ y .im0 ∷ y .im1 ∷ [] in
+    -- for (k, &(al, be)) in quads.iter().enumerate() { .. }
+    let first = rootPairOf (quads .al) (quads .be) in
+    let second = rootPairOf (quads .ga) (quads .de) in
+    let re = first .re0 ∷ first .re1 ∷ second .re0 ∷ second .re1 ∷ [] in
+    let im = first .im0 ∷ first .im1 ∷ second .im0 ∷ second .im1 ∷ [] in
     countUp 4 (λ i best. judgedOf best (getD re i nan) (getD im i nan) (isoOf re im i) (spreadOf re im i)) 4 NoRoot
 
 -- `best.map(|(_, r)| r)`
@@ -112,8 +120,12 @@ isolatedOf quads = record { far = isolatedRootOf quads; first = discOf (quads .a
 -- `peel_root`: the quotient by y - r, from the top, refined
 unfoldable pub peelRootOf : Float → Float → Float → Float → Float → Peeled
 peelRootOf b c d e r =
+    -- let h2 = b + r;
     let h2 = b +ᶠ r in
+    -- let h1 = c + r * h2;
     let h1 = c +ᶠ r *ᶠ h2 in
+    -- let h0 = d + r * h1;
     let h0 = d +ᶠ r *ᶠ h1 in
+    -- let x = refine([r, h2, h1, h0], ..);
     let x = refineOf 4 (peelSystem b c d e) (r ∷ h2 ∷ h1 ∷ h0 ∷ []) in
     record { r = getD x 0 nan; h2 = getD x 1 nan; h1 = getD x 2 nan; h0 = getD x 3 nan }

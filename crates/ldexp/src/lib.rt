@@ -5,7 +5,8 @@ ghost use mathlib.Core.Bool.{true};
 ghost use Prim.Native.Nat.{_≤_};
 ghost use lib.IntN.{ℤ, pos, negsuc};
 ghost use lib.Signed.{_≤ℤ_};
-ghost use lib.Ieee.{binary64, mul, minus};
+ghost use lib.Ieee.{minus};
+ghost use Rattle.float.specs.Rounded.{_*ᶠ_};
 ghost use Rattle.ldexp.specs.Scale.{pow2Of, signed, ldexpOf};
 
 // 2^n, or 2^-n where `below` is set: the field of the exponent is all that is not 0 in its bits.
@@ -21,7 +22,7 @@ fn power(below: bool, n: u64) -> f64
 
 // Whether every product with a power of two leaves x as it is: a zero, an infinity, a NaN.
 fn steady(x: f64) -> bool
-    ensures { λ r. ⌜ (r ≡ true → (k : ℤ) → mul binary64 x (pow2Of k) ≡ x) ⌝ }
+    ensures { λ r. ⌜ (r ≡ true → (k : ℤ) → x *ᶠ pow2Of k ≡ x) ⌝ }
 {
     if x == 0.0 {
         return true;

@@ -19,8 +19,8 @@ unfolding round
 over256 (pos z) = round binary64 false z 256
 over256 (negsuc z) = round binary64 true (suc z) 256
 
--- L(x): 'the greatest multiple of 1/256 not above the exact logarithm; minus infinity for 0'. NaN for a NaN and for a number below zero, and an infinity
--- is its own logarithm. That it is that multiple is `log2-floor` in proofs/Floor.
+-- `c.abs().log2()` in the reference build, L(x): 'the greatest multiple of 1/256 not above the exact logarithm; minus infinity for 0'. NaN for a NaN and for
+-- a number below zero, and an infinity is its own logarithm. That it is that multiple is `log2-floor` in proofs/Floor.
 unfoldable pub log2GridOf : Float → Float
 unfolding gridOf over256
 log2GridOf nan = nan
@@ -30,6 +30,6 @@ log2GridOf (fin s zero e) = inf true
 log2GridOf (fin true (suc m) e) = nan
 log2GridOf (fin false (suc m) e) = over256 (gridOf (unitsOf (fin false (suc m) e)))
 
--- L of the five numbers of a list
+-- `for (l, &c) in lg.iter_mut().zip(a)`: L of the five numbers of a list
 abbrev pub log2FiveOf : List Float → List Float
 log2FiveOf a = log2GridOf (getD a 0 nan) ∷ log2GridOf (getD a 1 nan) ∷ log2GridOf (getD a 2 nan) ∷ log2GridOf (getD a 3 nan) ∷ log2GridOf (getD a 4 nan) ∷ []

@@ -22,7 +22,7 @@ module _ (before : Float → Float → Bool) (key : List Float) where
   unfoldable pub orderOf : ℕ → List ℕ
   orderOf n = sortedBy keysBefore (numbersFrom 0 n) ++ numbersFrom n (4 - n)
 
--- factorize: `units[..nu].sort_unstable_by(|a, b| b.0.total_cmp(&a.0))`, where ties stay in their earlier order; NaN is first
+-- `units[..nu].sort_unstable_by(|a, b| b.0.total_cmp(&a.0));`, where ties stay in their earlier order; NaN is first
 unfoldable pub fallingOf : List Float → ℕ → List ℕ
 fallingOf key n = orderOf (λ a b. totalLeOf b a) key n
 

@@ -12,11 +12,11 @@ use Rattle.float.specs.Methods.{absOf}
 use Rattle.horner.specs.Horner.{valueSlopeCompensatedOf}
 use Rattle.refine.specs.Newton.{flatOf, noGainOf}
 
--- step.abs() > 0.25 * gap || step.is_nan()
+-- `if step.abs() > 0.25 * gap || step.is_nan()`
 unfoldable pub isLongOf : Float → Float → Bool
 isLongOf step gap = lt (quarter64 *ᶠ gap) (absOf step) || isNan step
 
--- step.abs() <= f64::EPSILON * y.abs()
+-- `if step.abs() <= f64::EPSILON * y.abs()`
 unfoldable pub isSmallOf : Float → Float → Bool
 isSmallOf step y = le (absOf step) (epsilon64 *ᶠ absOf y)
 
@@ -32,17 +32,24 @@ arrived step next = record { y = next; done = isSmallOf step next }
 -- one turn: the next place, or none where the loop breaks before it
 unfoldable pub polishNext : List Float → ℕ → Float → Place → Option Place
 polishNext f d gap s =
-    let v = valueSlopeCompensatedOf f d (s .y) in
-    let step = v .value /ᶠ v .slope in
-    let next = s .y -ᶠ step in
-    let u = valueSlopeCompensatedOf f d next in
+    let y = s .y in
+    -- let (mut fy, mut dy) = value_slope_compensated(&self.f, self.d, y);
+    let here = valueSlopeCompensatedOf f d y in
+    let fy = here .value in
+    let dy = here .slope in
+    -- let step = fy / dy;
+    let step = fy /ᶠ dy in
+    -- let next = y - step;
+    let next = y -ᶠ step in
+    -- let (nf, nd) = value_slope_compensated(&self.f, self.d, next);
+    let nf = valueSlopeCompensatedOf f d next .value in
     cond (s .done) none
-    (cond (flatOf (v .value) (v .slope)) none
+    (cond (flatOf fy dy) none
     (cond (isLongOf step gap) none
-    (cond (eq next (s .y)) none
-    (cond (noGainOf (v .value) (u .value)) none
+    (cond (eq next y) none
+    (cond (noGainOf fy nf) none
     (some (arrived step next))))))
 
--- `polish`: at most n turns, four in the Rust
+-- `polish`: at most n turns, `for _ in 0..4` in the Rust
 unfoldable pub polishOf : ℕ → List Float → ℕ → Float → Float → Float
 polishOf n f d gap y = turnsOf (polishNext f d gap) n (record { y = y; done = false }) .y

@@ -11,25 +11,26 @@ use Rattle.float.specs.Methods.{allFiniteOf}
 use Rattle.scaled.specs.declared.Scaled.{Scaled}
 use Rattle.scaled.specs.Scaled.{scaledOf}
 
--- `while n > 0 && coeffs[n - 1] == 0.0 { n -= 1 }`: 'Trailing zeros, −0 too, are dropped'
+-- `while n > 0 && coeffs[n - 1] == 0.0 { n -= 1; }`: 'Trailing zeros, −0 too, are dropped'
 unfoldable pub trimmedFrom : List Float → ℕ → ℕ
 trimmedFrom coeffs zero = 0
 trimmedFrom coeffs (suc k) = cond (eq (getD coeffs k nan) zero64) (trimmedFrom coeffs k) (suc k)
 
--- n: how many are left
+-- `let mut n = coeffs.len();`, and then that loop: how many are left
 unfoldable pub trimmedOf : List Float → ℕ
 trimmedOf coeffs = trimmedFrom coeffs (length coeffs)
 
--- zeros: `coeffs.iter().take_while(|&&c| c == 0.0).count()`
+-- `let zeros = coeffs.iter().take_while(|&&c| c == 0.0).count();`
 unfoldable pub zerosOf : List Float → ℕ
 zerosOf [] = 0
 zerosOf (c ∷ l) = cond (eq c zero64) (suc (zerosOf l)) 0
 
--- The number of the refusal, and 0 where there is none: 1, a coefficient is not finite; 2, at most one is left; 3, more than five are. In that order.
+-- The number of the refusal, and 0 where there is none: 1, a coefficient is not finite; 2, at most one is left; 3, more than five are. In that order:
+-- `if n <= 1 || n > 5 { return None; }` comes after the test of the coefficients.
 unfoldable pub refusalBy : Bool → ℕ → ℕ
 refusalBy finite n = cond finite (cond (leb n 1) 2 (cond (leb n 5) 0 3)) 1
 
--- finite: not `coeffs.iter().any(|c| !c.is_finite())`
+-- `if coeffs.iter().any(|c| !c.is_finite()) { return None; }`, and by how many are left
 abbrev pub refusalOf : List Float → ℕ
 refusalOf coeffs = refusalBy (allFiniteOf coeffs) (trimmedOf coeffs)
 
@@ -37,7 +38,7 @@ refusalOf coeffs = refusalBy (allFiniteOf coeffs) (trimmedOf coeffs)
 abbrev pub degreeLeft : List Float → ℕ
 degreeLeft coeffs = trimmedOf coeffs - 1
 
--- coeffs[from..to] in an array of five, zeros after it
+-- `&coeffs[zeros..n]` in an array of five, zeros after it
 unfoldable pub middleAt : List Float → ℕ → ℕ → ℕ → Float
 middleAt coeffs from to i = cond (ltb i (to - from)) (getD coeffs (from + i) nan) zero64
 
@@ -45,7 +46,7 @@ middleAt coeffs from to i = cond (ltb i (to - from)) (getD coeffs (from + i) nan
 unfoldable pub middleOf : List Float → ℕ → ℕ → List Float
 middleOf coeffs from to = fromFn 5 (middleAt coeffs from to)
 
--- `Scaled::new(&coeffs[zeros..n])`
+-- `let poly = Scaled::new(&coeffs[zeros..n]);`
 unfoldable pub polyOf : List Float → Scaled
 polyOf coeffs =
     let zeros = zerosOf coeffs in

@@ -11,11 +11,11 @@ use Rattle.poly.specs.declared.Solved.{Solved}
 use Rattle.poly.specs.declared.Answer.{Answer}
 use Rattle.poly.specs.Solve.{solveOf}
 
--- Scaled::unscaled without its test: the place y of the scaled variable in x
+-- `let value = ldexp(y, self.e);` of `unscaled`: the place y of the scaled variable in x
 abbrev pub unscaledOf : ℤ → Float → Float
 unscaledOf e y = ldexpOf y e
 
--- `filter_map(|(&y, &m)| poly.unscaled(y, m))`: a place that is not finite in x is not listed
+-- `.filter_map(|(&y, &m)| poly.unscaled(y, m))`: a place that is not finite in x is not listed
 unfoldable pub unscaledAll : ℤ → List RealRoot → List RealRoot
 unscaledAll e [] = []
 unscaledAll e (r ∷ l) =
@@ -27,6 +27,6 @@ unscaledAll e (r ∷ l) =
 unfoldable pub answerOf : Solved → Answer
 answerOf s = record { number = s .number; roots = rootsOf (unscaledAll (s .poly .e) (listOf (s .roots))) }
 
--- `real_roots`
+-- `fn real_roots(coeffs: &[f64], tol: f64) -> Vec<RealRoot>`
 unfoldable pub realRootsOf : List Float → Float → Answer
 realRootsOf coeffs tol = answerOf (solveOf coeffs tol)

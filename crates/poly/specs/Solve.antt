@@ -22,37 +22,41 @@ use Rattle.poly.specs.declared.Solved.{Solved}
 use Rattle.poly.specs.Coefficients.{zerosOf, refusalOf, polyOf}
 
 -- ---- Scaled::solve from the factors on: the candidates, and the complex pairs
--- `if zeros > 0 { cands.push(0.0, zeros as u32) }`: 'leading zeros become the root +0 with their number as multiplicity'
+-- `if zeros > 0 { cands.push(0.0, zeros as u32); }`: 'leading zeros become the root +0 with their number as multiplicity'
 unfoldable pub zeroRootsOf : ℕ → List RealRoot
 zeroRootsOf zeros = cond (ltb 0 zeros) (kept [] (root zero64 zeros)) []
 
--- `for &r in &factors.lin[..factors.nlin] { cands.push(r, 1) }`
+-- `cands.push(r, 1);`
 abbrev pub withLin : Factors → ℕ → List RealRoot → List RealRoot
 withLin f i l = kept l (root (linAt f i) 1)
 
--- `for &(al, be) in &factors.quad[..factors.nquad] { poly.push_quadratic(al, be, tol, &mut cands, &mut pairs) }`
+-- `poly.push_quadratic(al, be, tol, &mut cands, &mut pairs);`
 abbrev pub withQuad : Scaled → Factors → Float → ℕ → List RealRoot × List Pair → List RealRoot × List Pair
 withQuad poly f tol i s = pushQuadraticOf poly (quadAt f i .al) (quadAt f i .be) tol (s .0) (s .1)
 
--- the zero roots, the linear factors, and then the quadratic ones
+-- the zero roots, `for &r in &factors.lin[..factors.nlin]`, and then `for &(al, be) in &factors.quad[..factors.nquad]`
 unfoldable pub candidatesOf : Scaled → ℕ → Factors → Float → List RealRoot × List Pair
-candidatesOf poly zeros f tol = countUp (f .nquad) (withQuad poly f tol) (f .nquad) (countUp (f .nlin) (withLin f) (f .nlin) (zeroRootsOf zeros), [])
+candidatesOf poly zeros factors tol =
+    let cands = countUp (factors .nlin) (withLin factors) (factors .nlin) (zeroRootsOf zeros) in
+    countUp (factors .nquad) (withQuad poly factors tol) (factors .nquad) (cands, [])
 
 -- ---- the finished roots, and the pairs
+-- `let factors = factorize(&poly, 0);`, the candidates, and `poly.finish(cands, tol.max(0.0))`
 unfoldable pub finishedOf : Scaled → ℕ → Float → Solved
 finishedOf poly zeros tol =
-    let c = candidatesOf poly zeros (factorizeOf poly 0) tol in
+    let factors = factorizeOf poly 0 in
+    let c = candidatesOf poly zeros factors tol in
     record { number = 0; poly = poly; tol = tol; roots = rootsOf (finishOf poly (c .0) tol); pairs = pairsOf (c .1) }
 
--- None: the number alone, and zeros
+-- where there is none: zeros
 abbrev pub noPoly : Scaled
 noPoly = record { f = replicate 5 zero64; g = replicate 5 zero64; lg = replicate 5 zero64; d = 0; e = pos 0; unit = zero64 }
 
--- a refusal by its number
+-- `None`: a refusal by its number, and nothing else
 abbrev pub refusedBy : ℕ → Solved
 refusedBy number = record { number = number; poly = noPoly; tol = zero64; roots = noRoots; pairs = noPairs }
 
--- the tolerance is `tol.max(0.0)`: 'A NaN or negative tolerance counts as 0'
+-- `Scaled::solve`, then `finish`. The tolerance is `tol.max(0.0)`: 'A NaN or negative tolerance counts as 0'
 unfoldable pub solveOf : List Float → Float → Solved
 solveOf coeffs tol =
     let number = refusalOf coeffs in

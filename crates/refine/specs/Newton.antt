@@ -9,22 +9,27 @@ use Rattle.float.specs.Literals.{zero64}
 use Rattle.float.specs.Methods.{absOf}
 use Rattle.horner.specs.Horner.{valueSlopeOf}
 
--- fy == 0.0 || dy == 0.0: no step to take
+-- `if fy == 0.0 || dy == 0.0`: no step to take
 unfoldable pub flatOf : Float → Float → Bool
 flatOf fy dy = eq fy zero64 || eq dy zero64
 
--- nf.abs() >= fy.abs() || nf.is_nan()
+-- `if nf.abs() >= fy.abs() || nf.is_nan()`
 unfoldable pub noGainOf : Float → Float → Bool
 noGainOf fy nf = le (absOf fy) (absOf nf) || isNan nf
 
 -- one turn: the next place, or none where the loop breaks
 unfoldable pub newtonNext : List Float → Float → Option Float
 newtonNext p y =
-    let v = valueSlopeOf p 3 y in
-    let next = y -ᶠ v .value /ᶠ v .slope in
-    let u = valueSlopeOf p 3 next in
-    cond (flatOf (v .value) (v .slope)) none (cond (noGainOf (v .value) (u .value)) none (some next))
+    -- let (mut fy, mut dy) = value_slope(p, 3, y);
+    let here = valueSlopeOf p 3 y in
+    let fy = here .value in
+    let dy = here .slope in
+    -- let next = y - fy / dy;
+    let next = y -ᶠ fy /ᶠ dy in
+    -- let (nf, nd) = value_slope(p, 3, next);
+    let nf = valueSlopeOf p 3 next .value in
+    cond (flatOf fy dy) none (cond (noGainOf fy nf) none (some next))
 
--- `newton_cubic`: at most four turns
+-- `newton_cubic`: `for _ in 0..4`
 unfoldable pub newtonCubicOf : List Float → Float → Float
 newtonCubicOf p y = turnsOf (newtonNext p) 4 y

@@ -10,10 +10,11 @@ use Rattle.refine.specs.Refine.{System}
 use Rattle.refine.specs.declared.System4.{System4}
 use Rattle.refine.specs.declared.System4.the-variants.{Quartic, Peel}
 
+-- `x[i]`
 abbrev at : List Float → ℕ → Float
 at x i = getD x i nan
 
--- the sizes of a residual's terms, added from the left
+-- `x[1].abs() + x[0].abs() + b.abs()` and the like: the sizes of a residual's terms, added from the left
 abbrev pub size2Of : Float → Float → Float
 size2Of a b = absOf a +ᶠ absOf b
 
@@ -25,7 +26,7 @@ size4Of a b c d = size3Of a b c +ᶠ absOf d
 
 -- ---- y^3 + b*y^2 + c*y + d = (y - x0) * (y^2 + x1*y + x2)
 
--- `res`, by falling powers: the residuals, and the magnitudes of their terms; `jac`: the derivatives by x0, x1 and x2
+-- `[x[1] - x[0] - b, x[2] - x[0] * x[1] - c, -x[0] * x[2] - d]`
 abbrev pub cubicResidualOf : Float → Float → Float → List Float → List Float
 cubicResidualOf b c d x =
     at x 1 -ᶠ at x 0 -ᶠ b
@@ -33,6 +34,7 @@ cubicResidualOf b c d x =
     ∷ neg (at x 0) *ᶠ at x 2 -ᶠ d
     ∷ []
 
+-- `[x[1].abs() + x[0].abs() + b.abs(), x[2].abs() + (x[0] * x[1]).abs() + c.abs(), (x[0] * x[2]).abs() + d.abs(),]`
 abbrev pub cubicMagnitudeOf : Float → Float → Float → List Float → List Float
 cubicMagnitudeOf b c d x =
     size3Of (at x 1) (at x 0) b
@@ -40,6 +42,7 @@ cubicMagnitudeOf b c d x =
     ∷ size2Of (at x 0 *ᶠ at x 2) d
     ∷ []
 
+-- `|x| [[-1.0, 1.0, 0.0], [-x[1], -x[0], 1.0], [-x[2], 0.0, -x[0]]]`
 abbrev pub cubicJacobianOf : List Float → List (List Float)
 cubicJacobianOf x =
     (neg one64 ∷ one64 ∷ zero64 ∷ [])
@@ -47,12 +50,13 @@ cubicJacobianOf x =
     ∷ (neg (at x 2) ∷ zero64 ∷ neg (at x 0) ∷ [])
     ∷ []
 
+-- the closures of `cubic_factor`
 abbrev pub cubicSystem : Float → Float → Float → System
 cubicSystem b c d = record { res = cubicResidualOf b c d; mag = cubicMagnitudeOf b c d; jac = cubicJacobianOf }
 
 -- ---- y^4 + b*y^3 + c*y^2 + d*y + e = (y^2 + x0*y + x1) * (y^2 + x2*y + x3)
 
--- `res` and `jac`, likewise
+-- `[x[0] + x[2] - b, x[1] + x[3] + x[0] * x[2] - c, x[0] * x[3] + x[1] * x[2] - d, x[1] * x[3] - e,]`
 abbrev pub quarticResidualOf : Float → Float → Float → Float → List Float → List Float
 quarticResidualOf b c d e x =
     at x 0 +ᶠ at x 2 -ᶠ b
@@ -61,6 +65,8 @@ quarticResidualOf b c d e x =
     ∷ at x 1 *ᶠ at x 3 -ᶠ e
     ∷ []
 
+-- `[x[0].abs() + x[2].abs() + b.abs(), x[1].abs() + x[3].abs() + (x[0] * x[2]).abs() + c.abs(),`
+-- `(x[0] * x[3]).abs() + (x[1] * x[2]).abs() + d.abs(), (x[1] * x[3]).abs() + e.abs(),]`
 abbrev pub quarticMagnitudeOf : Float → Float → Float → Float → List Float → List Float
 quarticMagnitudeOf b c d e x =
     size3Of (at x 0) (at x 2) b
@@ -69,6 +75,7 @@ quarticMagnitudeOf b c d e x =
     ∷ size2Of (at x 1 *ᶠ at x 3) e
     ∷ []
 
+-- `[[1.0, 0.0, 1.0, 0.0], [x[2], 1.0, x[0], 1.0], [x[3], x[2], x[1], x[0]], [0.0, x[3], 0.0, x[1]],]`
 abbrev pub quarticJacobianOf : List Float → List (List Float)
 quarticJacobianOf x =
     (one64 ∷ zero64 ∷ one64 ∷ zero64 ∷ [])
@@ -77,12 +84,13 @@ quarticJacobianOf x =
     ∷ (zero64 ∷ at x 3 ∷ zero64 ∷ at x 1 ∷ [])
     ∷ []
 
+-- the closures of `quartic_factor`
 abbrev pub quarticSystem : Float → Float → Float → Float → System
 quarticSystem b c d e = record { res = quarticResidualOf b c d e; mag = quarticMagnitudeOf b c d e; jac = quarticJacobianOf }
 
 -- ---- y^4 + b*y^3 + c*y^2 + d*y + e = (y - x0) * (y^3 + x1*y^2 + x2*y + x3)
 
--- `res` and `jac`, likewise
+-- `[x[1] - x[0] - b, x[2] - x[0] * x[1] - c, x[3] - x[0] * x[2] - d, -x[0] * x[3] - e,]`
 abbrev pub peelResidualOf : Float → Float → Float → Float → List Float → List Float
 peelResidualOf b c d e x =
     at x 1 -ᶠ at x 0 -ᶠ b
@@ -91,6 +99,8 @@ peelResidualOf b c d e x =
     ∷ neg (at x 0) *ᶠ at x 3 -ᶠ e
     ∷ []
 
+-- `[x[1].abs() + x[0].abs() + b.abs(), x[2].abs() + (x[0] * x[1]).abs() + c.abs(),`
+-- `x[3].abs() + (x[0] * x[2]).abs() + d.abs(), (x[0] * x[3]).abs() + e.abs(),]`
 abbrev pub peelMagnitudeOf : Float → Float → Float → Float → List Float → List Float
 peelMagnitudeOf b c d e x =
     size3Of (at x 1) (at x 0) b
@@ -99,6 +109,7 @@ peelMagnitudeOf b c d e x =
     ∷ size2Of (at x 0 *ᶠ at x 3) e
     ∷ []
 
+-- `[[-1.0, 1.0, 0.0, 0.0], [-x[1], -x[0], 1.0, 0.0], [-x[2], 0.0, -x[0], 1.0], [-x[3], 0.0, 0.0, -x[0]],]`
 abbrev pub peelJacobianOf : List Float → List (List Float)
 peelJacobianOf x =
     (neg one64 ∷ one64 ∷ zero64 ∷ zero64 ∷ [])
@@ -107,10 +118,11 @@ peelJacobianOf x =
     ∷ (neg (at x 3) ∷ zero64 ∷ zero64 ∷ neg (at x 0) ∷ [])
     ∷ []
 
+-- the closures of `peel_root`
 abbrev pub peelSystem : Float → Float → Float → Float → System
 peelSystem b c d e = record { res = peelResidualOf b c d e; mag = peelMagnitudeOf b c d e; jac = peelJacobianOf }
 
--- ---- both quartic systems
+-- ---- both quartic systems, as the enum of the code names them
 
 abbrev pub systemOf : System4 → System
 systemOf (Quartic b c d e) = quarticSystem b c d e

@@ -13,6 +13,7 @@ use Rattle.roots.specs.declared.Pair.{Pair}
 use Rattle.roots.specs.declared.Pairs.{Pairs}
 
 -- ---- roots
+-- `RealRoot { value, multiplicity, }`
 abbrev pub root : Float → ℕ → RealRoot
 root y m = record { value = y; multiplicity = m }
 
@@ -28,15 +29,15 @@ listOf s = take (s .len) (s .root)
 abbrev pub rootsOf : List RealRoot → Roots
 rootsOf l = record { root = l ++ replicate (4 - length l) noRoot; len = length l }
 
--- Candidates::default()
+-- `Candidates::default()`
 abbrev pub noRoots : Roots
 noRoots = rootsOf []
 
--- one more, while there is room
+-- `self.len < 4`: one more, while there is room
 unfoldable pub held : List RealRoot → RealRoot → List RealRoot
 held l r = cond (ltb (length l) 4) (l ++ r ∷ []) l
 
--- Candidates::push: a finite place, while there is room
+-- `if value.is_finite() && self.len < 4`: `push` of `Candidates`, a finite place while there is room
 unfoldable pub kept : List RealRoot → RealRoot → List RealRoot
 unfolding held
 kept l r = cond (isFiniteOf (r .value)) (held l r) l
@@ -50,6 +51,7 @@ unfolding pushedOf
 keptIn s r = cond (isFiniteOf (r .value)) (pushedOf s r) s
 
 -- ---- pairs
+-- `centre ± i*half`
 abbrev pub pair : Float → Float → Pair
 pair c h = record { centre = c; half = h }
 
@@ -65,11 +67,11 @@ pairListOf s = take (s .len) (s .pair)
 abbrev pub pairsOf : List Pair → Pairs
 pairsOf l = record { pair = l ++ replicate (2 - length l) noPair; len = length l }
 
--- Pairs::default()
+-- `Pairs::default()`
 abbrev pub noPairs : Pairs
 noPairs = pairsOf []
 
--- `if mid.is_finite() && pairs.len < 2`
+-- `mid.is_finite() && pairs.len < 2`: one more pair of `push_quadratic`
 unfoldable pub paired : List Pair → Pair → List Pair
 paired l p = cond (isFiniteOf (p .centre) && ltb (length l) 2) (l ++ p ∷ []) l
 

@@ -17,41 +17,44 @@ use Rattle.log2.specs.Log.{log2FiveOf}
 use Rattle.scaled.specs.Exponent.{scaleExponentOf}
 use Rattle.scaled.specs.declared.Scaled.{Scaled}
 
--- top = lead.floor() + e * d, x being a_d
+-- `let top = lead.floor() as i32 + e * d as i32;`, where x is a_d
 unfoldable pub topOf : Float → ℤ → ℕ → ℤ
 topOf x e d = exponentOf x +ℤ e *ℤ pos d
 
--- shift = e * i - top
+-- `let shift = e * i as i32 - top;`
 unfoldable pub shiftOf : ℤ → ℤ → ℕ → ℤ
 shiftOf e top i = e *ℤ pos i -ℤ top
 
--- f_i = a_i * 2^shift, and 0 above the degree
+-- `*fi = ldexp(ai, shift);`, and 0 above the degree
 unfoldable pub coefficientOf : List Float → ℕ → ℤ → ℤ → ℕ → Float
 coefficientOf a d e top i = cond (leb i d) (ldexpOf (getD a i nan) (shiftOf e top i)) zero64
 
+-- `let mut f = [0.0; 5];`, then the loop over a
 unfoldable pub coefficientsOf : List Float → ℕ → ℤ → ℤ → List Float
 coefficientsOf a d e top = fromFn 5 (coefficientOf a d e top)
 
--- g_i = f_i / f_d, with 1 at the degree and 0 above it
+-- `g[i] = f[i] / f[d];` below the degree, `g[d] = 1.0;`, and 0 above it
 unfoldable pub monicAt : List Float → ℕ → ℕ → Float
 monicAt f d i = cond (ltb i d) (getD f i nan /ᶠ getD f d nan) (cond (eqb i d) one64 zero64)
 
+-- `let mut g = [0.0; 5];`, then `for i in 0..d`
 unfoldable pub monicOf : List Float → ℕ → List Float
 monicOf f d = fromFn 5 (monicAt f d)
 
--- |a_i|
+-- the arguments of `c.abs().log2()`
 unfoldable pub sizesOf : List Float → List Float
 sizesOf a = fromFn 5 (λ i. absOf (getD a i nan))
 
--- lg_i = L + shift, where L is the logarithm of |a_i|, the unscaled one: lg_i is finite where f_i went down to 0. Minus infinity above the degree.
+-- `lg[i] += shift as f64;`, where l is the logarithm L of |a_i|, the unscaled one: lg_i is finite where f_i went down to 0. Minus infinity above the degree.
 unfoldable pub logSizeOf : Float → ℕ → ℤ → ℤ → ℕ → Float
 logSizeOf l d e top i = cond (leb i d) (l +ᶠ ofInt binary64 (shiftOf e top i)) (neg inf64)
 
--- lg, which is read at degree 3 and 4 alone ('never at depth 3 or degree 2 and below'). At a smaller degree it stays minus infinity, with which the Rust begins.
+-- `let mut lg = [f64::NEG_INFINITY; 5];`, then `*l = c.abs().log2();` and the shifts. It is read at degree 3 and 4 alone ('never at depth 3 or degree 2 and
+-- below'); at a smaller degree it stays minus infinity.
 unfoldable pub logSizesOf : List Float → ℕ → ℤ → ℤ → List Float
 logSizesOf a d e top = let l = log2FiveOf (sizesOf a) in cond (leb 3 d) (fromFn 5 (λ i. logSizeOf (getD l i nan) d e top i)) (replicate 5 (neg inf64))
 
--- Scaled::new
+-- `Scaled::new`; and `unit: ldexp(1.0, -e),`
 unfoldable pub scaledOf : List Float → ℕ → Scaled
 scaledOf a d =
     let e = scaleExponentOf a d in
@@ -59,7 +62,7 @@ scaledOf a d =
     let f = coefficientsOf a d e top in
     record { f = f; g = monicOf f d; lg = logSizesOf a d e top; d = d; e = e; unit = ldexpOf one64 (negℤ e) }
 
--- the same with the logarithms of a list of degree l
+-- the same with the logarithms of a list of degree l: what the code has where none of them matters (l = 0)
 unfoldable pub withLogsOf : List Float → ℕ → ℕ → Scaled
 withLogsOf a d l =
     let s = scaledOf a d in

@@ -24,15 +24,15 @@ valuesOf (Linear x) = x ∷ []
 valuesOf Degenerate = []
 valuesOf Empty = []
 
--- `shifted`: every place moved by t0
+-- `shifted`: `Self::Two(t1, t2) => Self::Two(t0 + t1, t0 + t2),` and so on: every place moved by t0
 unfoldable pub shiftedOf : QuadraticSolution → Float → QuadraticSolution
-shiftedOf (Two x y) t0 = Two (t0 +ᶠ x) (t0 +ᶠ y)
-shiftedOf (One x) t0 = One (t0 +ᶠ x)
-shiftedOf (Linear x) t0 = Linear (t0 +ᶠ x)
+shiftedOf (Two t1 t2) t0 = Two (t0 +ᶠ t1) (t0 +ᶠ t2)
+shiftedOf (One t) t0 = One (t0 +ᶠ t)
+shiftedOf (Linear t) t0 = Linear (t0 +ᶠ t)
 shiftedOf Degenerate t0 = Degenerate
 shiftedOf Empty t0 = Empty
 
--- `touching_at`: two places or none become the vertex, where it is finite and the reply is yes
+-- `touching_at`: `Self::Two(..) | Self::Empty if vertex.is_finite() && touches(vertex) => { Self::One(vertex) }`, where the reply stands for `touches(vertex)`
 unfoldable pub touchingAtOf : QuadraticSolution → Float → Bool → QuadraticSolution
 touchingAtOf (Two x y) vertex reply = cond (isFiniteOf vertex && reply) (One vertex) (Two x y)
 touchingAtOf (One x) vertex reply = One x

@@ -13,23 +13,26 @@ use Rattle.float.specs.Literals.{zero64}
 use Rattle.float.specs.Methods.{isFiniteOf}
 use Rattle.split.specs.declared.Hull.{Hull}
 
--- (b - a) as f64
+-- `(b.0 - a.0) as f64`
 abbrev pub widthOf : ℕ → ℕ → Float
 widthOf a b = ofInt binary64 (pos (b - a))
 
--- cross = (b.0 - a.0) * (p.1 - a.1) - (b.1 - a.1) * (p.0 - a.0), for the points with the indices a, b and i: at least 0 where b is on or below the line from a to p
+-- `let cross = (b.0 - a.0) as f64 * (p.1 - a.1) - (b.1 - a.1) * (p.0 - a.0) as f64;`, for the points with the indices a, b and i: at least 0 where b is
+-- on or below the line from a to p
 unfoldable pub crossOf : List Float → ℕ → ℕ → ℕ → Float
 crossOf lg a b i =
-    let x = getD lg a nan in
-    widthOf a b *ᶠ (getD lg i nan -ᶠ x) -ᶠ (getD lg b nan -ᶠ x) *ᶠ widthOf a i
+    let a1 = getD lg a nan in
+    let b1 = getD lg b nan in
+    let p1 = getD lg i nan in
+    widthOf a b *ᶠ (p1 -ᶠ a1) -ᶠ (b1 -ᶠ a1) *ᶠ widthOf a i
 
--- how many of the first h points stay: `while h >= 2`, the last one goes where cross >= 0
+-- `while h >= 2`, and `if cross >= 0.0 { h -= 1; } else { break; }`: how many of the first h points stay
 unfoldable pub poppedOf : List Float → List ℕ → ℕ → ℕ → ℕ
 poppedOf lg at i zero = zero
 poppedOf lg at i (suc zero) = suc zero
 poppedOf lg at i (suc (suc k)) = cond (le zero64 (crossOf lg (getD at k 0) (getD at (suc k) 0) i)) (poppedOf lg at i (suc k)) (suc (suc k))
 
--- one turn: the point i goes behind those that stay, where lg[i] is finite
+-- `hull[h] = p;` and `h += 1;`: the point i goes behind those that stay; `if !l.is_finite() { continue; }`
 unfoldable pub hullStep : List Float → ℕ → Hull → Hull
 hullStep lg i s =
     let h = poppedOf lg (s .at) i (s .h) in
@@ -42,11 +45,11 @@ hullAt at h = record { at = at; h = h }
 abbrev pub noHull : Hull
 noHull = hullAt (replicate 5 0) 0
 
--- the hull of the points 0 to d
+-- the hull of the points 0 to d: `for (i, &l) in lg.iter().enumerate().take(d + 1)`
 unfoldable pub hullOf : List Float → ℕ → Hull
 hullOf lg d = countUp (d + 1) (hullStep lg) (d + 1) noHull
 
--- mag(k): the logarithm of the size of the roots of edge k, (hull[k].1 - hull[k + 1].1) / (hull[k + 1].0 - hull[k].0)
+-- `let mag = |k: usize| (hull[k].1 - hull[k + 1].1) / (hull[k + 1].0 - hull[k].0) as f64;`: the logarithm of the size of the roots of edge k
 unfoldable pub magOf : List Float → List ℕ → ℕ → Float
 magOf lg at k =
     let a = getD at k 0 in
