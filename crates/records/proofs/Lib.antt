@@ -1,0 +1,2 @@
+-- What the proofs of several functions, and callers' proofs, use.
+pub mod Places
