@@ -10,6 +10,7 @@ use crate::parts;
 use crate::port::inquiries::{Shown, inquire};
 use crate::random::Random;
 use crate::reference::{patched, untouched};
+use crate::refusals;
 use crate::roots::{shown, tolerance_for};
 use std::cell::RefCell;
 
@@ -76,7 +77,7 @@ fn said(given: &Result<Shown, u64>) -> String {
 }
 
 /// What differs where the replies are those of the Rust's run, one question after another; `more`
-/// gives replies after the end too, which are refused with 4 and change nothing.
+/// gives replies after the end too, which are refused and change nothing.
 fn followed(inquiry: &impl Inquiry, ran: &Ran, touches: Touches, more: bool) -> Result<(), String> {
     let mut replies = Vec::with_capacity(ran.places.len() + 1);
     let check = |replies: &[u8], number, asked| {
@@ -101,7 +102,7 @@ fn followed(inquiry: &impl Inquiry, ran: &Ran, touches: Touches, more: bool) -> 
     if more {
         for reply in [0, 1] {
             replies.push(reply);
-            check(&replies, 4, ran.places.len())?;
+            check(&replies, refusals::NOTHING_ASKED.into(), ran.places.len())?;
         }
     }
     Ok(())

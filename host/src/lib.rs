@@ -50,6 +50,7 @@ pub mod port;
 pub mod quadratics;
 pub mod random;
 pub mod reference;
+pub mod refusals;
 #[cfg(geomcore)]
 pub mod roots;
 pub mod show;

@@ -28,7 +28,7 @@ const ENTRY_POINTS: [&str; 14] = [
     "crank::ask",
     "crank::reply",
     "crank::crank",
-    "hall::list_file",
+    "listing::list_file",
 ];
 
 #[test]
