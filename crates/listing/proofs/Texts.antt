@@ -23,7 +23,7 @@ use Rattle.crank.specs.declared.CrankAnswer.{CrankAnswer}
 use Rattle.records.specs.declared.Kind.{Kind}
 use Rattle.records.specs.declared.Record.{Record}
 use Rattle.records.specs.Marks.{markOf}
-use Rattle.records.proofs.Places.{mark-length}
+use Rattle.records.proofs.Marks.{mark-length}
 use Rattle.listing.specs.Words.{ok}
 use Rattle.listing.specs.Lines.{placeText, rootText, rootsText, refusedText, orRefused, polynomialText, solutionText, quadraticText, crankText}
 use Rattle.listing.specs.Lines.{wordsOf, headOf, lineOf}

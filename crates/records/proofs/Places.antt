@@ -11,14 +11,8 @@ use Rattle.records.specs.declared.Kind.{Kind}
 use Rattle.records.specs.declared.Kind.the-variants.{Polynomial, Quadratic, Crank, Unknown}
 use Rattle.records.specs.declared.Record.{Record}
 use Rattle.refusals.specs.Refusals.{unknownMark, cut, countTooLarge, fileTooLong}
-use Rattle.records.specs.Marks.{markOf, kindAt}
+use Rattle.records.specs.Marks.{kindAt}
 use Rattle.records.specs.Records.{countAt, endedOf, heldOf, polynomialRecord, recordOf, recordAt, Sound}
-
-pub mark-length : (k : Kind) → length (markOf k) ≡ 2
-mark-length Polynomial = refl
-mark-length Quadratic = refl
-mark-length Crank = refl
-mark-length Unknown = refl
 
 -- a record whose mark was read
 pub record-of : (s : List ℕ) (at : ℕ) → 2 ≤ length s - at → (k m : Kind) → k ≡ kindAt s at → k ≡ m → recordOf m s at ≡ recordAt s at

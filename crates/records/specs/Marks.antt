@@ -23,7 +23,7 @@ unfoldable pub markedOf : Kind → Kind → List ℕ → ℕ → Kind
 unfolding isMark
 markedOf kind other s at = cond (isMark (markOf kind) s at) kind other
 
--- the kind by the mark at a record's start; no two have the same mark
+-- the kind by the mark at a record's start; no two have the same (`mark-read`)
 unfoldable pub kindAt : List ℕ → ℕ → Kind
 unfolding markedOf
 kindAt s at =
