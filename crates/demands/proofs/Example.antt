@@ -5,9 +5,8 @@ use Prim.Native.Nat.{ℕ, _<_}
 use lib.ListN.{length}
 use borrow.Author.Tests.{lt-ltb}
 use Rattle.text.specs.Digits.{decimal}
-use Rattle.listing.specs.declared.records.Kind.the-variants.{Unknown}
-use Rattle.listing.specs.Refusals.{tooLong}
-use Rattle.listing.specs.Records.{endedOf}
+use Rattle.records.specs.declared.Kind.the-variants.{Unknown}
+use Rattle.records.specs.Records.{endedOf}
 use Rattle.listing.specs.Lines.{lineOf}
 use Rattle.listing.specs.File.{listing}
 use Rattle.demands.specs.Example.{ascii, exampleFile, exampleListing}
@@ -22,7 +21,7 @@ unfolding listing
 empty = refl
 
 -- the line depends on nothing in the file
-only-line : (s : List ℕ) → lineOf 0 s 0 (endedOf Unknown tooLong s) ≡ ascii "0 -- refused 9\n"
+only-line : (s : List ℕ) → lineOf 0 s 0 (endedOf Unknown 9 s) ≡ ascii "0 -- refused 9\n"
 unfolding lineOf decimal ascii
 only-line s = refl
 

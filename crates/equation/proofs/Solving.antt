@@ -9,6 +9,7 @@ use borrow.Author.Tests.{ltb-false}
 use lib.Ieee.{Float, nan, inf, fin, up, down, lt, le, ofBits}
 use lib.Ieee.Fits.{up-pos}
 use Rattle.facts.specs.Cond.{if-taken, if-left}
+use Rattle.refusals.specs.Refusals.{notFinite, answerNotFinite}
 use Rattle.float.specs.Literals.{zero64}
 use Rattle.float.specs.Methods.{absOf, copysignOf, allFiniteOf}
 use Rattle.sqrt.specs.Root.{sqrtOf}
@@ -48,7 +49,7 @@ module _ (a b c confusion angular : Float) {s size root : Float} {grazing : Bool
   solved-two h k is = if-left _ _ not-linear (if-left _ _ (sym the-test ∙ h) (if-left _ _ k (is ∙ same-two k)))
 
 module _ (a b c confusion angular : Float) {finite : Bool} (is-finite : finite ≡ allFiniteOf (a ∷ b ∷ c ∷ [])) where
-  pub not-finite : {r : QuadraticAnswer} → finite ≡ false → r ≡ refusedQuadratic 1 → r ≡ quadraticOf a b c confusion angular
+  pub not-finite : {r : QuadraticAnswer} → finite ≡ false → r ≡ refusedQuadratic notFinite → r ≡ quadraticOf a b c confusion angular
   unfolding quadraticOf
   not-finite h is = if-left _ _ (sym is-finite ∙ h) is
 
@@ -61,6 +62,6 @@ module _ (a b c confusion angular : Float) {finite : Bool} (is-finite : finite �
     unfolding quadraticOf
     answered k = if-taken _ _ (sym is-finite ∙ h) (if-taken _ _ (sym the-places ∙ k) (ap (λ (t : QuadraticSolution). record { number = 0; solution = t }) is-s))
 
-    pub answer-not-finite : {r : QuadraticAnswer} → sound ≡ false → r ≡ refusedQuadratic 5 → r ≡ quadraticOf a b c confusion angular
+    pub answer-not-finite : {r : QuadraticAnswer} → sound ≡ false → r ≡ refusedQuadratic answerNotFinite → r ≡ quadraticOf a b c confusion angular
     unfolding quadraticOf
     answer-not-finite k is = if-taken _ _ (sym is-finite ∙ h) (if-left _ _ (sym the-places ∙ k) is)

@@ -4,6 +4,7 @@ use mathlib.Core.Bool.{Bool, cond, _&&_}
 use mathlib.Core.List.{[], _∷_}
 use Prim.Native.Nat.{ℕ}
 use lib.Ieee.{Float, neg, lt, le}
+use Rattle.refusals.specs.Refusals.{notFinite, answerNotFinite}
 use Rattle.float.specs.Rounded.{_+ᶠ_, _-ᶠ_, _*ᶠ_, _/ᶠ_}
 use Rattle.float.specs.Literals.{zero64, epsilon64, half64, one64, two64, four64}
 use Rattle.float.specs.Methods.{absOf, isFiniteOf, copysignOf, minOf, maxOf, allFiniteOf}
@@ -73,4 +74,5 @@ refusedQuadratic n = record { number = n; solution = Empty }
 unfoldable pub quadraticOf : Float → Float → Float → Float → Float → QuadraticAnswer
 quadraticOf a b c confusion angular =
     let s = solveQuadraticOf a b c confusion angular in
-    cond (allFiniteOf (a ∷ b ∷ c ∷ [])) (cond (allFiniteOf (valuesOf s)) (record { number = 0; solution = s }) (refusedQuadratic 5)) (refusedQuadratic 1)
+    cond (allFiniteOf (a ∷ b ∷ c ∷ [])) (cond (allFiniteOf (valuesOf s)) (record { number = 0; solution = s }) (refusedQuadratic answerNotFinite))
+    (refusedQuadratic notFinite)

@@ -1,5 +1,5 @@
 // equation.rs on all bits: quadratics with a caller's tolerances.
-// It rests on `float`, `sqrt` and `solution`; the hall file and the C functions rest on it.
+// It rests on `refusals`, `float`, `sqrt` and `solution`; the hall file and the C functions rest on it.
 ghost use mathlib.Core.Path.{_≡_};
 ghost use Rattle.equation.specs.Quadratic.{quadraticCentreOf, linearOf, isGrazingOf, twoOf, solveQuadraticOf, refusedQuadratic, quadraticOf};
 use solution::QuadraticSolution;
@@ -93,7 +93,7 @@ pub fn quadratic(a: f64, b: f64, c: f64, confusion: f64, angular: f64) -> Quadra
                 solution,
             };
         }
-        return refused(5);
+        return refused(refusals::ANSWER_NOT_FINITE);
     }
-    refused(1)
+    refused(refusals::NOT_FINITE)
 }

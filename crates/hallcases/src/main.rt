@@ -1,4 +1,4 @@
-// Writes the name and the listing of each file that its arguments name: stored hall files, whose listings are known. It rests on `listing_io`.
+// Writes the name and the listing of each file that its arguments name: stored hall files, whose listings are known. It rests on `input` and `listing_io`.
 use libc::STDOUT_FILENO;
 
 // A file that cannot be read has a line that no listing has.
@@ -13,7 +13,7 @@ fn list_file(name: &[u8]) {
         not_read(name);
         return;
     }
-    let mut file = listing_io::input_buffer();
+    let mut file = input::buffer();
     let mut out = listing_io::output_buffer();
     let listed = listing_io::list_fd(fd, &mut file, &mut out);
     libc::close(fd);

@@ -6,6 +6,7 @@ use Prim.Native.Nat.{ℕ, _+_, _*_, _-_, _<_}
 use native.Mathlib.Omega.{arith}
 use lib.ListN.{length}
 use lib.Seq.{length-take-le}
+use Rattle.refusals.specs.Refusals.{nothingAsked}
 use Rattle.roots.specs.declared.RealRoot.{RealRoot}
 use Rattle.roots.specs.Roots.{listOf, pairListOf}
 use Rattle.roots.specs.Listed.{multiplicities}
@@ -53,6 +54,6 @@ pub reply-taken : (q : Inquiry) (r : Bool) → askedOf q .asking ≡ true → re
 unfolding repliedOf
 reply-taken q r e = simp e
 
-pub reply-refused : (q : Inquiry) (r : Bool) → askedOf q .asking ≡ false → record { number = 4; inquiry = q } ≡ repliedOf q r
+pub reply-refused : (q : Inquiry) (r : Bool) → askedOf q .asking ≡ false → record { number = nothingAsked; inquiry = q } ≡ repliedOf q r
 unfolding repliedOf
 reply-refused q r e = simp e

@@ -3,6 +3,7 @@ use mathlib.Core.Bool.{Bool, true, false, cond, _&&_}
 use mathlib.Core.List.{List, [], _∷_}
 use Prim.Native.Nat.{ℕ, _-_, _*_}
 use lib.Dec.{ltb, leb}
+use Rattle.refusals.specs.Refusals.{nothingAsked}
 use Rattle.float.specs.Literals.{zero64}
 use Rattle.roots.specs.declared.RealRoot.{RealRoot}
 use Rattle.roots.specs.Roots.{listOf, rootsOf, noRoots, pairListOf}
@@ -50,10 +51,10 @@ unfolding soundOf shown
 askedOf q = cond (soundOf q) (shown (walked (repliesOf (q .replies)) (asking q))) nothing
 
 -- ---- the same for replies that were put in at once
--- the number of the last one, by those that were not needed: 0, or refusal 4
+-- the number of the last one, by those that were not needed: 0, or that nothing is being asked
 unfoldable pub overBy : List Bool → ℕ
 overBy [] = 0
-overBy (r ∷ rs) = 4
+overBy (r ∷ rs) = nothingAsked
 
 abbrev pub seenAt : Stage (List RealRoot) → Seen
 seenAt s = record { number = overBy (leftBy s); asked = shown s }
@@ -71,7 +72,7 @@ seenOf q = cond (soundOf q) (seenAt (walked (repliesOf (q .replies)) (asking q))
 abbrev pub withReply : Inquiry → Bool → Inquiry
 withReply q r = record { poly = q .poly; tol = q .tol; roots = q .roots; pairs = q .pairs; replies = repliedBy (q .replies) r }
 
--- `reply`: refusal 4, the inquiry unaltered, where nothing is being asked
+-- `reply`: refused, the inquiry unaltered, where nothing is being asked
 unfoldable pub repliedOf : Inquiry → Bool → Replied
 unfolding askedOf
-repliedOf q r = cond (askedOf q .asking) (record { number = 0; inquiry = withReply q r }) (record { number = 4; inquiry = q })
+repliedOf q r = cond (askedOf q .asking) (record { number = 0; inquiry = withReply q r }) (record { number = nothingAsked; inquiry = q })

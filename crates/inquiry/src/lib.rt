@@ -38,7 +38,7 @@ pub struct Asked {
     pub list: roots::Roots,
 }
 
-// What is shown; number is 0, or 4 where a reply was not needed: the last one's, had they come one by one.
+// What is shown; number is 0, or NOTHING_ASKED where a reply was not needed: the last one's, had they come one by one.
 pub struct Seen {
     pub number: u32,
     pub asked: Asked,
@@ -50,7 +50,7 @@ pub struct ShownAfter {
     pub seen: Seen,
 }
 
-// The inquiry after a reply; number is 0, or 4 where nothing was being asked.
+// The inquiry after a reply; number is 0, or NOTHING_ASKED where nothing was being asked.
 pub struct Replied {
     pub number: u32,
     pub inquiry: Inquiry,
@@ -86,7 +86,7 @@ fn over(replies: touching::Replies, used: usize) -> u32
     ensures { λ r. ⌜ r ≡ overBy (leftOf replies used) ⌝ }
 {
     if used < replies.count {
-        return 4;
+        return refusals::NOTHING_ASKED;
     }
     0
 }
@@ -269,7 +269,7 @@ impl Inquiry {
             return Replied { number: 0, inquiry };
         }
         Replied {
-            number: 4,
+            number: refusals::NOTHING_ASKED,
             inquiry: self,
         }
     }

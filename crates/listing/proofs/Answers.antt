@@ -1,5 +1,4 @@
 -- What printing needs of the solver's answers: at most four roots, short numbers, k below 8. Of lists, that they have no more roots than coefficients.
--- Assumes nothing.
 use mathlib.Core.Path.{_≡_, refl, sym, subst}
 use mathlib.Core.Bool.{Bool, true, false, cond}
 use mathlib.Core.Logic.{⊎-elim}

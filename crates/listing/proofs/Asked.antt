@@ -1,5 +1,4 @@
 -- What the solver answers to a record's numbers can be printed, and is short.
--- Assumes nothing.
 use mathlib.Core.Path.{_≡_, sym, subst}
 use mathlib.Core.List.{List, []}
 use Prim.Native.Nat.{ℕ, _+_, _*_, _<_, _≤_}
@@ -11,10 +10,10 @@ use Rattle.equation.specs.declared.QuadraticAnswer.{QuadraticAnswer}
 use Rattle.crank.specs.declared.CrankAnswer.{CrankAnswer}
 use Rattle.lent_bytes.specs.Bytes.{f64sAt}
 use Rattle.lent_bytes.proofs.Doubles.{f64s-length}
-use Rattle.listing.specs.declared.records.Kind.{Kind}
-use Rattle.listing.specs.declared.records.Kind.the-variants.{Polynomial, Quadratic, Crank, Unknown}
-use Rattle.listing.specs.declared.records.Record.{Record}
-use Rattle.listing.specs.Records.{countAt}
+use Rattle.records.specs.declared.Kind.{Kind}
+use Rattle.records.specs.declared.Kind.the-variants.{Polynomial, Quadratic, Crank, Unknown}
+use Rattle.records.specs.declared.Record.{Record}
+use Rattle.records.specs.Records.{countAt}
 use Rattle.listing.specs.Answers.{polynomialAt, quadraticAt, crankAt}
 use Rattle.listing.specs.Lines.{polynomialText, quadraticText, crankText, answerText, wordsOf}
 use Rattle.listing.specs.Printable.{Printable}

@@ -1,6 +1,5 @@
 -- No listing is longer than 163,860 bytes: a line has at most five bytes for every two of its record, and the last one, after which reading ends, at most 20.
 -- (A list of n coefficients has 11 + 8 * n bytes, and its line at most 20 + 20 * n, since it has no more roots than coefficients.)
--- Assumes nothing.
 use mathlib.Core.Path.{_≡_, refl, ap, subst}
 use mathlib.Core.Bool.{Bool, true, false, cond}
 use mathlib.Core.Logic.{_⊎_, inl, inr, ⊎-elim}
@@ -10,16 +9,16 @@ use native.Mathlib.Omega.{arith}
 use borrow.Author.Tests.{le-ltb, ltb-true, ltb-false}
 use lib.Dec.{ltb}
 use lib.ListN.{length, length-append}
-use Rattle.listing.specs.declared.records.Kind.{Kind}
-use Rattle.listing.specs.declared.records.Kind.the-variants.{Polynomial, Quadratic, Crank, Unknown}
-use Rattle.listing.specs.declared.records.Record.{Record}
-use Rattle.listing.specs.Refusals.{tooLong}
-use Rattle.listing.specs.Records.{countAt, endedOf, recordAt}
+use Rattle.records.specs.declared.Kind.{Kind}
+use Rattle.records.specs.declared.Kind.the-variants.{Polynomial, Quadratic, Crank, Unknown}
+use Rattle.records.specs.declared.Record.{Record}
+use Rattle.refusals.specs.Refusals.{fileTooLong}
+use Rattle.records.specs.Records.{countAt, endedOf, recordAt}
 use Rattle.listing.specs.Lines.{answerText, wordsOf, lineOf}
 use Rattle.listing.specs.File.{linesFrom, listing}
 use Rattle.listing.proofs.Texts.{refusal, refused-length, line-length}
 use Rattle.listing.proofs.Asked.{polynomial-at-length, quadratic-at-length, answer-length}
-use Rattle.listing.proofs.Places.{wholeOf, record-by, record-forward}
+use Rattle.records.proofs.Places.{wholeOf, record-by, record-forward}
 
 -- ---- a line
 ended-length : (s : List ℕ) (at : ℕ) (kind : Kind) (number : ℕ) → 0 < number → number < 100 → length (wordsOf s at (endedOf kind number s)) ≤ 10
@@ -87,8 +86,8 @@ unfolding listing
 listing-fits s = go (ltb 65536 (length s)) refl
   where
     last : Record
-    last = endedOf Unknown tooLong s
+    last = endedOf Unknown fileTooLong s
 
     go : (b : Bool) → ltb 65536 (length s) ≡ b → length (cond b (lineOf 0 s 0 last) (linesFrom (length s) s 0 1)) ≤ 163860
-    go true e = omega (arith, line-length 0 s 0 last (omega arith), ended-length s 0 Unknown tooLong (omega arith) (omega arith))
+    go true e = omega (arith, line-length 0 s 0 last (omega arith), ended-length s 0 Unknown fileTooLong (omega arith) (omega arith))
     go false e = all-lines-fit s (ltb-false 65536 (length s) e)

@@ -1,6 +1,5 @@
 -- What the proofs of several functions use, and what callers use of the listing.
 mod Texts
-mod Places
 mod Answers
 mod Asked
 mod Reading

@@ -1,5 +1,4 @@
 -- A turn of the loop over the records: reading goes forward, and the lines stored are the first of the listing.
--- Assumes nothing.
 use mathlib.Core.Path.{_≡_, refl, sym, ap, _∙_}
 use mathlib.Core.List.{List, [], _++_, append-nil, append-assoc}
 use Prim.Native.Nat.{ℕ, zero, suc, _+_, _-_, _<_, _≤_}
@@ -8,13 +7,13 @@ use borrow.Author.Tests.{lt-ltb, le-ltb}
 use lib.ListN.{length, length-append}
 use Rattle.text.specs.Written.{Written}
 use Rattle.text.proofs.Laws.{written-none, written-then, written-as}
-use Rattle.listing.specs.declared.records.Kind.the-variants.{Unknown}
-use Rattle.listing.specs.declared.records.Record.{Record}
-use Rattle.listing.specs.Refusals.{tooLong}
-use Rattle.listing.specs.Records.{endedOf, recordAt}
+use Rattle.records.specs.declared.Kind.the-variants.{Unknown}
+use Rattle.records.specs.declared.Record.{Record}
+use Rattle.refusals.specs.Refusals.{fileTooLong}
+use Rattle.records.specs.Records.{endedOf, recordAt}
 use Rattle.listing.specs.Lines.{lineOf}
 use Rattle.listing.specs.File.{linesFrom, listing}
-use Rattle.listing.proofs.Places.{record-forward}
+use Rattle.records.proofs.Places.{record-forward}
 use Rattle.listing.proofs.Bound.{lines-end, all-lines-fit}
 
 lines-step : (f : ℕ) (s : List ℕ) (at n : ℕ) → at < length s → 0 < f
@@ -76,6 +75,6 @@ pub falls : (s : List ℕ) (at : ℕ) → at < length s → (r : Record) → r �
 falls s at inside r e = omega (arith, record-forward s at inside .past, ap (λ (x : Record). x .next) e)
 
 -- a file that is too long
-pub too-long : (s : List ℕ) → 65536 < length s → lineOf 0 s 0 (endedOf Unknown tooLong s) ≡ listing s
+pub too-long : (s : List ℕ) → 65536 < length s → lineOf 0 s 0 (endedOf Unknown fileTooLong s) ≡ listing s
 unfolding listing
 too-long s h = simp (lt-ltb 65536 (length s) h)

@@ -1,19 +1,27 @@
 -- Listings of small files, computed from the definition: each refusal of the file's own, and a record refused under 2, after which reading goes on.
--- Assumes nothing.
 use mathlib.Core.Path.{_≡_, refl}
 use mathlib.Core.List.{List, [], _∷_, _++_, map}
 use Prim.Native.Nat.{ℕ, _+_}
 use lib.ListN.{replicate}
-use Rattle.text.specs.Digits.{decimalWithin, decimal}
+use Rattle.text.specs.Digits.{decimal}
 use Rattle.poly.specs.Coefficients.{trimmedFrom, trimmedOf, refusalBy}
 use Rattle.poly.specs.Solve.{solveOf}
 use Rattle.poly.specs.RealRoots.{unscaledAll, answerOf, realRootsOf}
-use Rattle.lent_bytes.specs.Bytes.{f64sAt}
-use Rattle.listing.specs.Words.{pl, qd, tg, unknown, refused}
-use Rattle.listing.specs.Records.{isMark, kindAt, heldOf, polynomialRecord, recordOf, recordAt}
-use Rattle.listing.specs.Answers.{polynomialAt}
-use Rattle.listing.specs.Lines.{refusedText, polynomialText, markOf, answerText, wordsOf, lineOf}
-use Rattle.listing.specs.File.{linesFrom, listing}
+use Rattle.listing.specs.Words.{refused}
+use Rattle.listing.specs.File.{listing}
+
+-- the marks
+abbrev pl : List ℕ
+pl = 80 ∷ 76 ∷ []
+
+abbrev qd : List ℕ
+qd = 81 ∷ 68 ∷ []
+
+abbrev tg : List ℕ
+tg = 84 ∷ 71 ∷ []
+
+abbrev unknown : List ℕ
+unknown = 45 ∷ 45 ∷ []
 
 -- a file, and the mark and the number of its only line
 record Row : Type 0 where
@@ -42,14 +50,14 @@ rows =
     ∷ []
 
 refusals : map (λ (r : Row). listing (r .file)) rows ≡ map (λ (r : Row). line 1 (r .mark) (r .number)) rows
-unfolding rows listing linesFrom recordAt kindAt isMark recordOf polynomialRecord heldOf lineOf markOf wordsOf refusedText decimal decimalWithin
+unfolding rows listing decimal
 refusals = refl
 
 -- the empty file, and a list of no coefficient before an unknown mark
 empty : listing [] ≡ []
-unfolding listing linesFrom
+unfolding listing
 empty = refl
 
 goes-on : listing (pl ++ (replicate 9 0 ++ (88 ∷ 88 ∷ []))) ≡ line 1 pl 2 ++ line 2 unknown 6
-unfolding listing linesFrom recordAt kindAt isMark recordOf polynomialRecord heldOf lineOf markOf wordsOf answerText polynomialText polynomialAt f64sAt realRootsOf answerOf unscaledAll solveOf refusalBy trimmedOf trimmedFrom refusedText decimal decimalWithin
+unfolding listing realRootsOf answerOf unscaledAll solveOf refusalBy trimmedOf trimmedFrom decimal
 goes-on = refl

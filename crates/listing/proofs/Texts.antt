@@ -1,5 +1,4 @@
 -- How long the texts of a line are, and which of two texts a number picks.
--- Assumes nothing.
 use mathlib.Core.Path.{_≡_, refl, ap}
 use mathlib.Core.List.{List, [], _∷_, _++_, flatMap}
 use Prim.Native.Nat.{ℕ, zero, suc, _+_, _*_, _<_, _≤_}
@@ -21,11 +20,13 @@ use Rattle.solution.specs.declared.QuadraticSolution.{QuadraticSolution}
 use Rattle.solution.specs.declared.QuadraticSolution.the-variants.{Two, One, Linear, Degenerate, Empty}
 use Rattle.equation.specs.declared.QuadraticAnswer.{QuadraticAnswer}
 use Rattle.crank.specs.declared.CrankAnswer.{CrankAnswer}
-use Rattle.listing.specs.declared.records.Kind.{Kind}
-use Rattle.listing.specs.declared.records.Kind.the-variants.{Polynomial, Quadratic, Crank, Unknown}
-use Rattle.listing.specs.declared.records.Record.{Record}
+use Rattle.records.specs.declared.Kind.{Kind}
+use Rattle.records.specs.declared.Record.{Record}
+use Rattle.records.specs.Marks.{markOf}
+use Rattle.records.proofs.Marks.{mark-length}
 use Rattle.listing.specs.Words.{ok}
-use Rattle.listing.specs.Lines.{placeText, rootText, rootsText, refusedText, orRefused, polynomialText, solutionText, quadraticText, crankText, markOf, wordsOf, lineOf}
+use Rattle.listing.specs.Lines.{placeText, rootText, rootsText, refusedText, orRefused, polynomialText, solutionText, quadraticText, crankText}
+use Rattle.listing.specs.Lines.{wordsOf, headOf, lineOf}
 use Rattle.listing.specs.Printable.{Printable}
 
 -- ---- an answer or a refusal
@@ -89,7 +90,8 @@ or-length n t k h m p = either-way (λ (u : List ℕ). length u ≤ k) (eqb n 0)
 
 pub polynomial-length : (a : Answer) → a .number < 100 → Printable (a .roots) → length (polynomialText a) ≤ 10 + 20 * a .roots .len
 unfolding polynomialText
-polynomial-length a h p = or-length (a .number) (ok ++ rootsText (a .roots)) (10 + 20 * a .roots .len) h (omega arith) (omega (arith, roots-length (a .roots) p))
+polynomial-length a h p =
+    or-length (a .number) (ok ++ rootsText (a .roots)) (10 + 20 * a .roots .len) h (omega arith) (omega (arith, roots-length (a .roots) p))
 
 solution-length : (s : QuadraticSolution) → length (solutionText s) ≤ 37
 unfolding solutionText
@@ -116,23 +118,25 @@ crank-length a h k p =
     ))
 
 -- ---- a line
-pub mark-length : (k : Kind) → length (markOf k) ≡ 2
-unfolding markOf
-mark-length Polynomial = refl
-mark-length Quadratic = refl
-mark-length Crank = refl
-mark-length Unknown = refl
+pub head-length : (n : ℕ) (kind : Kind) → n < 100000 → length (headOf n kind) ≤ 9
+unfolding headOf
+head-length n kind h =
+    let mark = markOf kind in
+    omega (
+      arith,
+      length-append (decimal n) (32 ∷ mark ++ (32 ∷ [])),
+      length-append mark (32 ∷ []),
+      decimal-length 5 n (omega arith) h,
+      mark-length kind,
+    )
 
 pub line-length : (n : ℕ) (s : List ℕ) (at : ℕ) (found : Record) → n < 100000 → length (lineOf n s at found) ≤ 10 + length (wordsOf s at found)
 unfolding lineOf
 line-length n s at found h =
     let words = wordsOf s at found in
-    let mark = markOf (found .kind) in
     omega (
       arith,
-      length-append (decimal n) (32 ∷ mark ++ (32 ∷ words ++ (10 ∷ []))),
-      length-append mark (32 ∷ words ++ (10 ∷ [])),
+      length-append (headOf n (found .kind)) (words ++ (10 ∷ [])),
       length-append words (10 ∷ []),
-      decimal-length 5 n (omega arith) h,
-      mark-length (found .kind),
+      head-length n (found .kind) h,
     )

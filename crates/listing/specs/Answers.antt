@@ -9,7 +9,7 @@ use Rattle.crank.specs.declared.CrankAnswer.{CrankAnswer}
 use Rattle.poly.specs.RealRoots.{realRootsOf}
 use Rattle.equation.specs.Quadratic.{quadraticOf}
 use Rattle.crank.specs.Crank.{crankOf}
-use Rattle.listing.specs.Records.{countAt}
+use Rattle.records.specs.Records.{countAt}
 
 -- 'PL: count byte, tolerance, that many coefficients'
 unfoldable pub polynomialAt : List ℕ → ℕ → Answer

@@ -4,9 +4,9 @@ use mathlib.Core.List.{List, [], _++_}
 use Prim.Native.Nat.{ℕ, zero, suc, _+_}
 use lib.Dec.{ltb}
 use lib.ListN.{length}
-use Rattle.listing.specs.declared.records.Kind.the-variants.{Unknown}
-use Rattle.listing.specs.Refusals.{tooLong}
-use Rattle.listing.specs.Records.{endedOf, recordAt}
+use Rattle.records.specs.declared.Kind.the-variants.{Unknown}
+use Rattle.refusals.specs.Refusals.{fileTooLong}
+use Rattle.records.specs.Records.{endedOf, recordAt}
 use Rattle.listing.specs.Lines.{lineOf}
 
 -- the lines from at on, the first of them the n-th; f is at least as large as the number of bytes that are left
@@ -20,4 +20,4 @@ linesFrom (suc f) s at n =
 -- '9, over 65,536 bytes, the only line then being `0 -- refused 9`'
 unfoldable pub listing : List ℕ → List ℕ
 unfolding linesFrom
-listing s = cond (ltb 65536 (length s)) (lineOf 0 s 0 (endedOf Unknown tooLong s)) (linesFrom (length s) s 0 1)
+listing s = cond (ltb 65536 (length s)) (lineOf 0 s 0 (endedOf Unknown fileTooLong s)) (linesFrom (length s) s 0 1)

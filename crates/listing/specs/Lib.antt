@@ -1,6 +1,4 @@
 pub mod Words
-pub mod Refusals
-pub mod Records
 pub mod Answers
 pub mod Lines
 pub mod Printable

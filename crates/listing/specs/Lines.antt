@@ -13,10 +13,11 @@ use Rattle.solution.specs.declared.QuadraticSolution.{QuadraticSolution}
 use Rattle.solution.specs.declared.QuadraticSolution.the-variants.{Two, One, Linear, Degenerate, Empty}
 use Rattle.equation.specs.declared.QuadraticAnswer.{QuadraticAnswer}
 use Rattle.crank.specs.declared.CrankAnswer.{CrankAnswer}
-use Rattle.listing.specs.declared.records.Kind.{Kind}
-use Rattle.listing.specs.declared.records.Kind.the-variants.{Polynomial, Quadratic, Crank, Unknown}
-use Rattle.listing.specs.declared.records.Record.{Record}
-use Rattle.listing.specs.Words.{pl, qd, tg, unknown, refused, ok, two, one, linear, degenerate, empty}
+use Rattle.records.specs.declared.Kind.{Kind}
+use Rattle.records.specs.declared.Kind.the-variants.{Polynomial, Quadratic, Crank, Unknown}
+use Rattle.records.specs.declared.Record.{Record}
+use Rattle.records.specs.Marks.{markOf}
+use Rattle.listing.specs.Words.{refused, ok, two, one, linear, degenerate, empty}
 use Rattle.listing.specs.Answers.{polynomialAt, quadraticAt, crankAt}
 
 -- ---- places and roots
@@ -71,13 +72,6 @@ crankText a = orRefused (a .number) (ok ++ (decimal (a .k) ++ (32 ∷ rootsText 
 
 -- ---- the line
 
--- 'Where no whole known mark was read the mark prints as `--`'
-unfoldable pub markOf : Kind → List ℕ
-markOf Polynomial = pl
-markOf Quadratic = qd
-markOf Crank = tg
-markOf Unknown = unknown
-
 -- what the solver answers to a record that stands whole
 unfoldable pub answerText : Kind → List ℕ → ℕ → List ℕ
 unfolding polynomialText quadraticText crankText polynomialAt quadraticAt crankAt
@@ -91,7 +85,11 @@ unfoldable pub wordsOf : List ℕ → ℕ → Record → List ℕ
 unfolding answerText refusedText
 wordsOf s at found = orRefused (found .number) (answerText (found .kind) s at)
 
+-- 'its number from 1, its mark'
+unfoldable pub headOf : ℕ → Kind → List ℕ
+headOf n kind = decimal n ++ (32 ∷ markOf kind ++ (32 ∷ []))
+
 -- the n-th line, that of the record at at
 unfoldable pub lineOf : ℕ → List ℕ → ℕ → Record → List ℕ
-unfolding markOf wordsOf
-lineOf n s at found = decimal n ++ (32 ∷ markOf (found .kind) ++ (32 ∷ wordsOf s at found ++ (10 ∷ [])))
+unfolding headOf wordsOf
+lineOf n s at found = headOf n (found .kind) ++ (wordsOf s at found ++ (10 ∷ []))

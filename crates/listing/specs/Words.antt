@@ -1,22 +1,6 @@
--- The words of a hall file and of its listing, in ASCII. Definitions only.
+-- The words of a listing, in ASCII. Definitions only.
 use Prim.Native.Nat.{ℕ}
 use mathlib.Core.List.{List, [], _∷_}
-
--- `PL`
-abbrev pub pl : List ℕ
-pl = 80 ∷ 76 ∷ []
-
--- `QD`
-abbrev pub qd : List ℕ
-qd = 81 ∷ 68 ∷ []
-
--- `TG`
-abbrev pub tg : List ℕ
-tg = 84 ∷ 71 ∷ []
-
--- `--`
-abbrev pub unknown : List ℕ
-unknown = 45 ∷ 45 ∷ []
 
 -- `refused` and a blank
 abbrev pub refused : List ℕ

@@ -1,5 +1,5 @@
 // The hall file: records in, lines out, into a lent buffer.
-// It rests on the solver, `text` and `float`; the program rests on it.
+// It rests on `records`, the solver, `text` and `float`; the program rests on it.
 ghost use mathlib.Core.Path.{_≡_};
 ghost use lib.ListN.{length};
 ghost use lib.Seq.{sets};
@@ -9,8 +9,6 @@ use records::Kind;
 
 pub mod lines;
 pub mod numbers;
-pub mod records;
-pub mod refusals;
 
 // Stores the listing of the file s from the start of out on, as far as out reaches, and answers how long the listing is.
 pub fn list_file(s: &[u8], out: &mut [u8]) -> usize
@@ -18,7 +16,7 @@ pub fn list_file(s: &[u8], out: &mut [u8]) -> usize
     ensures { λ _. ⌜ now (out .exit) ≡ sets (now (out .entry)) 0 (listing (now (s .entry))) ⌝ }
 {
     if 65536 < s.len() {
-        let none = records::ended(s, Kind::Unknown, refusals::TOO_LONG);
+        let none = records::ended(s, Kind::Unknown, refusals::FILE_TOO_LONG);
         return put_line(out, 0, 0, s, 0, none);
     }
     let mut at = 0;

@@ -1,14 +1,17 @@
 // The line of a record, stored in a lent buffer from a place on. Each function answers the place behind its text.
-ghost use Prim.Native.Nat.{_^_, _<_};
+ghost use Prim.Native.Nat.{_^_, _<_, _≤_};
+ghost use lib.ListN.{length};
+ghost use Rattle.text.specs.Digits.{decimal};
 ghost use Rattle.text.specs.Written.{Written};
-ghost use Rattle.listing.specs.Records.{Whole, Sound};
-ghost use Rattle.listing.specs.Lines.{placeText, rootText, rootsText, refusedText, polynomialText, solutionText, quadraticText, crankText, markOf, answerText, wordsOf, lineOf};
+ghost use Rattle.records.specs.Records.{Whole, Sound};
+ghost use Rattle.listing.specs.Lines.{placeText, rootText, rootsText, refusedText, polynomialText, solutionText, quadraticText, crankText};
+ghost use Rattle.listing.specs.Lines.{answerText, wordsOf, headOf, lineOf};
 ghost use Rattle.listing.specs.Printable.{Printable};
-use crate::records::Kind;
-use crate::records::Record;
 use crank::CrankAnswer;
 use equation::QuadraticAnswer;
 use poly::Answer;
+use records::Kind;
+use records::Record;
 use roots::RealRoot;
 use roots::Roots;
 use solution::QuadraticSolution;
@@ -131,16 +134,15 @@ fn put_answer(out: &mut [u8], w: usize, s: &[u8], at: usize, kind: Kind) -> usiz
     }
 }
 
-fn put_mark(out: &mut [u8], at: usize, kind: Kind) -> usize
-    requires { ⌜ at < 2 ^ 32 ⌝ }
-    ensures { λ r. ⌜ Written (now (out .entry)) at (markOf kind) (now (out .exit)) r ⌝ }
+// The record's number and its mark, each before a blank.
+fn put_head(out: &mut [u8], w: usize, n: u64, kind: Kind) -> usize
+    requires { ⌜ (w < 2 ^ 30) × (length (decimal n) ≤ 5) ⌝ }
+    ensures { λ r. ⌜ Written (now (out .entry)) w (headOf n kind) (now (out .exit)) r ⌝ }
 {
-    match kind {
-        Kind::Polynomial => put_bytes(out, at, b"PL"),
-        Kind::Quadratic => put_bytes(out, at, b"QD"),
-        Kind::Crank => put_bytes(out, at, b"TG"),
-        Kind::Unknown => put_bytes(out, at, b"--"),
-    }
+    let blank = put_decimal(out, w, n);
+    let mark = put_byte(out, blank, b' ');
+    let end = put_bytes(out, mark, &records::mark(kind));
+    put_byte(out, end, b' ')
 }
 
 // What stands behind the mark.
@@ -161,10 +163,7 @@ pub fn put_line(out: &mut [u8], w: usize, n: u64, s: &[u8], at: usize, found: Re
     ensures { λ r. ⌜ Written (now (out .entry)) w (lineOf n (now (s .entry)) at found) (now (out .exit)) r ⌝ }
 {
     let kind = found.kind;
-    let blank = put_decimal(out, w, n);
-    let mark = put_byte(out, blank, b' ');
-    let second = put_mark(out, mark, kind);
-    let words = put_byte(out, second, b' ');
+    let words = put_head(out, w, n, kind);
     let end = put_words(out, words, s, at, found);
     put_byte(out, end, b'\n')
 }

@@ -1,8 +1,8 @@
 // What the solver answers to the numbers of a record that stands whole.
 ghost use mathlib.Core.Path.{_≡_};
-ghost use Rattle.listing.specs.Records.{Whole};
+ghost use Rattle.records.specs.Records.{Whole};
 ghost use Rattle.listing.specs.Answers.{polynomialAt, quadraticAt, crankAt};
-ghost use Rattle.listing.specs.declared.records.Kind.the-variants.{Polynomial, Quadratic, Crank};
+ghost use Rattle.records.specs.declared.Kind.the-variants.{Polynomial, Quadratic, Crank};
 use crank::CrankAnswer;
 use equation::QuadraticAnswer;
 use float::f64_at;

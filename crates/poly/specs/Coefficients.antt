@@ -6,6 +6,7 @@ use lib.Dec.{ltb, leb}
 use lib.ListN.{length, getD}
 use lib.Ieee.{Float, nan, eq}
 use Rattle.facts.specs.Arrays.{fromFn}
+use Rattle.refusals.specs.Refusals.{notFinite, tooFew, tooMany}
 use Rattle.float.specs.Literals.{zero64}
 use Rattle.float.specs.Methods.{allFiniteOf}
 use Rattle.scaled.specs.declared.Scaled.{Scaled}
@@ -25,10 +26,10 @@ unfoldable pub zerosOf : List Float → ℕ
 zerosOf [] = 0
 zerosOf (c ∷ l) = cond (eq c zero64) (suc (zerosOf l)) 0
 
--- The number of the refusal, and 0 where there is none: 1, a coefficient is not finite; 2, at most one is left; 3, more than five are. In that order:
+-- The number of the refusal, and 0 where there is none: a coefficient is not finite; at most one is left; more than five are. In that order:
 -- `if n <= 1 || n > 5 { return None; }` comes after the test of the coefficients.
 unfoldable pub refusalBy : Bool → ℕ → ℕ
-refusalBy finite n = cond finite (cond (leb n 1) 2 (cond (leb n 5) 0 3)) 1
+refusalBy finite n = cond finite (cond (leb n 1) tooFew (cond (leb n 5) 0 tooMany)) notFinite
 
 -- `if coeffs.iter().any(|c| !c.is_finite()) { return None; }`, and by how many are left
 abbrev pub refusalOf : List Float → ℕ

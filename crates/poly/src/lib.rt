@@ -67,14 +67,14 @@ fn refusal(finite: bool, n: usize) -> u32
 {
     if finite {
         if n <= 1 {
-            return 2;
+            return refusals::TOO_FEW;
         }
         if n <= 5 {
             return 0;
         }
-        return 3;
+        return refusals::TOO_MANY;
     }
-    1
+    refusals::NOT_FINITE
 }
 
 fn middle_at(coeffs: &[f64], from: usize, to: usize, i: usize) -> f64

@@ -5,6 +5,7 @@ use Prim.Native.Nat.{ℕ, _+_, _*_, _%_}
 use lib.ListN.{getD, replicate}
 use lib.Ieee.{Float, nan, neg}
 use Rattle.facts.specs.Count.{countUp}
+use Rattle.refusals.specs.Refusals.{notFinite, answerNotFinite}
 use Rattle.float.specs.Rounded.{_+ᶠ_, _-ᶠ_, _*ᶠ_}
 use Rattle.float.specs.Literals.{zero64, rootHalf64, one64, two64, four64, six64}
 use Rattle.float.specs.Methods.{absOf, totalLeOf, allFiniteOf}
@@ -81,4 +82,4 @@ unfoldable pub crankFrontOf : Float → Float → Float → Float → Float → 
 crankFrontOf a2 b2 c1 d1 e =
     let k = sampleOf a2 b2 c1 d1 e in
     let q = quarticOf a2 b2 c1 d1 e k in
-    cond (allFiniteOf (a2 ∷ b2 ∷ c1 ∷ d1 ∷ e ∷ [])) (cond (allFiniteOf q) (record { number = 0; k = k; q = q }) (noCrank 5)) (noCrank 1)
+    cond (allFiniteOf (a2 ∷ b2 ∷ c1 ∷ d1 ∷ e ∷ [])) (cond (allFiniteOf q) (record { number = 0; k = k; q = q }) (noCrank answerNotFinite)) (noCrank notFinite)

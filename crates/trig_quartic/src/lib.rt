@@ -1,5 +1,5 @@
 // solve_trig of equation.rs on all bits, up to its quartic: the crank equation's k, and the quartic in u.
-// It rests on `float`; the crank's inquiry and the C functions rest on it.
+// It rests on `refusals` and `float`; the crank's inquiry and the C functions rest on it.
 ghost use mathlib.Core.Path.{_≡_};
 ghost use Prim.Native.Nat.{_<_};
 ghost use Rattle.trig_quartic.specs.Crank.{eighthOf, fAtOf, sampleOf, quarticOf, noCrank, crankFrontOf};
@@ -108,7 +108,7 @@ pub fn crank_front(a2: f64, b2: f64, c1: f64, d1: f64, e: f64) -> Crank
         if float::all_finite(&q) {
             return Crank { number: 0, k, q };
         }
-        return no_crank(5);
+        return no_crank(refusals::ANSWER_NOT_FINITE);
     }
-    no_crank(1)
+    no_crank(refusals::NOT_FINITE)
 }

@@ -39,12 +39,22 @@ pub const ALL: &[Variant] = &[
     (
         "a cut mark is unknown",
         "6 in place of 7",
-        &[(F, "return (None, Err(7));", "return (None, Err(6));", 1)],
+        &[(
+            F,
+            "return (None, Err(refusals::CUT));",
+            "return (None, Err(refusals::UNKNOWN_MARK));",
+            1,
+        )],
     ),
     (
         "an unknown mark is cut",
         "7 in place of 6",
-        &[(F, "None => (None, Err(6)),", "None => (None, Err(7)),", 1)],
+        &[(
+            F,
+            "None => (None, Err(refusals::UNKNOWN_MARK)),",
+            "None => (None, Err(refusals::CUT)),",
+            1,
+        )],
     ),
     (
         "marks in lower case",
@@ -82,19 +92,23 @@ pub const ALL: &[Variant] = &[
         &[(
             F,
             "if usize::from(count) > MOST_COEFFICIENTS {",
-            "if rest.len() < 8 * (1 + usize::from(count)) {\n                return Err(7);\n            }\n            \
+            "if rest.len() < 8 * (1 + usize::from(count)) {\n                return Err(refusals::CUT);\n            }\n            \
              if usize::from(count) > MOST_COEFFICIENTS {",
             1,
         )],
     ),
-    ("too many is cut", "7 in place of 8", &[(F, "return Err(8);", "return Err(7);", 1)]),
+    (
+        "too many is cut",
+        "7 in place of 8",
+        &[(F, "return Err(refusals::COUNT_TOO_LARGE);", "return Err(refusals::CUT);", 1)],
+    ),
     (
         "the tolerance behind the coefficients",
         "the last number of a list",
         &[(
             F,
             "            let (tolerance, rest) = double(rest)?;\n            Ok(Record::List { tolerance, coeffs: doubles(rest, count.into())? })",
-            "            let mut coeffs = doubles(rest, usize::from(count) + 1)?;\n            let tolerance = coeffs.pop().ok_or(7)?;\n            \
+            "            let mut coeffs = doubles(rest, usize::from(count) + 1)?;\n            let tolerance = coeffs.pop().ok_or(refusals::CUT)?;\n            \
              Ok(Record::List { tolerance, coeffs })",
             1,
         )],
@@ -159,7 +173,7 @@ pub const ALL: &[Variant] = &[
         "fewer bytes than the record needs are filled up",
         &[(
             F,
-            "let (front, rest) = bytes.split_first_chunk().ok_or(7)?;",
+            "let (front, rest) = bytes.split_first_chunk().ok_or(refusals::CUT)?;",
             "let (front, rest) = bytes.split_first_chunk().unwrap_or((&[0; 8], &[]));",
             1,
         )],
@@ -169,8 +183,8 @@ pub const ALL: &[Variant] = &[
         "trimmed length 1 is not refused",
         &[(
             N,
-            "        0 | 1 => 2,\n        2..=5 => 0,",
-            "        0 => 2,\n        1..=5 => 0,",
+            "        0 | 1 => refusals::TOO_FEW,\n        2..=5 => 0,",
+            "        0 => refusals::TOO_FEW,\n        1..=5 => 0,",
             1,
         )],
     ),
@@ -179,23 +193,28 @@ pub const ALL: &[Variant] = &[
         "trimmed length 2 is refused with 2",
         &[(
             N,
-            "        0 | 1 => 2,\n        2..=5 => 0,",
-            "        0..=2 => 2,\n        3..=5 => 0,",
+            "        0 | 1 => refusals::TOO_FEW,\n        2..=5 => 0,",
+            "        0..=2 => refusals::TOO_FEW,\n        3..=5 => 0,",
             1,
         )],
     ),
     (
         "quintics are answered",
         "trimmed length 6 is not refused",
-        &[(N, "        2..=5 => 0,\n        _ => 3,", "        2..=6 => 0,\n        _ => 3,", 1)],
+        &[(
+            N,
+            "        2..=5 => 0,\n        _ => refusals::TOO_MANY,",
+            "        2..=6 => 0,\n        _ => refusals::TOO_MANY,",
+            1,
+        )],
     ),
     (
         "a zero list before what is not finite",
         "2 is asked before 1",
         &[(
             N,
-            "        _ if !finite(coeffs) => 1,\n        0 | 1 => 2,",
-            "        0 | 1 => 2,\n        _ if !finite(coeffs) => 1,",
+            "        _ if !finite(coeffs) => refusals::NOT_FINITE,\n        0 | 1 => refusals::TOO_FEW,",
+            "        0 | 1 => refusals::TOO_FEW,\n        _ if !finite(coeffs) => refusals::NOT_FINITE,",
             1,
         )],
     ),
@@ -204,8 +223,8 @@ pub const ALL: &[Variant] = &[
         "3 is asked before 1",
         &[(
             N,
-            "        _ if !finite(coeffs) => 1,\n        0 | 1 => 2,\n        2..=5 => 0,\n        _ => 3,",
-            "        6.. => 3,\n        _ if !finite(coeffs) => 1,\n        0 | 1 => 2,\n        _ => 0,",
+            "        _ if !finite(coeffs) => refusals::NOT_FINITE,\n        0 | 1 => refusals::TOO_FEW,\n        2..=5 => 0,\n        _ => refusals::TOO_MANY,",
+            "        6.. => refusals::TOO_MANY,\n        _ if !finite(coeffs) => refusals::NOT_FINITE,\n        0 | 1 => refusals::TOO_FEW,\n        _ => 0,",
             1,
         )],
     ),
@@ -219,7 +238,7 @@ pub const ALL: &[Variant] = &[
         "1 is not asked",
         &[(
             N,
-            "            if !finite(abc) {\n                return Answer::Refused(1);\n            }\n",
+            "            if !finite(abc) {\n                return Answer::Refused(refusals::NOT_FINITE);\n            }\n",
             "",
             1,
         )],
@@ -247,14 +266,19 @@ pub const ALL: &[Variant] = &[
     (
         "a quadratic's 5 is 1",
         "1 in place of 5",
-        &[(N, "false => Answer::Refused(5),", "false => Answer::Refused(1),", 1)],
+        &[(
+            N,
+            "false => Answer::Refused(refusals::ANSWER_NOT_FINITE),",
+            "false => Answer::Refused(refusals::NOT_FINITE),",
+            1,
+        )],
     ),
     (
         "a crank that is not finite is solved",
         "1 is not asked",
         &[(
             N,
-            "            if !finite(terms) {\n                return Answer::Refused(1);\n            }\n",
+            "            if !finite(terms) {\n                return Answer::Refused(refusals::NOT_FINITE);\n            }\n",
             "",
             1,
         )],
@@ -264,23 +288,23 @@ pub const ALL: &[Variant] = &[
         "1 in place of 5",
         &[(
             N,
-            "_ if !finite(&quartic) => Answer::Refused(5),",
-            "_ if !finite(&quartic) => Answer::Refused(1),",
+            "_ if !finite(&quartic) => Answer::Refused(refusals::ANSWER_NOT_FINITE),",
+            "_ if !finite(&quartic) => Answer::Refused(refusals::NOT_FINITE),",
             1,
         )],
     ),
     (
         "a constant crank is answered",
         "2 is not asked",
-        &[(N, "                0 | 1 => Answer::Refused(2),\n", "", 1)],
+        &[(N, "                0 | 1 => Answer::Refused(refusals::TOO_FEW),\n", "", 1)],
     ),
     (
         "a crank's 2 before 5",
         "the length is asked first",
         &[(
             N,
-            "                _ if !finite(&quartic) => Answer::Refused(5),\n                0 | 1 => Answer::Refused(2),",
-            "                0 | 1 => Answer::Refused(2),\n                _ if !finite(&quartic) => Answer::Refused(5),",
+            "                _ if !finite(&quartic) => Answer::Refused(refusals::ANSWER_NOT_FINITE),\n                0 | 1 => Answer::Refused(refusals::TOO_FEW),",
+            "                0 | 1 => Answer::Refused(refusals::TOO_FEW),\n                _ if !finite(&quartic) => Answer::Refused(refusals::ANSWER_NOT_FINITE),",
             1,
         )],
     ),
@@ -380,7 +404,7 @@ pub const ALL: &[Variant] = &[
         &[(
             N,
             "let mark = self.kind.map_or(\"--\", Kind::mark);",
-            "let mark = self.kind.filter(|_| !matches!(self.answer, Answer::Refused(7))).map_or(\"--\", Kind::mark);",
+            "let mark = self.kind.filter(|_| !matches!(self.answer, Answer::Refused(refusals::CUT))).map_or(\"--\", Kind::mark);",
             1,
         )],
     ),

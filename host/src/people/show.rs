@@ -4,6 +4,7 @@ use crate::people::doubt::doubt;
 use crate::people::text::shortest;
 use crate::truth::hall_file::{Item, Kind, Record, items};
 use crate::truth::lister::{Answer, Line, Solution, lines};
+use crate::truth::refusals::in_words;
 
 /// How a lister is called: the bytes of a file, and a buffer for the listing; its whole length comes
 /// back, and what the buffer cannot hold is left out.
@@ -71,7 +72,7 @@ fn rows_of(bytes: &[u8], item: &Item, line: &Line) -> Vec<Row> {
     let kind = line.kind.map_or("--", Kind::word);
     let mut front = [line.number.to_string(), kind.to_string(), heading(&line.answer)];
     if let Answer::Refused(number) = line.answer {
-        let note = format!("refused {number}: {}", refusal(bytes, item, number));
+        let note = format!("refused {number}: {}", in_words(bytes, item, number));
         return vec![Row { cells: cells(front, Default::default()), note }];
     }
     let equation = item.record.as_ref().map(|record| equation(record, &line.answer));
@@ -142,91 +143,9 @@ pub fn quartic([a2, b2, c1, d1, e]: [f64; 5], k: usize) -> [f64; 5] {
     [a2 + c1 + e, 4.0 * b2 + 2.0 * d1, -6.0 * a2 + 2.0 * e, -4.0 * b2 + 2.0 * d1, a2 - c1 + e]
 }
 
-/// A refusal in words; of a 6, 7 or 8 with the byte at which its record starts.
-pub fn refusal(bytes: &[u8], item: &Item, number: u8) -> String {
-    let at = item.at;
-    let rest = bytes.get(at..).unwrap_or_default();
-    match (number, item.kind) {
-        (1, _) => "a number is not finite".to_string(),
-        (2, Some(Kind::Crank)) => "no equation: the quartic in u is a constant at most".to_string(),
-        (2, _) => {
-            "no equation: once trailing zeros are dropped, a constant at most is left".to_string()
-        }
-        (3, _) => "the degree is above 4".to_string(),
-        (5, Some(Kind::Crank)) => "a coefficient of the quartic in u is not finite".to_string(),
-        (5, _) => "a place of the answer is not finite".to_string(),
-        (6, _) => {
-            let mark = rest[..2.min(rest.len())].escape_ascii();
-            format!("byte {at}: unknown mark `{mark}`{}", text_hint(bytes))
-        }
-        (7, None) => format!("byte {at}: the file ends inside a mark"),
-        (7, Some(kind)) => format!(
-            "byte {at}: the file ends inside this {}, {} bytes of it are there{}",
-            kind.word(),
-            rest.len(),
-            needed(kind, rest).map(|n| format!(" of {n}")).unwrap_or_default()
-        ),
-        (8, _) => {
-            let count = rest.get(2).copied().unwrap_or_default();
-            format!("byte {at}: a list with count {count}, and at most 32 is allowed")
-        }
-        (9, _) => format!("the file has {} bytes, more than 65,536", bytes.len()),
-        (n, _) => format!("no refusal has the number {n}"),
-    }
-}
-
-/// A hint where a file begins like lines of text.
-fn text_hint(bytes: &[u8]) -> &'static str {
-    let of_text = |word: &str| bytes.starts_with(format!("{word} ").as_bytes());
-    match bytes.starts_with(b"#") || Kind::ALL.iter().any(|kind| of_text(kind.word())) {
-        true => "; for lines of text, `hall make` makes a hall file",
-        false => "",
-    }
-}
-
-/// How many bytes a record that starts like this has; none where its count is not there.
-fn needed(kind: Kind, rest: &[u8]) -> Option<usize> {
-    match kind {
-        Kind::List => rest.get(2).map(|count| 11 + 8 * usize::from(*count)),
-        Kind::Quadratic => Some(42),
-        Kind::Crank => Some(50),
-    }
-}
-
 #[cfg(test)]
 mod tests {
     use super::*;
-
-    fn said(bytes: &[u8]) -> Vec<String> {
-        let told = |item: &Item| Some(refusal(bytes, item, item.record.as_ref().err().copied()?));
-        items(bytes).iter().filter_map(told).collect()
-    }
-
-    #[test]
-    fn refusals_name_their_byte() {
-        let empty = b"PL\0\0\0\0\0\0\0\0\0";
-        let with = |tail: &[u8]| said(&[&empty[..], tail].concat());
-        assert_eq!(with(b"XX"), ["byte 11: unknown mark `XX`"]);
-        assert_eq!(with(b"\xFF\nab"), ["byte 11: unknown mark `\\xff\\n`"]);
-        let hint = "; for lines of text, `hall make` makes a hall file";
-        assert_eq!(said(b"list 1 2"), [format!("byte 0: unknown mark `li`{hint}")]);
-        assert_eq!(said(b"listen"), ["byte 0: unknown mark `li`"]);
-        assert_eq!(with(b"P"), ["byte 11: the file ends inside a mark"]);
-        assert_eq!(
-            with(b"PL"),
-            ["byte 11: the file ends inside this list, 2 bytes of it are there"]
-        );
-        assert_eq!(
-            with(b"PL\x02abc"),
-            ["byte 11: the file ends inside this list, 6 bytes of it are there of 27"]
-        );
-        assert_eq!(
-            with(b"QDabc"),
-            ["byte 11: the file ends inside this quad, 5 bytes of it are there of 42"]
-        );
-        assert_eq!(with(b"PL\x21"), ["byte 11: a list with count 33, and at most 32 is allowed"]);
-        assert_eq!(said(&[0; 65_537]), ["the file has 65537 bytes, more than 65,536"]);
-    }
 
     #[test]
     fn angles() {

@@ -11,6 +11,7 @@ use crate::runs::inquiries::{Inquiry, MORE, Touches, add, cases};
 use crate::runs::parts;
 use crate::truth::lister::{finite, trimmed};
 use crate::truth::reference::{patched, untouched};
+use crate::truth::refusals;
 
 const OF_POLYNOMIALS: usize = polynomials::KINDS.len();
 
@@ -39,13 +40,13 @@ impl Crank {
         roots: impl Iterator<Item = Root>,
     ) -> (u64, Answer) {
         let refusal = match trimmed(quartic) {
-            _ if !finite(&self.0) => 1,
-            _ if !finite(quartic) => 5,
-            0 | 1 => 2,
+            _ if !finite(&self.0) => refusals::NOT_FINITE,
+            _ if !finite(quartic) => refusals::ANSWER_NOT_FINITE,
+            0 | 1 => refusals::TOO_FEW,
             _ => 0,
         };
         let roots: Vec<Root> = roots.collect();
-        (k as u64, Answer::new(refusal, &roots))
+        (k as u64, Answer::new(refusal.into(), &roots))
     }
 }
 

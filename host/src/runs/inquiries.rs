@@ -11,6 +11,7 @@ use crate::runs::lists::{shown, tolerance_for};
 use crate::runs::parts;
 use crate::truth::lister::refusal;
 use crate::truth::reference::{patched, untouched};
+use crate::truth::refusals;
 use std::cell::RefCell;
 
 pub type Touches<'a> = &'a dyn Fn(f64) -> bool;
@@ -76,7 +77,7 @@ fn said(given: &Result<Shown, u64>) -> String {
 }
 
 /// What differs where the replies are those of the Rust's run, one question after another; `more`
-/// gives replies after the end too, which are refused with 4 and change nothing.
+/// gives replies after the end too, which are refused and change nothing.
 fn followed(inquiry: &impl Inquiry, ran: &Ran, touches: Touches, more: bool) -> Result<(), String> {
     let mut replies = Vec::with_capacity(ran.places.len() + 1);
     let check = |replies: &[u8], number, asked| {
@@ -101,7 +102,7 @@ fn followed(inquiry: &impl Inquiry, ran: &Ran, touches: Touches, more: bool) -> 
     if more {
         for reply in [0, 1] {
             replies.push(reply);
-            check(&replies, 4, ran.places.len())?;
+            check(&replies, refusals::NOTHING_ASKED.into(), ran.places.len())?;
         }
     }
     Ok(())

@@ -9,6 +9,7 @@ use crate::inputs::random::Random;
 use crate::port::quadratics::{self as port, Solution};
 use crate::runs::parts;
 use crate::runs::trees::{REFERENCE, Tree, UNTOUCHED};
+use crate::truth::refusals;
 
 /// How many places each answer has, by its number.
 const PLACES: [usize; 5] = [2, 1, 1, 0, 0];
@@ -21,12 +22,12 @@ const CASES: [&str; 8] =
 /// The refusal by document 01, and the answer of a copy of the Rust, empty where refused.
 pub fn refusing(tree: &Tree, abc: [f64; 3], tol: [f64; 2]) -> (u32, Solution) {
     if abc.iter().any(|x| !x.is_finite()) {
-        return (1, EMPTY);
+        return (refusals::NOT_FINITE.into(), EMPTY);
     }
     let (n, places) = (tree.quadratic)(abc, tol);
     match places[..PLACES[n as usize]].iter().all(|x| x.is_finite()) {
         true => (0, (n, places)),
-        false => (5, EMPTY),
+        false => (refusals::ANSWER_NOT_FINITE.into(), EMPTY),
     }
 }
 

@@ -1,6 +1,8 @@
 //! The hall file of document 01: records to bytes, and bytes to records or to the number under which
 //! reading ends.
 
+use crate::truth::refusals;
+
 /// A longer file is refused whole.
 pub const MOST_BYTES: usize = 65_536;
 
@@ -109,7 +111,7 @@ pub struct Item {
 /// What a file holds, in order, by document 01's 'What each operation refuses'.
 pub fn items(bytes: &[u8]) -> Vec<Item> {
     if bytes.len() > MOST_BYTES {
-        return vec![Item { number: 0, at: 0, kind: None, record: Err(9) }];
+        return vec![Item { number: 0, at: 0, kind: None, record: Err(refusals::FILE_TOO_LONG) }];
     }
     let (mut all, mut at) = (Vec::new(), 0);
     while at < bytes.len() {
@@ -124,10 +126,10 @@ pub fn items(bytes: &[u8]) -> Vec<Item> {
 /// What stands at the front of some bytes.
 fn front(bytes: &[u8]) -> (Option<Kind>, Result<Record, u8>) {
     let Some((mark, rest)) = bytes.split_at_checked(2) else {
-        return (None, Err(7));
+        return (None, Err(refusals::CUT));
     };
     match Kind::of_mark(mark) {
-        None => (None, Err(6)),
+        None => (None, Err(refusals::UNKNOWN_MARK)),
         Some(kind) => (Some(kind), behind_mark(kind, rest)),
     }
 }
@@ -135,9 +137,9 @@ fn front(bytes: &[u8]) -> (Option<Kind>, Result<Record, u8>) {
 fn behind_mark(kind: Kind, bytes: &[u8]) -> Result<Record, u8> {
     match kind {
         Kind::List => {
-            let (&count, rest) = bytes.split_first().ok_or(7)?;
+            let (&count, rest) = bytes.split_first().ok_or(refusals::CUT)?;
             if usize::from(count) > MOST_COEFFICIENTS {
-                return Err(8);
+                return Err(refusals::COUNT_TOO_LARGE);
             }
             let (tolerance, rest) = double(rest)?;
             Ok(Record::List { tolerance, coeffs: doubles(rest, count.into())? })
@@ -155,7 +157,7 @@ fn behind_mark(kind: Kind, bytes: &[u8]) -> Result<Record, u8> {
 
 /// The double at the front, lowest byte first, and the bytes behind it.
 fn double(bytes: &[u8]) -> Result<(f64, &[u8]), u8> {
-    let (front, rest) = bytes.split_first_chunk().ok_or(7)?;
+    let (front, rest) = bytes.split_first_chunk().ok_or(refusals::CUT)?;
     Ok((f64::from_le_bytes(*front), rest))
 }
 

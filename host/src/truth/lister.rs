@@ -2,6 +2,7 @@
 //! over any solver. Nothing here calls the port.
 use crate::compare::bits;
 use crate::truth::hall_file::{Item, Kind, Record, items};
+use crate::truth::refusals;
 use std::fmt;
 
 /// A place and its multiplicity.
@@ -132,22 +133,22 @@ pub fn answer(record: &Record, solver: &impl Solver) -> Answer {
         },
         Record::Quadratic { confusion, angular, abc } => {
             if !finite(abc) {
-                return Answer::Refused(1);
+                return Answer::Refused(refusals::NOT_FINITE);
             }
             let solution = solver.quadratic(*abc, *confusion, *angular);
             match finite(&solution.places()) {
                 true => Answer::Quadratic(solution),
-                false => Answer::Refused(5),
+                false => Answer::Refused(refusals::ANSWER_NOT_FINITE),
             }
         }
         Record::Crank { confusion, terms } => {
             if !finite(terms) {
-                return Answer::Refused(1);
+                return Answer::Refused(refusals::NOT_FINITE);
             }
             let Turned { k, quartic, roots } = solver.crank(*terms, *confusion);
             match trimmed(&quartic) {
-                _ if !finite(&quartic) => Answer::Refused(5),
-                0 | 1 => Answer::Refused(2),
+                _ if !finite(&quartic) => Answer::Refused(refusals::ANSWER_NOT_FINITE),
+                0 | 1 => Answer::Refused(refusals::TOO_FEW),
                 _ => Answer::Crank(k, roots),
             }
         }
@@ -166,10 +167,10 @@ pub fn trimmed(coeffs: &[f64]) -> usize {
 /// Under which number a list is refused, 0 where it is not.
 pub fn refusal(coeffs: &[f64]) -> u8 {
     match trimmed(coeffs) {
-        _ if !finite(coeffs) => 1,
-        0 | 1 => 2,
+        _ if !finite(coeffs) => refusals::NOT_FINITE,
+        0 | 1 => refusals::TOO_FEW,
         2..=5 => 0,
-        _ => 3,
+        _ => refusals::TOO_MANY,
     }
 }
 

@@ -8,3 +8,4 @@ pub mod lister;
 pub mod methods;
 pub mod plain;
 pub mod reference;
+pub mod refusals;

@@ -1,5 +1,4 @@
--- `hallcases::main` is safe and ends: the measure is the number of arguments that are left, and nothing has to hold from turn to turn.
--- Assumes nothing.
+-- The measure is the number of arguments that are left, and nothing has to hold from turn to turn.
 use native.Mathlib.Omega.{arith}
 use Prim.Native.Nat.{_-_}
 use Rattle.hallcases.proofs.main.Statement.{statement}

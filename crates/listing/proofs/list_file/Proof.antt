@@ -1,12 +1,11 @@
--- `hall::list_file` meets its contract: a file that is too long has one line; else each turn stores the next line of the listing.
--- Assumes nothing.
+-- A file that is too long has one line; else each turn stores the next line of the listing.
 use native.Mathlib.Omega.{arith}
 use mathlib.Core.Path.{ap, _∙_}
-use Prim.Native.Nat.{_-_}
+use Prim.Native.Nat.{_-_, _<_}
 use lib.ListN.{length}
 use Rattle.text.proofs.Laws.{written-as, written-length}
 use Rattle.listing.specs.Lines.{lineOf}
-use Rattle.listing.proofs.Places.{too-long-sound, record-sound}
+use Rattle.records.proofs.Places.{too-long-sound, record-sound}
 use Rattle.listing.proofs.Reading.{Sofar, sofar-none, sofar-short, sofar-next, sofar-all, falls, too-long}
 use borrow.Author.Needs.{needs}
 use Rattle.listing.proofs.list_file.Statement.{statement}
@@ -20,8 +19,10 @@ abbrev μ-loop : tie.MeasureT-loop
 
 put-line-requires : tie.Need-put-line-requires Inv-loop μ-loop
 put-line-requires c κs =
-    let start = c .before .before .before .before .before in
-    (omega arith, (omega arith, too-long-sound (start .args .s .now) 0 (c .before .ended .result) (c .before .ended .ensures)))
+    let none = c .before in
+    let tested = none .before in
+    let start = tested .before .before .before in
+    (omega arith, (omega arith, too-long-sound (start .args .s .now) 0 (none .ended .result) (none .ended .ensures)))
 
 same-length : tie.Need-same-length Inv-loop μ-loop
 same-length c = c .before .before .put-line .kept .0
@@ -37,43 +38,49 @@ returns c =
     (omega (arith, put .place), put .bytes)
 
 loop-holds : tie.Need-loop-holds Inv-loop μ-loop
-loop-holds c = sofar-none (c .before .before .before .args .out .now) (c .before .before .before .args .s .now)
+loop-holds c =
+    let start = c .before .before .before in
+    sofar-none (start .args .out .now) (start .args .s .now)
 
 record-at-requires : tie.Need-record-at-requires Inv-loop μ-loop
 record-at-requires c κs = c .before .loop .inv .within
 
 put-line-requires-2 : tie.Need-put-line-requires-2 Inv-loop μ-loop
 put-line-requires-2 c κs =
-    let tested = c .before .before in
+    let found = c .before in
+    let tested = found .before in
     let at-loop = tested .before in
     let after-if = at-loop .before in
-    let start = after-if .before .before .before in (
-      omega (arith, sofar-short (at-loop .loop .inv) (after-if .if1 .left)),
-      (omega (arith, at-loop .loop .inv .counted, tested .loop-test .taken, after-if .if1 .left), record-sound (start .args .s .now) (at-loop .loop .at) (c .before .record-at .result) (c .before .record-at .ensures)),
-    )
+    let start = after-if .before .before .before in
+    let few : at-loop .loop .n < 100000 = omega (arith, at-loop .loop .inv .counted, tested .loop-test .taken, after-if .if1 .left) in
+    let sound = record-sound (start .args .s .now) (at-loop .loop .at) (found .record-at .result) (found .record-at .ensures) in
+    (omega (arith, sofar-short (at-loop .loop .inv) (after-if .if1 .left)), (few, sound))
 
 add-n : tie.Need-add-n Inv-loop μ-loop
 add-n c =
-    let tested = c .before .before .before .before .before in
+    let found-lent = c .before .before .before in
+    let tested = found-lent .before .before in
     let at-loop = tested .before in
     let after-if = at-loop .before in
     omega (arith, at-loop .loop .inv .counted, tested .loop-test .taken, after-if .if1 .left)
 
 loop-less : tie.Need-loop-less Inv-loop μ-loop
 loop-less c =
-    let after-record-at = c .before .before .before .before in
-    let tested = after-record-at .before in
+    let put = c .before .before in
+    let found = put .before .before in
+    let tested = found .before in
     let at-loop = tested .before in
-    let start = at-loop .before .before .before .before in
-    falls (start .args .s .now) (at-loop .loop .at) (tested .loop-test .taken) (after-record-at .record-at .result) (after-record-at .record-at .ensures)
+    let after-if = at-loop .before in
+    let start = after-if .before .before .before in
+    falls (start .args .s .now) (at-loop .loop .at) (tested .loop-test .taken) (found .record-at .result) (found .record-at .ensures)
 
 loop-again : tie.Need-loop-again Inv-loop μ-loop
 loop-again c =
-    let after-put-line = c .before .before in
-    let after-record-at = after-put-line .before .before in
-    let tested = after-record-at .before in
+    let put = c .before .before in
+    let found = put .before .before in
+    let tested = found .before in
     let at-loop = tested .before in
-    sofar-next (at-loop .loop .inv) (tested .loop-test .taken) (after-record-at .record-at .result) (after-record-at .record-at .ensures) (after-put-line .put-line2 .ensures)
+    sofar-next (at-loop .loop .inv) (tested .loop-test .taken) (found .record-at .result) (found .record-at .ensures) (put .put-line2 .ensures)
 
 same-length-2 : tie.Need-same-length-2 Inv-loop μ-loop
 same-length-2 c = written-length (c .before .loop .inv .written)

@@ -1,4 +1,4 @@
--- `hallio::list_fd` meets its contract: what was read lies in the buffer, none of it where a read failed, and so does every listing (`listing-fits`).
+-- What was read lies in the buffer, none of it where a read failed, and so does every listing (`listing-fits`).
 use Rattle.listing.proofs.Bound.{listing-fits}
 use Rattle.listing.specs.File.{listing}
 use Prim.Native.Nat.{ℕ, _≤_}
@@ -24,7 +24,8 @@ returns : tie.Need-returns
 returns c =
     let listed = c .list-file in
     let room : length (listed .last .1 .0) ≡ 163860 = search needs in
-    let read = c .before .before .before .before .before .read-file .ensures in
+    let lent = c .before .before in
+    let read = lent .before .before .before .read-file .ensures in
     let count = counts (listed .result) _ (listed .last .1 .0) (listed .ensures .0) room in
     (read .0, (read .1, (listed .ensures .0, (listed .ensures .1, count))))
 

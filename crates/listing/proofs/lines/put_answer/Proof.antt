@@ -1,9 +1,8 @@
--- `hall::lines::put_answer` meets its contract: each kind has its case of `answerText`, and what the solver answers can be printed.
--- Assumes nothing.
+-- Each kind has its case of `answerText`, and what the solver answers can be printed.
 use mathlib.Core.Path.{subst}
 use Rattle.text.proofs.Laws.{written-none, written-as}
-use Rattle.listing.specs.declared.records.Kind.{Kind}
-use Rattle.listing.specs.Records.{Whole}
+use Rattle.records.specs.declared.Kind.{Kind}
+use Rattle.records.specs.Records.{Whole}
 use Rattle.listing.proofs.Asked.{polynomial-prints, quadratic-prints, crank-prints, polynomial-text, quadratic-text, crank-text, unknown-text}
 use borrow.Author.Needs.{needs}
 use Rattle.listing.proofs.lines.put_answer.Statement.{statement}
@@ -11,61 +10,80 @@ use Rattle.listing.proofs.lines.put_answer.Tie as tie
 
 polynomial-at-requires : tie.Need-polynomial-at-requires
 polynomial-at-requires c κs =
-    let start = c .before .before .before .before .before in
-    subst (λ (k : Kind). Whole k (start .args .s .now) (start .args .at)) (c .before .enum-told .given .1) (start .pre .1)
+    let told = c .before in
+    let lent = told .before .before .before in
+    let start = lent .before in
+    subst (λ (k : Kind). Whole k (start .args .s .now) (start .args .at)) (told .enum-told .given .1) (start .pre .1)
 
 put-polynomial-requires : tie.Need-put-polynomial-requires
 put-polynomial-requires c κs =
-    let start = c .before .before .before .before .before .before in
+    let told = c .before .before in
+    let lent = told .before .before .before in
+    let start = lent .before in
     (start .pre .0, polynomial-prints (start .args .s .now) (start .args .at) (c .polynomial-at .result) (c .polynomial-at .ensures))
 
 quadratic-at-requires : tie.Need-quadratic-at-requires
 quadratic-at-requires c κs =
-    let start = c .before .before .before .before .before in
-    subst (λ (k : Kind). Whole k (start .args .s .now) (start .args .at)) (c .before .enum-told2 .given .1) (start .pre .1)
+    let told = c .before in
+    let lent = told .before .before .before in
+    let start = lent .before in
+    subst (λ (k : Kind). Whole k (start .args .s .now) (start .args .at)) (told .enum-told2 .given .1) (start .pre .1)
 
 put-quadratic-requires : tie.Need-put-quadratic-requires
 put-quadratic-requires c κs =
-    let start = c .before .before .before .before .before .before in
+    let told = c .before .before in
+    let lent = told .before .before .before in
+    let start = lent .before in
     (start .pre .0, quadratic-prints (start .args .s .now) (start .args .at) (c .quadratic-at .result) (c .quadratic-at .ensures))
 
 crank-at-requires : tie.Need-crank-at-requires
 crank-at-requires c κs =
-    let start = c .before .before .before .before .before in
-    subst (λ (k : Kind). Whole k (start .args .s .now) (start .args .at)) (c .before .enum-told3 .given .1) (start .pre .1)
+    let told = c .before in
+    let lent = told .before .before .before in
+    let start = lent .before in
+    subst (λ (k : Kind). Whole k (start .args .s .now) (start .args .at)) (told .enum-told3 .given .1) (start .pre .1)
 
 put-crank-requires : tie.Need-put-crank-requires
 put-crank-requires c κs =
-    let start = c .before .before .before .before .before .before in
+    let told = c .before .before in
+    let lent = told .before .before .before in
+    let start = lent .before in
     (start .pre .0, crank-prints (start .args .s .now) (start .args .at) (c .crank-at .result) (c .crank-at .ensures))
 
 returns : tie.Need-returns
 returns c =
-    let after-put-polynomial = c .before .before in
-    let after-polynomial-at = after-put-polynomial .before in
-    let after-enum-told = after-polynomial-at .before .before in
-    let start = after-enum-told .before .before .before .before in
-    written-as (polynomial-text (start .args .s .now) (start .args .at) _ _ (after-enum-told .enum-told .given .1) (after-polynomial-at .polynomial-at .ensures)) (after-put-polynomial .put-polynomial .ensures)
+    let put = c .before .before in
+    let answer = put .before in
+    let told = answer .before .before in
+    let lent = told .before .before .before in
+    let start = lent .before in
+    written-as (polynomial-text (start .args .s .now) (start .args .at) _ _ (told .enum-told .given .1) (answer .polynomial-at .ensures))
+    (put .put-polynomial .ensures)
 
 returns-2 : tie.Need-returns-2
 returns-2 c =
-    let after-put-quadratic = c .before .before in
-    let after-quadratic-at = after-put-quadratic .before in
-    let after-enum-told = after-quadratic-at .before .before in
-    let start = after-enum-told .before .before .before .before in
-    written-as (quadratic-text (start .args .s .now) (start .args .at) _ _ (after-enum-told .enum-told2 .given .1) (after-quadratic-at .quadratic-at .ensures)) (after-put-quadratic .put-quadratic .ensures)
+    let put = c .before .before in
+    let answer = put .before in
+    let told = answer .before .before in
+    let lent = told .before .before .before in
+    let start = lent .before in
+    written-as (quadratic-text (start .args .s .now) (start .args .at) _ _ (told .enum-told2 .given .1) (answer .quadratic-at .ensures))
+    (put .put-quadratic .ensures)
 
 returns-3 : tie.Need-returns-3
 returns-3 c =
-    let after-put-crank = c .before .before in
-    let after-crank-at = after-put-crank .before in
-    let after-enum-told = after-crank-at .before .before in
-    let start = after-enum-told .before .before .before .before in
-    written-as (crank-text (start .args .s .now) (start .args .at) _ _ (after-enum-told .enum-told3 .given .1) (after-crank-at .crank-at .ensures)) (after-put-crank .put-crank .ensures)
+    let put = c .before .before in
+    let answer = put .before in
+    let told = answer .before .before in
+    let lent = told .before .before .before in
+    let start = lent .before in
+    written-as (crank-text (start .args .s .now) (start .args .at) _ _ (told .enum-told3 .given .1) (answer .crank-at .ensures))
+    (put .put-crank .ensures)
 
 returns-4 : tie.Need-returns-4
 returns-4 c =
-    let start = c .before .before .before .before in
+    let lent = c .before .before .before in
+    let start = lent .before in
     written-as (unknown-text (start .args .s .now) (start .args .at) _ (c .enum-told4 .given .1)) (written-none (start .args .out .now) (start .args .w))
 
 pub put-answer-spec : {M : Type 1} → statement M

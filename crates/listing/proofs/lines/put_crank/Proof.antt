@@ -1,5 +1,4 @@
--- `hall::lines::put_crank` meets its contract: a refusal, or `ok`, k, and the roots.
--- Assumes nothing.
+-- A refusal, or `ok`, k, and the roots.
 use native.Mathlib.Omega.{arith}
 use Rattle.text.proofs.Laws.{written-then, written-as}
 use Rattle.text.proofs.Digits.{decimal-length}
@@ -11,35 +10,55 @@ use Rattle.listing.proofs.lines.put_crank.Tie as tie
 
 returns : tie.Need-returns
 unfolding crankText
-returns c = written-as (refusal _ _ (c .before .before .before .before .if1 .taken)) (c .before .before .put-refused .ensures)
+returns c =
+    let put = c .before .before in
+    let tested = put .before .before in
+    written-as (refusal _ _ (tested .if1 .taken)) (put .put-refused .ensures)
 
 put-decimal-requires : tie.Need-put-decimal-requires
 put-decimal-requires c κs =
-    let start = c .before .before .before .before .before .before .before .before .before .before in
+    let word-lent = c .before .before in
+    let word = word-lent .before .before in
+    let tested = word .before .before .before in
+    let start = tested .before .before .before in
     omega (arith, decimal-length 1 (start .args .a .k) (omega arith) (omega (arith, start .pre .1 .1 .0)))
 
 put-byte-requires : tie.Need-put-byte-requires
 put-byte-requires c κs =
-    let start = c .before .before .before .before .before .before .before .before .before .before .before .before .before .before in
+    let k = c .before .before .before in
+    let k-lent = k .before .before .before in
+    let word = k-lent .before .before in
+    let tested = word .before .before .before in
+    let start = tested .before .before .before in
     omega (arith, decimal-length 1 (start .args .a .k) (omega arith) (omega (arith, start .pre .1 .1 .0)))
 
 put-roots-requires : tie.Need-put-roots-requires
 put-roots-requires c κs =
-    let start = c .before .before .before .before .before .before .before .before .before .before .before .before .before .before .before .before .before .before .before in
+    let roots-lent = c .before .before in
+    let blank = roots-lent .before .before in
+    let blank-lent = blank .before .before in
+    let k = blank-lent .before .before in
+    let k-lent = k .before .before .before in
+    let word = k-lent .before .before in
+    let tested = word .before .before .before in
+    let start = tested .before .before .before in
     (omega (arith, decimal-length 1 (start .args .a .k) (omega arith) (omega (arith, start .pre .1 .1 .0))), start .pre .1 .1 .1)
 
 returns-2 : tie.Need-returns-2
 unfolding crankText
 returns-2 c =
-    let after-put-roots = c .before .before in
-    let after-put-byte = after-put-roots .before .before .before .before .before in
-    let after-put-decimal = after-put-byte .before .before .before .before in
-    let after-put-bytes = after-put-decimal .before .before .before .before .before in
-    let first-test = after-put-bytes .before .before .before in
-    written-as (answered _ _ (first-test .if1 .left))
-    (written-then (after-put-bytes .put-bytes .ensures)
-    (written-then (after-put-decimal .put-decimal .ensures)
-    (written-then (after-put-byte .put-byte .ensures) (after-put-roots .put-roots .ensures))))
+    let roots = c .before .before in
+    let roots-lent = roots .before .before .before in
+    let blank = roots-lent .before .before in
+    let blank-lent = blank .before .before in
+    let k = blank-lent .before .before in
+    let k-lent = k .before .before .before in
+    let word = k-lent .before .before in
+    let tested = word .before .before .before in
+    written-as (answered _ _ (tested .if1 .left))
+    (written-then (word .put-bytes .ensures)
+    (written-then (k .put-decimal .ensures)
+    (written-then (blank .put-byte .ensures) (roots .put-roots .ensures))))
 
 pub put-crank-spec : {M : Type 1} → statement M
 put-crank-spec =

@@ -1,5 +1,4 @@
--- `hall::lines::put_place` meets its contract: a blank, and the digits of the bits.
--- Assumes nothing.
+-- A blank, and the digits of the bits.
 use mathlib.Core.Path.{ap}
 use Rattle.text.specs.Digits.{hexDigits}
 use Rattle.text.proofs.Laws.{written-then, written-as}
@@ -11,10 +10,11 @@ use Rattle.listing.proofs.lines.put_place.Tie as tie
 returns : tie.Need-returns
 unfolding placeText
 returns c =
-    let after-put-hex = c .before .before in
-    let after-to-bits = after-put-hex .before in
-    let after-put-byte = after-to-bits .before .before .before .before in
-    written-then (after-put-byte .put-byte .ensures) (written-as (ap (hexDigits 16) (after-to-bits .to-bits .ensures)) (after-put-hex .put-hex .ensures))
+    let digits = c .before .before in
+    let bits = digits .before in
+    let blank-lent = bits .before .before in
+    let blank = blank-lent .before .before in
+    written-then (blank .put-byte .ensures) (written-as (ap (hexDigits 16) (bits .to-bits .ensures)) (digits .put-hex .ensures))
 
 pub put-place-spec : {M : Type 1} → statement M
 put-place-spec =

@@ -1,5 +1,4 @@
--- `hall::lines::put_polynomial` meets its contract: a refusal, or `ok` and the roots.
--- Assumes nothing.
+-- A refusal, or `ok` and the roots.
 use Rattle.text.proofs.Laws.{written-then, written-as}
 use Rattle.listing.specs.Lines.{polynomialText}
 use Rattle.listing.proofs.Texts.{answered, refusal}
@@ -9,15 +8,19 @@ use Rattle.listing.proofs.lines.put_polynomial.Tie as tie
 
 returns : tie.Need-returns
 unfolding polynomialText
-returns c = written-as (refusal _ _ (c .before .before .before .before .if1 .taken)) (c .before .before .put-refused .ensures)
+returns c =
+    let put = c .before .before in
+    let tested = put .before .before in
+    written-as (refusal _ _ (tested .if1 .taken)) (put .put-refused .ensures)
 
 returns-2 : tie.Need-returns-2
 unfolding polynomialText
 returns-2 c =
-    let after-put-roots = c .before .before in
-    let after-put-bytes = after-put-roots .before .before .before .before .before in
-    let first-test = after-put-bytes .before .before .before in
-    written-as (answered _ _ (first-test .if1 .left)) (written-then (after-put-bytes .put-bytes .ensures) (after-put-roots .put-roots .ensures))
+    let roots = c .before .before in
+    let roots-lent = roots .before .before .before in
+    let word = roots-lent .before .before in
+    let tested = word .before .before .before in
+    written-as (answered _ _ (tested .if1 .left)) (written-then (word .put-bytes .ensures) (roots .put-roots .ensures))
 
 pub put-polynomial-spec : {M : Type 1} → statement M
 put-polynomial-spec =

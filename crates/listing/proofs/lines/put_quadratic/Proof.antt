@@ -1,5 +1,4 @@
--- `hall::lines::put_quadratic` meets its contract: a refusal, or the solution.
--- Assumes nothing.
+-- A refusal, or the solution.
 use Rattle.text.proofs.Laws.{written-as}
 use Rattle.listing.specs.Lines.{quadraticText}
 use Rattle.listing.proofs.Texts.{answered, refusal}
@@ -9,11 +8,17 @@ use Rattle.listing.proofs.lines.put_quadratic.Tie as tie
 
 returns : tie.Need-returns
 unfolding quadraticText
-returns c = written-as (refusal _ _ (c .before .before .before .before .if1 .taken)) (c .before .before .put-refused .ensures)
+returns c =
+    let put = c .before .before in
+    let tested = put .before .before in
+    written-as (refusal _ _ (tested .if1 .taken)) (put .put-refused .ensures)
 
 returns-2 : tie.Need-returns-2
 unfolding quadraticText
-returns-2 c = written-as (answered _ _ (c .before .before .before .before .if1 .left)) (c .before .before .put-solution .ensures)
+returns-2 c =
+    let put = c .before .before in
+    let tested = put .before .before in
+    written-as (answered _ _ (tested .if1 .left)) (put .put-solution .ensures)
 
 pub put-quadratic-spec : {M : Type 1} → statement M
 put-quadratic-spec =

@@ -1,5 +1,4 @@
--- `hall::lines::put_root` meets its contract: the place, and behind a blank the multiplicity, which has two digits at most.
--- Assumes nothing.
+-- The place, and behind a blank the multiplicity, which has two digits at most.
 use native.Mathlib.Omega.{arith}
 use Rattle.text.proofs.Laws.{written-then}
 use Rattle.text.proofs.Digits.{decimal-length}
@@ -10,20 +9,29 @@ use Rattle.listing.proofs.lines.put_root.Statement.{statement}
 use Rattle.listing.proofs.lines.put_root.Tie as tie
 
 put-byte-requires : tie.Need-put-byte-requires
-put-byte-requires c κs = omega (arith, place-length (c .before .before .before .before .before .before .args .root .value))
+put-byte-requires c κs =
+    let place = c .before .before .before in
+    let start = place .before .before .before in
+    omega (arith, place-length (start .args .root .value))
 
 put-decimal-requires : tie.Need-put-decimal-requires
 put-decimal-requires c κs =
-    let start = c .before .before .before .before .before .before .before .before .before .before .before in
+    let count-lent = c .before .before in
+    let blank = count-lent .before .before in
+    let blank-lent = blank .before .before in
+    let place = blank-lent .before .before in
+    let start = place .before .before .before in
     omega (arith, place-length (start .args .root .value), decimal-length 2 (start .args .root .multiplicity) (omega arith) (start .pre .1))
 
 returns : tie.Need-returns
 unfolding rootText
 returns c =
-    let after-put-decimal = c .before .before in
-    let after-put-byte = after-put-decimal .before .before .before .before .before in
-    let after-put-place = after-put-byte .before .before .before .before in
-    written-then (after-put-place .put-place .ensures) (written-then (after-put-byte .put-byte .ensures) (after-put-decimal .put-decimal .ensures))
+    let count = c .before .before in
+    let count-lent = count .before .before .before in
+    let blank = count-lent .before .before in
+    let blank-lent = blank .before .before in
+    let place = blank-lent .before .before in
+    written-then (place .put-place .ensures) (written-then (blank .put-byte .ensures) (count .put-decimal .ensures))
 
 pub put-root-spec : {M : Type 1} → statement M
 put-root-spec =

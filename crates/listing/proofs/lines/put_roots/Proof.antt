@@ -1,5 +1,4 @@
--- `hall::lines::put_roots` meets its contract: behind the count, after i turns, stand the first i roots.
--- Assumes nothing.
+-- Behind the count, after i turns, stand the first i roots.
 use native.Mathlib.Omega.{arith}
 use mathlib.Core.Path.{_≡_, ap, _∙_}
 use mathlib.Core.List.{flatMap}
@@ -20,25 +19,40 @@ abbrev μ-loop : tie.MeasureT-loop
 μ-loop out₀ at len root next₀ i₀ out next i = len - i
 
 put-decimal-requires : tie.Need-put-decimal-requires Inv-loop μ-loop
-put-decimal-requires c κs = omega (arith, count-length (c .before .before .before .args .roots) (c .before .before .before .pre .1))
+put-decimal-requires c κs =
+    let start = c .before .before .before in
+    omega (arith, count-length (start .args .roots) (start .pre .1))
 
 loop-holds : tie.Need-loop-holds Inv-loop μ-loop
 loop-holds c =
-    let after-put-decimal = c .before .before in
-    let start = after-put-decimal .before .before .before .before in
-    (omega arith, omega arith, flat-none rootText (after-put-decimal .put-decimal .last .0) (after-put-decimal .put-decimal .result) (start .args .roots .root))
+    let count = c .before .before in
+    let count-lent = count .before .before .before in
+    let start = count-lent .before in
+    (omega arith, omega arith, flat-none rootText (count .put-decimal .last .0) (count .put-decimal .result) (start .args .roots .root))
 
 mul-put-root : tie.Need-mul-put-root Inv-loop μ-loop
-mul-put-root c = omega (arith, c .before .before .before .before .before .before .before .before .before .pre .1 .fits .1)
+mul-put-root c =
+    let count-lent = c .before .before .before in
+    let count = count-lent .before .before in
+    let rooted = count .before .before in
+    let start = rooted .before .before in
+    omega (arith, start .pre .1 .fits .1)
 
 array-copy-out-put-root : tie.Need-array-copy-out-put-root Inv-loop μ-loop
-array-copy-out-put-root c = omega (arith, c .before .before .before .before .before .before .before .before .before .pre .1 .fits .1)
+array-copy-out-put-root c =
+    let count-lent = c .before .before .before in
+    let count = count-lent .before .before in
+    let rooted = count .before .before in
+    let start = rooted .before .before in
+    omega (arith, start .pre .1 .fits .1)
 
 put-root-requires : tie.Need-put-root-requires Inv-loop μ-loop
 put-root-requires c κs =
     let tested = c .before .before in
     let at-loop = tested .before in
-    let start = at-loop .before .before .before .before .before .before .before in (
+    let count = at-loop .before .before .before in
+    let rooted = count .before .before in
+    let start = rooted .before .before in (
       omega (arith, count-length (start .args .roots) (start .pre .1), start .pre .1 .fits .1),
       each-short (start .args .roots) (at-loop .loop .i) (start .pre .1) (tested .loop-test .taken),
     )
@@ -51,27 +65,36 @@ loop-less c = omega arith
 
 loop-again : tie.Need-loop-again Inv-loop μ-loop
 loop-again c =
-    let after-put-root = c .before .before in
-    let tested = after-put-root .before .before .before in
+    let put = c .before .before in
+    let tested = put .before .before .before in
     let at-loop = tested .before in
-    let start = at-loop .before .before .before .before .before .before .before in
-    let h : at-loop .loop .i < length (start .args .roots .root) = omega (arith, start .pre .1 .fits .0, start .pre .1 .fits .1) in (
+    let count = at-loop .before .before .before in
+    let rooted = count .before .before in
+    let start = rooted .before .before in
+    let root = start .args .roots .root in
+    let i = at-loop .loop .i in
+    let h : i < length root = omega (arith, start .pre .1 .fits .0, start .pre .1 .fits .1) in (
       omega arith,
-      omega (arith, root-length (getD (start .args .roots .root) (at-loop .loop .i) blank) (each-short (start .args .roots) (at-loop .loop .i) (start .pre .1) (tested .loop-test .taken))),
-      written-flat rootText (start .args .roots .root) (at-loop .loop .i) blank h (at-loop .loop .inv .2) (after-put-root .put-root .ensures),
+      omega (arith, root-length (getD root i blank) (each-short (start .args .roots) i (start .pre .1) (tested .loop-test .taken))),
+      written-flat rootText root i blank h (at-loop .loop .inv .2) (put .put-root .ensures),
     )
 
 same-length : tie.Need-same-length Inv-loop μ-loop
-same-length c = written-length (c .before .loop .inv .2) ∙ c .before .before .before .before .put-decimal .kept .0
+same-length c =
+    let at-loop = c .before in
+    let count = at-loop .before .before .before in
+    written-length (at-loop .loop .inv .2) ∙ count .put-decimal .kept .0
 
 returns : tie.Need-returns Inv-loop μ-loop
 unfolding rootsText
 returns c =
-    let after-put-decimal = c .before .before .before .before in
-    let start = after-put-decimal .before .before .before .before in
-    let e : c .before .loop .i ≡ start .args .roots .len = omega arith in
-    written-then (after-put-decimal .put-decimal .ensures)
-    (written-as (ap (λ (k : ℕ). flatMap rootText (take k (start .args .roots .root))) e) (c .before .loop .inv .2))
+    let at-loop = c .before in
+    let count = at-loop .before .before .before in
+    let rooted = count .before .before in
+    let start = rooted .before .before in
+    let e : at-loop .loop .i ≡ start .args .roots .len = omega arith in
+    written-then (count .put-decimal .ensures)
+    (written-as (ap (λ (k : ℕ). flatMap rootText (take k (start .args .roots .root))) e) (at-loop .loop .inv .2))
 
 pub put-roots-spec : {M : Type 1} → statement M
 put-roots-spec =

@@ -1,5 +1,4 @@
--- `hall::lines::put_solution` meets its contract: each case's word, and its places.
--- Assumes nothing.
+-- Each case's word, and its places.
 use native.Mathlib.Omega.{arith}
 use mathlib.Core.Path.{sym, ap}
 use Rattle.text.proofs.Laws.{written-then, written-as}
@@ -11,51 +10,59 @@ use Rattle.listing.proofs.lines.put_solution.Tie as tie
 
 put-place-requires-2 : tie.Need-put-place-requires-2
 put-place-requires-2 c κs =
-    let after-solution = c .before .before .before .before .before .before .before .before .before .before .before in
-    omega (arith, place-length (after-solution .solution .given .0 .0))
+    let first = c .before .before .before in
+    let first-lent = first .before .before in
+    let word = first-lent .before .before in
+    let word-lent = word .before .before in
+    let told = word-lent .before .before in
+    omega (arith, place-length (told .solution .given .0 .0))
 
 returns : tie.Need-returns
 unfolding solutionText
 returns c =
-    let after-put-place2 = c .before .before in
-    let after-put-place = after-put-place2 .before .before .before .before in
-    let after-put-bytes = after-put-place .before .before .before .before in
-    let after-solution = after-put-bytes .before .before .before .before in
-    written-as (sym (ap solutionText (after-solution .solution .given .1)))
-    (written-then (after-put-bytes .put-bytes .ensures)
-    (written-then (after-put-place .put-place .ensures) (after-put-place2 .put-place2 .ensures)))
+    let second = c .before .before in
+    let second-lent = second .before .before in
+    let first = second-lent .before .before in
+    let first-lent = first .before .before in
+    let word = first-lent .before .before in
+    let word-lent = word .before .before in
+    let told = word-lent .before .before in
+    written-as (sym (ap solutionText (told .solution .given .1)))
+    (written-then (word .put-bytes .ensures) (written-then (first .put-place .ensures) (second .put-place2 .ensures)))
 
 returns-2 : tie.Need-returns-2
 unfolding solutionText
 returns-2 c =
-    let after-put-place3 = c .before .before in
-    let after-put-bytes2 = after-put-place3 .before .before .before .before in
-    let after-solution2 = after-put-bytes2 .before .before .before .before in
-    written-as (sym (ap solutionText (after-solution2 .solution2 .given .1)))
-    (written-then (after-put-bytes2 .put-bytes2 .ensures) (after-put-place3 .put-place3 .ensures))
+    let first = c .before .before in
+    let first-lent = first .before .before in
+    let word = first-lent .before .before in
+    let word-lent = word .before .before in
+    let told = word-lent .before .before in
+    written-as (sym (ap solutionText (told .solution2 .given .1))) (written-then (word .put-bytes2 .ensures) (first .put-place3 .ensures))
 
 returns-3 : tie.Need-returns-3
 unfolding solutionText
 returns-3 c =
-    let after-put-place4 = c .before .before in
-    let after-put-bytes3 = after-put-place4 .before .before .before .before in
-    let after-solution3 = after-put-bytes3 .before .before .before .before in
-    written-as (sym (ap solutionText (after-solution3 .solution3 .given .1)))
-    (written-then (after-put-bytes3 .put-bytes3 .ensures) (after-put-place4 .put-place4 .ensures))
+    let first = c .before .before in
+    let first-lent = first .before .before in
+    let word = first-lent .before .before in
+    let word-lent = word .before .before in
+    let told = word-lent .before .before in
+    written-as (sym (ap solutionText (told .solution3 .given .1))) (written-then (word .put-bytes3 .ensures) (first .put-place4 .ensures))
 
 returns-4 : tie.Need-returns-4
 unfolding solutionText
 returns-4 c =
-    let after-put-bytes4 = c .before .before in
-    let after-enum-told = after-put-bytes4 .before .before .before in
-    written-as (sym (ap solutionText (after-enum-told .enum-told .given .1))) (after-put-bytes4 .put-bytes4 .ensures)
+    let word = c .before .before in
+    let told = word .before .before .before in
+    written-as (sym (ap solutionText (told .enum-told .given .1))) (word .put-bytes4 .ensures)
 
 returns-5 : tie.Need-returns-5
 unfolding solutionText
 returns-5 c =
-    let after-put-bytes5 = c .before .before in
-    let after-enum-told2 = after-put-bytes5 .before .before .before in
-    written-as (sym (ap solutionText (after-enum-told2 .enum-told2 .given .1))) (after-put-bytes5 .put-bytes5 .ensures)
+    let word = c .before .before in
+    let told = word .before .before .before in
+    written-as (sym (ap solutionText (told .enum-told2 .given .1))) (word .put-bytes5 .ensures)
 
 pub put-solution-spec : {M : Type 1} → statement M
 put-solution-spec =

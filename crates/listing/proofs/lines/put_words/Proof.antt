@@ -1,5 +1,4 @@
--- `hall::lines::put_words` meets its contract: a refusal, or the answer to a record that stands whole.
--- Assumes nothing.
+-- A refusal, or the answer to a record that stands whole.
 use Rattle.text.proofs.Laws.{written-as}
 use Rattle.listing.specs.Lines.{wordsOf}
 use Rattle.listing.proofs.Texts.{answered, refusal}
@@ -9,16 +8,24 @@ use Rattle.listing.proofs.lines.put_words.Tie as tie
 
 returns : tie.Need-returns
 unfolding wordsOf
-returns c = written-as (refusal _ _ (c .before .before .before .before .if1 .taken)) (c .before .before .put-refused .ensures)
+returns c =
+    let put = c .before .before in
+    let tested = put .before .before in
+    written-as (refusal _ _ (tested .if1 .taken)) (put .put-refused .ensures)
 
 put-answer-requires : tie.Need-put-answer-requires
 put-answer-requires c κs =
-    let start = c .before .before .before .before .before in
-    (start .pre .0, start .pre .1 .whole (c .before .if1 .left))
+    let tested = c .before in
+    let lent = tested .before .before .before in
+    let start = lent .before in
+    (start .pre .0, start .pre .1 .whole (tested .if1 .left))
 
 returns-2 : tie.Need-returns-2
 unfolding wordsOf
-returns-2 c = written-as (answered _ _ (c .before .before .before .before .if1 .left)) (c .before .before .put-answer .ensures)
+returns-2 c =
+    let put = c .before .before in
+    let tested = put .before .before in
+    written-as (answered _ _ (tested .if1 .left)) (put .put-answer .ensures)
 
 pub put-words-spec : {M : Type 1} → statement M
 put-words-spec =

@@ -1,5 +1,4 @@
--- `hall::numbers::crank_at` meets its contract: the six numbers go to the solver in their order.
--- Assumes nothing.
+-- The six numbers go to the solver in their order.
 use Rattle.listing.specs.Answers.{crankAt}
 use borrow.Author.Needs.{needs}
 use Rattle.listing.proofs.numbers.crank_at.Statement.{statement}

@@ -1,5 +1,4 @@
--- `hall::numbers::polynomial_at` meets its contract: the coefficients handed to the solver are those read.
--- Assumes nothing.
+-- The coefficients handed to the solver are those read.
 use mathlib.Core.Path.{sym, ap, _∙_}
 use mathlib.Core.List.{List}
 use Prim.Native.Nat.{_+_, _≤_}
@@ -9,7 +8,7 @@ use lib.Ieee.{Float}
 use Rattle.poly.specs.RealRoots.{realRootsOf}
 use Rattle.lent_bytes.specs.Bytes.{f64sAt}
 use Rattle.lent_bytes.proofs.Doubles.{f64s-taken}
-use Rattle.listing.specs.Records.{countAt}
+use Rattle.records.specs.Records.{countAt}
 use Rattle.listing.specs.Answers.{polynomialAt}
 use borrow.Author.Needs.{needs}
 use Rattle.listing.proofs.numbers.polynomial_at.Statement.{statement}

@@ -1,5 +1,4 @@
--- `hall::numbers::quadratic_at` meets its contract: the five numbers go to the solver in its order.
--- Assumes nothing.
+-- The five numbers go to the solver in its order.
 use Rattle.listing.specs.Answers.{quadraticAt}
 use borrow.Author.Needs.{needs}
 use Rattle.listing.proofs.numbers.quadratic_at.Statement.{statement}

@@ -1,0 +1,3 @@
+-- What the proofs of several functions, and callers' proofs, use.
+pub mod Marks
+pub mod Places

@@ -1,0 +1,38 @@
+-- The refusals, each number of document 01 under the name that it has in code. Definitions only.
+use Prim.Native.Nat.{ℕ}
+
+-- 'some coefficient not finite, wherever it stands'; of a quadratic 'one of a, b, c', of a crank 'one of the five'
+abbrev pub notFinite : ℕ
+notFinite = 1
+
+-- 'trimmed length 0 or 1'
+abbrev pub tooFew : ℕ
+tooFew = 2
+
+-- 'trimmed length above 5'
+abbrev pub tooMany : ℕ
+tooMany = 3
+
+-- 'nothing is being asked'
+abbrev pub nothingAsked : ℕ
+nothingAsked = 4
+
+-- 'a number in the Rust's answer is not finite'; of a crank 'a quartic coefficient'
+abbrev pub answerNotFinite : ℕ
+answerNotFinite = 5
+
+-- 'unknown mark'
+abbrev pub unknownMark : ℕ
+unknownMark = 6
+
+-- 'bytes end inside the mark', 'no count byte', 'fewer bytes than the record needs'
+abbrev pub cut : ℕ
+cut = 7
+
+-- 'count above 32'
+abbrev pub countTooLarge : ℕ
+countTooLarge = 8
+
+-- 'over 65,536 bytes'
+abbrev pub fileTooLong : ℕ
+fileTooLong = 9

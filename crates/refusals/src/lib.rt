@@ -1,0 +1,29 @@
+// The refusals, each number of document 01 under one name; 0 is said where nothing is refused. Those of document 02 are to follow, 10 to 19.
+// It rests on nothing; every operation that refuses rests on it.
+
+// 'some coefficient not finite, wherever it stands'; of a quadratic 'one of a, b, c', of a crank 'one of the five'.
+pub const NOT_FINITE: u32 = 1;
+
+// 'trimmed length 0 or 1'
+pub const TOO_FEW: u32 = 2;
+
+// 'trimmed length above 5'
+pub const TOO_MANY: u32 = 3;
+
+// 'nothing is being asked'
+pub const NOTHING_ASKED: u32 = 4;
+
+// 'a number in the Rust's answer is not finite'; of a crank 'a quartic coefficient'.
+pub const ANSWER_NOT_FINITE: u32 = 5;
+
+// 'unknown mark'
+pub const UNKNOWN_MARK: u32 = 6;
+
+// 'bytes end inside the mark', 'no count byte', 'fewer bytes than the record needs'
+pub const CUT: u32 = 7;
+
+// 'count above 32'
+pub const COUNT_TOO_LARGE: u32 = 8;
+
+// 'over 65,536 bytes'
+pub const FILE_TOO_LONG: u32 = 9;

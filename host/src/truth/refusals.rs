@@ -1,0 +1,121 @@
+//! The refusals of document 01, 'What each operation refuses', by name, and in words for people.
+use crate::truth::hall_file::{Item, Kind};
+
+/// 'some coefficient not finite, wherever it stands'; 'one of a, b, c'; 'one of the five'.
+pub const NOT_FINITE: u8 = 1;
+
+/// 'trimmed length 0 or 1'.
+pub const TOO_FEW: u8 = 2;
+
+/// 'trimmed length above 5'.
+pub const TOO_MANY: u8 = 3;
+
+/// 'nothing is being asked'.
+pub const NOTHING_ASKED: u8 = 4;
+
+/// 'a number in the Rust's answer is not finite'; 'a quartic coefficient not finite'.
+pub const ANSWER_NOT_FINITE: u8 = 5;
+
+/// 'unknown mark'.
+pub const UNKNOWN_MARK: u8 = 6;
+
+/// 'bytes end inside the mark', 'no count byte', 'fewer bytes than the record needs'.
+pub const CUT: u8 = 7;
+
+/// 'count above 32'.
+pub const COUNT_TOO_LARGE: u8 = 8;
+
+/// 'over 65,536 bytes'.
+pub const FILE_TOO_LONG: u8 = 9;
+
+/// A refusal in words; of a 6, 7 or 8 with the byte at which its record starts.
+pub fn in_words(bytes: &[u8], item: &Item, number: u8) -> String {
+    let at = item.at;
+    let rest = bytes.get(at..).unwrap_or_default();
+    match (number, item.kind) {
+        (NOT_FINITE, _) => "a number is not finite".to_string(),
+        (TOO_FEW, Some(Kind::Crank)) => {
+            "no equation: the quartic in u is a constant at most".to_string()
+        }
+        (TOO_FEW, _) => {
+            "no equation: once trailing zeros are dropped, a constant at most is left".to_string()
+        }
+        (TOO_MANY, _) => "the degree is above 4".to_string(),
+        (ANSWER_NOT_FINITE, Some(Kind::Crank)) => {
+            "a coefficient of the quartic in u is not finite".to_string()
+        }
+        (ANSWER_NOT_FINITE, _) => "a place of the answer is not finite".to_string(),
+        (UNKNOWN_MARK, _) => {
+            let mark = rest[..2.min(rest.len())].escape_ascii();
+            format!("byte {at}: unknown mark `{mark}`{}", text_hint(bytes))
+        }
+        (CUT, None) => format!("byte {at}: the file ends inside a mark"),
+        (CUT, Some(kind)) => format!(
+            "byte {at}: the file ends inside this {}, {} bytes of it are there{}",
+            kind.word(),
+            rest.len(),
+            needed(kind, rest).map(|n| format!(" of {n}")).unwrap_or_default()
+        ),
+        (COUNT_TOO_LARGE, _) => {
+            let count = rest.get(2).copied().unwrap_or_default();
+            format!("byte {at}: a list with count {count}, and at most 32 is allowed")
+        }
+        (FILE_TOO_LONG, _) => format!("the file has {} bytes, more than 65,536", bytes.len()),
+        (n, _) => format!("no refusal has the number {n}"),
+    }
+}
+
+/// A hint where a file begins like lines of text.
+fn text_hint(bytes: &[u8]) -> &'static str {
+    let of_text = |word: &str| bytes.starts_with(format!("{word} ").as_bytes());
+    match bytes.starts_with(b"#") || Kind::ALL.iter().any(|kind| of_text(kind.word())) {
+        true => "; for lines of text, `hall make` makes a hall file",
+        false => "",
+    }
+}
+
+/// How many bytes a record that starts like this has; none where its count is not there.
+fn needed(kind: Kind, rest: &[u8]) -> Option<usize> {
+    match kind {
+        Kind::List => rest.get(2).map(|count| 11 + 8 * usize::from(*count)),
+        Kind::Quadratic => Some(42),
+        Kind::Crank => Some(50),
+    }
+}
+
+#[cfg(test)]
+mod tests {
+    use super::*;
+    use crate::truth::hall_file::items;
+
+    fn said(bytes: &[u8]) -> Vec<String> {
+        let told = |item: &Item| Some(in_words(bytes, item, item.record.as_ref().err().copied()?));
+        items(bytes).iter().filter_map(told).collect()
+    }
+
+    #[test]
+    fn refusals_name_their_byte() {
+        let empty = b"PL\0\0\0\0\0\0\0\0\0";
+        let with = |tail: &[u8]| said(&[&empty[..], tail].concat());
+        assert_eq!(with(b"XX"), ["byte 11: unknown mark `XX`"]);
+        assert_eq!(with(b"\xFF\nab"), ["byte 11: unknown mark `\\xff\\n`"]);
+        let hint = "; for lines of text, `hall make` makes a hall file";
+        assert_eq!(said(b"list 1 2"), [format!("byte 0: unknown mark `li`{hint}")]);
+        assert_eq!(said(b"listen"), ["byte 0: unknown mark `li`"]);
+        assert_eq!(with(b"P"), ["byte 11: the file ends inside a mark"]);
+        assert_eq!(
+            with(b"PL"),
+            ["byte 11: the file ends inside this list, 2 bytes of it are there"]
+        );
+        assert_eq!(
+            with(b"PL\x02abc"),
+            ["byte 11: the file ends inside this list, 6 bytes of it are there of 27"]
+        );
+        assert_eq!(
+            with(b"QDabc"),
+            ["byte 11: the file ends inside this quad, 5 bytes of it are there of 42"]
+        );
+        assert_eq!(with(b"PL\x21"), ["byte 11: a list with count 33, and at most 32 is allowed"]);
+        assert_eq!(said(&[0; 65_537]), ["the file has 65537 bytes, more than 65,536"]);
+    }
+}
