@@ -1,5 +1,5 @@
 //! The test host's program for people.
-use host::people::{self, architecture, bench, documents};
+use host::people::{self, bench, documents};
 use host::stored::leaves;
 use std::io;
 use std::path::Path;
@@ -46,7 +46,7 @@ fn main() -> ExitCode {
     match words[..] {
         ["--help" | "-h" | "help"] => print!("{}{HELP}", people::HELP),
         ["bench"] => bench::run(),
-        ["documents"] => return written(documents::write().and_then(|()| architecture::write())),
+        ["documents"] => return written(documents::write()),
         [what, count, seed] if RUNS.iter().any(|run| run.0 == what) => {
             return compare(what, count, seed);
         }

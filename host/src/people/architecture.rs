@@ -1,6 +1,5 @@
 //! The crates by layer, as crates.txt has them: a table in docs/ARCHITECTURE.md between two marks,
-//! and a picture, docs/layers.svg. tests/architecture.rs says where one is no longer true.
-use crate::people::documents::root;
+//! and a picture, docs/layers.svg. tests/documents.rs says where one is no longer true.
 use crate::people::picture;
 use std::collections::BTreeSet;
 use std::path::Path;
@@ -94,16 +93,6 @@ pub fn made(root: &Path) -> io::Result<Vec<(&'static str, String)>> {
     let document = renewed(&document, &layers.table())
         .ok_or_else(|| io::Error::other(format!("{DOCUMENT} has no marks")))?;
     Ok(vec![(DOCUMENT, document), ("docs/layers.svg", picture::drawn(&layers))])
-}
-
-/// Its part of `hall documents`.
-pub fn write() -> io::Result<()> {
-    let root = root();
-    for (file, text) in made(&root)? {
-        fs::write(root.join(file), text)?;
-        println!("{file} written");
-    }
-    Ok(())
 }
 
 #[cfg(test)]

@@ -3,6 +3,7 @@
 pub mod index;
 pub mod pieces;
 
+use crate::people::architecture;
 use std::collections::BTreeMap;
 use std::fmt::Write;
 use std::path::{Path, PathBuf};
@@ -190,10 +191,12 @@ pub fn exceptions(functions: &[Function]) -> String {
 
 /// Each made document: its file, and the text that it should have.
 pub fn made(root: &Path) -> io::Result<Vec<(&'static str, String)>> {
-    Ok(vec![
+    let mut all = vec![
         ("docs/EXCEPTIONS.md", exceptions(&functions(root)?)),
         ("docs/INDEX.md", index::index(root)?),
-    ])
+    ];
+    all.extend(architecture::made(root)?);
+    Ok(all)
 }
 
 /// `hall documents`
