@@ -1,5 +1,4 @@
 -- Replies that are put in at once and walked once show what they show one by one: the first that is not needed is refused, and so is each after it.
--- Assumes nothing.
 use mathlib.Core.Path.{_≡_, refl, sym, ap, _∙_}
 use mathlib.Core.Bool.{Bool, true, false}
 use mathlib.Core.List.{List, [], _∷_, _++_}

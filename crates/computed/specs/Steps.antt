@@ -1,4 +1,5 @@
--- Two tests of a step that no result turns on: a step that is not finite is never kept, tried or not. Statements only; proofs/Steps.antt has the proof of `Steps`.
+-- Two tests of a step that no result turns on: a step that is not finite is never kept, tried or not. Statements only; proofs/Steps.antt has the proof of
+-- `Steps`.
 use mathlib.Core.Path.{_≡_}
 use mathlib.Core.Bool.{true, false}
 use mathlib.Core.List.{List}
@@ -20,7 +21,9 @@ moved n x step = fromFn n (λ i. getD x i nan -ᶠ getD step i nan)
 
 -- at a place with a finite norm (another ends the turns before)
 abbrev pub NeverKept : ℕ → System → Type 0
-NeverKept n sys = (x step : List Float) (current : Float) → length step ≡ n → isFiniteOf current ≡ true → allFiniteOf step ≡ false → keptOf n sys current (some (moved n x step)) ≡ none
+NeverKept n sys =
+    (x step : List Float) (current : Float) → length step ≡ n → isFiniteOf current ≡ true → allFiniteOf step ≡ false
+    → keptOf n sys current (some (moved n x step)) ≡ none
 
 -- the step of `polish` from y
 abbrev pub stepAt : List Float → ℕ → Float → Float

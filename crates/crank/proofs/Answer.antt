@@ -1,4 +1,4 @@
--- The two ways out of `crank`: a list, every question replied no, or a refusal. Assumes nothing.
+-- The two ways out of `crank`: a list, every question replied no, or a refusal.
 use mathlib.Core.Path.{_≡_, sym, ap, _∙_}
 use mathlib.Core.Bool.{false}
 use Prim.Native.Nat.{_≤_}
@@ -29,7 +29,8 @@ module _ (confusion a2 b2 c1 d1 e : Float) where
     number-is : s .number ≡ crankStartOf confusion a2 b2 c1 d1 e .number
     number-is = ap (λ (t : CrankStarted). t .number) is-s
 
-    pub answer-listed : (a : Asked) → s .number ≡ 0 → a ≡ askedOf (allNo (s .crank .inquiry)) → record { number = 0; k = s .crank .k; roots = a .list } ≡ crankOf confusion a2 b2 c1 d1 e
+    pub answer-listed : (a : Asked) → s .number ≡ 0 → a ≡ askedOf (allNo (s .crank .inquiry))
+        → record { number = 0; k = s .crank .k; roots = a .list } ≡ crankOf confusion a2 b2 c1 d1 e
     unfolding crankOf
     answer-listed a z is-a =
         let zero = sym number-is ∙ z in
@@ -37,7 +38,8 @@ module _ (confusion a2 b2 c1 d1 e : Float) where
         let four : degreeLeft (trigQuarticOf a2 b2 c1 d1 e) ≤ 4 = omega (arith, quartic-five a2 b2 c1 d1 e) in
         let asked = is-a ∙ ap (λ (d : CrankInquiry). askedOf (allNo (d .inquiry))) c ∙ no-listed (trigQuarticOf a2 b2 c1 d1 e) confusion four in
         if-taken listed refused (eq-eqb (crankStartOf confusion a2 b2 c1 d1 e .number) 0 zero)
-        (ap (λ (d : CrankInquiry). record { number = 0; k = d .k; roots = a .list }) c ∙ ap (λ (b : Asked). record { number = 0; k = solveTrigOf (λ k u. false) confusion a2 b2 c1 d1 e .0; roots = b .list }) asked)
+        (ap (λ (d : CrankInquiry). record { number = 0; k = d .k; roots = a .list }) c
+        ∙ ap (λ (b : Asked). record { number = 0; k = solveTrigOf (λ k u. false) confusion a2 b2 c1 d1 e .0; roots = b .list }) asked)
 
     pub answer-refused : (r : Roots) → (s .number ≡ 0 → ⊥) → r ≡ noRoots → record { number = s .number; k = 0; roots = r } ≡ crankOf confusion a2 b2 c1 d1 e
     unfolding crankOf

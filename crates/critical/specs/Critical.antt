@@ -1,4 +1,5 @@
--- `critical_point` and `extremum` of Scaled in poly.rs: Newton's method on f', since a double root, and a contact that only brushes, stand where f' is zero. Definitions only.
+-- `critical_point` and `extremum` of Scaled in poly.rs: Newton's method on f', since a double root, and a contact that only brushes, stand where f' is zero.
+-- Definitions only.
 use mathlib.Core.Bool.{Bool, cond, not, _&&_}
 use mathlib.Core.List.{List}
 use mathlib.Core.Option.{Option, none, some}

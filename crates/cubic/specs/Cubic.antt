@@ -24,8 +24,8 @@ use Rattle.cubic.specs.declared.CubicFactor.{CubicFactor}
 abbrev pub cardanoOf : Float → Float → Float
 cardanoOf p a = cond (ne a zero64) (a -ᶠ p /ᶠ (three64 *ᶠ a)) zero64
 
--- One real root, by Cardano. The square root takes the sign of q, so a is the term of larger size. (A NaN has no sign here; a q that is one makes the sum a NaN.)
--- The places of the array that are left are 0.
+-- One real root, by Cardano. The square root takes the sign of q, so a is the term of larger size. (A NaN has no sign here; a q that is one makes the sum a
+-- NaN.) The places of the array that are left are 0.
 unfoldable pub oneRootOf : Float → Float → Float → Float → CubicRoots
 oneRootOf shift p q disc =
     let a = neg (cbrtOf (half64 *ᶠ q +ᶠ copysignOf (sqrtOf (maxOf disc zero64)) q)) in

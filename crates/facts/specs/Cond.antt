@@ -1,4 +1,4 @@
--- What a test gives: what its two arms return is what `cond` gives, what holds of both arms holds of it, and a test of two parts is known by its parts. Assumes nothing.
+-- What a test gives: what its two arms return is what `cond` gives, what holds of both arms holds of it, and a test of two parts is known by its parts.
 use mathlib.Core.Path.{_≡_, refl, sym}
 use mathlib.Core.Bool.{Bool, true, false, cond, _&&_, true≢false}
 

@@ -1,4 +1,5 @@
--- Lists: sums over them, and what holds of all their items; the first n of an array, as a loop reads them; one more behind them; an array of four by its places. Assumes nothing.
+-- Lists: sums over them, and what holds of all their items; the first n of an array, as a loop reads them; one more behind them; an array of four by its
+-- places.
 use mathlib.Core.Path.{_≡_, sym, ap, _∙_}
 use mathlib.Core.List.{List, [], _∷_, _++_, map}
 use Prim.Native.Nat.{ℕ, zero, suc, _+_, _-_, _≤_, _<_}

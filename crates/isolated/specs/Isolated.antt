@@ -1,5 +1,6 @@
--- `isolated_root`: a real root of two quadratics that is far from the other three while those lie close together, a near-triple root that no pairing in quadratics
--- resolves. `peel_root`: the monic quartic y^4 + b*y^3 + c*y^2 + d*y + e as (y - r) * (y^3 + h2*y^2 + h1*y + h0), from such a root. Definitions only.
+-- `isolated_root`: a real root of two quadratics that is far from the other three while those lie close together, a near-triple root that no pairing in
+-- quadratics resolves. `peel_root`: the monic quartic y^4 + b*y^3 + c*y^2 + d*y + e as (y - r) * (y^3 + h2*y^2 + h1*y + h0), from such a root. Definitions
+-- only.
 use mathlib.Core.Bool.{Bool, true, cond, _&&_}
 use mathlib.Core.List.{List, [], _∷_}
 use Prim.Native.Nat.{ℕ, _+_, _-_}

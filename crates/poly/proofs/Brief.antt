@@ -71,15 +71,20 @@ module _ (sc : Scaled) (lg : List Float) where
   same-list : (zeros : ℕ) (tol : Float) → factorizeOf other 0 ≡ factorizeOf sc 0 → SameList (finishedOf other zeros tol) (finishedOf sc zeros tol)
   unfolding finishedOf
   same-list zeros tol e =
-      let c : candidatesOf other zeros (factorizeOf other 0) tol ≡ candidatesOf sc zeros (factorizeOf sc 0) tol = ap (λ (f : Factors). candidatesOf other zeros f tol) e ∙ same-candidates zeros (factorizeOf sc 0) tol in
+      let c : candidatesOf other zeros (factorizeOf other 0) tol
+      ≡ candidatesOf sc zeros (factorizeOf sc 0) tol = ap (λ (f : Factors). candidatesOf other zeros f tol) e
+      ∙ same-candidates zeros (factorizeOf sc 0) tol in
       record { number = refl; roots = ap (λ (x : List RealRoot × List Pair). rootsOf (finishOf other (x .0) tol)) c ∙ ap rootsOf (same-finish _ tol); e = refl }
 
-pub brief-list : (a : List Float) (d l zeros : ℕ) (tol : Float) → d ≤ 4 → Enough a d l → SameList (finishedOf (withLogsOf a d l) zeros tol) (finishedOf (scaledOf a d) zeros tol)
+pub brief-list : (a : List Float) (d l zeros : ℕ) (tol : Float) → d ≤ 4 → Enough a d l
+    → SameList (finishedOf (withLogsOf a d l) zeros tol) (finishedOf (scaledOf a d) zeros tol)
 unfolding withLogsOf scaledOf logSizesOf
 brief-list a d l zeros tol D = ⊎-elim (λ h. full h) (λ h. brief (h .0) (h .1))
   where
     full : l ≡ d → SameList (finishedOf (withLogsOf a d l) zeros tol) (finishedOf (scaledOf a d) zeros tol)
-    full h = subst (λ (n : ℕ). SameList (finishedOf (withLogsOf a d n) zeros tol) (finishedOf (scaledOf a d) zeros tol)) (sym h) (record { number = refl; roots = refl; e = refl })
+    full h =
+        subst (λ (n : ℕ). SameList (finishedOf (withLogsOf a d n) zeros tol) (finishedOf (scaledOf a d) zeros tol)) (sym h)
+        (record { number = refl; roots = refl; e = refl })
 
     brief : l ≡ 0 → NoGap a d → SameList (finishedOf (withLogsOf a d l) zeros tol) (finishedOf (scaledOf a d) zeros tol)
     brief h n =

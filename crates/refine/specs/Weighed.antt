@@ -1,4 +1,5 @@
--- What the code of `refine` has of the equations at a place, at each size: the magnitudes of their terms, the weighted residuals and their norm. Definitions only.
+-- What the code of `refine` has of the equations at a place, at each size: the magnitudes of their terms, the weighted residuals and their norm. Definitions
+-- only.
 use mathlib.Core.List.{List}
 use lib.Ieee.{Float}
 use Rattle.refine.specs.Refine.{weightedOf, normOf}

@@ -47,7 +47,8 @@ sizesOf a = fromFn 5 (λ i. absOf (getD a i nan))
 unfoldable pub logSizeOf : Float → ℕ → ℤ → ℤ → ℕ → Float
 logSizeOf l d e top i = cond (leb i d) (l +ᶠ ofInt binary64 (shiftOf e top i)) (neg inf64)
 
--- lg, which is read at degree 3 and 4 alone ('never at depth 3 or degree 2 and below'). At a smaller degree it stays minus infinity, with which the Rust begins.
+-- lg, which is read at degree 3 and 4 alone ('never at depth 3 or degree 2 and below'). At a smaller degree it stays minus infinity, with which the Rust
+-- begins.
 unfoldable pub logSizesOf : List Float → ℕ → ℤ → ℤ → List Float
 logSizesOf a d e top = let l = log2FiveOf (sizesOf a) in cond (leb 3 d) (fromFn 5 (λ i. logSizeOf (getD l i nan) d e top i)) (replicate 5 (neg inf64))
 

@@ -17,7 +17,8 @@ use Rattle.split.specs.declared.Hull.{Hull}
 abbrev pub widthOf : ℕ → ℕ → Float
 widthOf a b = ofInt binary64 (pos (b - a))
 
--- cross = (b.0 - a.0) * (p.1 - a.1) - (b.1 - a.1) * (p.0 - a.0), for the points with the indices a, b and i: at least 0 where b is on or below the line from a to p
+-- cross = (b.0 - a.0) * (p.1 - a.1) - (b.1 - a.1) * (p.0 - a.0), for the points with the indices a, b and i: at least 0 where b is on or below the line from a
+-- to p
 unfoldable pub crossOf : List Float → ℕ → ℕ → ℕ → Float
 crossOf lg a b i =
     let x = getD lg a nan in

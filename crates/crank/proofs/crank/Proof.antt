@@ -19,9 +19,10 @@ with-demand confusion a2 b2 c1 d1 e r is =
 
 returns : tie.Need-returns
 returns c =
-    let began = c .before .before .before .before in
+    let at-ask = c .before in
+    let began = at-ask .before .before .before in
     let s = began .before .before .start in
-    with-demand _ _ _ _ _ _ _ (answer-listed _ _ _ _ _ _ (s .result) (s .ensures) _ (began .if1 .taken) (c .before .ask .ensures .0))
+    with-demand _ _ _ _ _ _ _ (answer-listed _ _ _ _ _ _ (s .result) (s .ensures) _ (began .if1 .taken) (at-ask .ask .ensures .0))
 
 returns-2 : tie.Need-returns-2
 returns-2 c =

@@ -1,4 +1,4 @@
--- `start` is its definition: what `solve` gave, and no reply. Assumes nothing.
+-- `start` is its definition: what `solve` gave, and no reply.
 use Rattle.inquiry.specs.Start.{startOf}
 use borrow.Author.Needs.{needs}
 use Rattle.inquiry.proofs.start.Statement.{statement}

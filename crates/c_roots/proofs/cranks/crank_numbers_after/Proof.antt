@@ -1,4 +1,4 @@
--- `crank_numbers_after` is its definition: k, and the numbers of the inquiry. Assumes nothing.
+-- `crank_numbers_after` is its definition: k, and the numbers of the inquiry.
 use borrow.Author.Needs.{needs}
 use Rattle.c_roots.specs.Inquiries.{numbersAfter}
 use Rattle.c_roots.proofs.Crank.{crank-is}
@@ -11,20 +11,6 @@ returns c = crank-is _ _ _ _ _ _ (c .before .numbers-after .ensures)
 
 pub crank-numbers-after-spec : {M : Type 1} → statement M
 crank-numbers-after-spec =
-    tie.close
-    (tie.spec
-    (λ c κs. search needs)
-    (λ c. search needs)
-    (λ c. search needs)
-    (λ c. search needs)
-    (λ c. search needs)
-    (λ c. search needs)
-    (λ c. search needs)
-    (λ c. search needs)
-    (λ c. search needs)
-    (λ c. search needs)
-    (λ c. search needs)
-    (λ c. search needs)
-    (λ c. search needs)
-    (λ c. search needs)
-    returns)
+    tie.close (tie.spec (λ c κs. search needs) (λ c. search needs) (λ c. search needs) (λ c. search needs) (λ c. search needs)
+    (λ c. search needs) (λ c. search needs) (λ c. search needs) (λ c. search needs) (λ c. search needs) (λ c. search needs)
+    (λ c. search needs) (λ c. search needs) (λ c. search needs) returns)

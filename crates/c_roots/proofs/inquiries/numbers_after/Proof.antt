@@ -1,4 +1,4 @@
--- `numbers_after` is its definition: the numbers of what `see` gives. Assumes nothing.
+-- `numbers_after` is its definition: the numbers of what `see` gives.
 use borrow.Author.Needs.{needs}
 use mathlib.Core.Path.{ap, subst⁻¹, _∙_}
 use Rattle.roots.specs.Listed.{Fits}
