@@ -1,8 +1,8 @@
--- The compensated value of a polynomial of degree 4 at most, with coefficients of size 2 at most, at a place of size 4 at most, is near to the exact one (`accurate`).
--- x is the value plus its correction, not rounded, w the same rounded, Q the exact value, all in units. Four turns leave 2 ^ 53 |x - Q| ≤ 200 h + 2 ^ 125 = e, where
--- 2 ^ 53 h ≤ M + 2 ^ 53 * 341, and rounding leaves 2 ^ 53 |w - x| ≤ |x|. So
+-- The compensated value of a polynomial of degree 4 at most, with coefficients of size 2 at most, at a place of size 4 at most, is near to the exact one
+-- (`accurate`). x is the value plus its correction, not rounded, w the same rounded, Q the exact value, all in units. Four turns leave 2 ^ 53 |x - Q| ≤ 200 h +
+-- 2 ^ 125 = e, where 2 ^ 53 h ≤ M + 2 ^ 53 * 341, and rounding leaves 2 ^ 53 |w - x| ≤ |x|. So
 --   2 ^ 106 |w - Q| ≤ 2 ^ 53 |x| + 2 ^ 53 e ≤ 2 ^ 53 P + (2 ^ 53 + 1) e ≤ 2 ^ 53 P + 201 M + 2 ^ 179
--- Q, P and M are here times S = oneUnits ^ d, and so is all else in the statements below. Assumes nothing.
+-- Q, P and M are here times S = oneUnits ^ d, and so is all else in the statements below.
 use mathlib.Core.Path.{_≡_, sym, ap, subst}
 use mathlib.Core.Bool.{true}
 use mathlib.Core.List.{List}

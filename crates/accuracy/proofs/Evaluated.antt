@@ -1,5 +1,5 @@
--- The compensated Horner rule, from a_d down to a_0: after its d turns, 4 at most, the value and its correction are as near to the exact value as d `step`s leave
--- them (`evaluated`), for coefficients of size 2 at most and a place of size 4 at most. Assumes nothing.
+-- The compensated Horner rule, from a_d down to a_0: after its d turns, 4 at most, the value and its correction are as near to the exact value as d `step`s
+-- leave them (`evaluated`), for coefficients of size 2 at most and a place of size 4 at most.
 use mathlib.Core.Path.{_≡_, sym, _∙_, subst}
 use mathlib.Core.Bool.{true}
 use mathlib.Core.List.{List}
@@ -90,7 +90,8 @@ module _ (f : List Float) (d : ℕ) (y : Float) (degree : d ≤ 4) (coefficients
         0,
         zero-add d,
         t .0,
-        renamed none (A .v) (place-num .v) (signedUnits (getD f d nan)) (signedUnits y) 1 (oneUnits ^ 0) (num-units A) (num-units place-num) (pow-zero oneUnits) (t .1),
+        renamed none (A .v) (place-num .v) (signedUnits (getD f d nan)) (signedUnits y) 1 (oneUnits ^ 0) (num-units A) (num-units place-num)
+            (pow-zero oneUnits) (t .1),
       )
 
   turn : (k : ℕ) (H : Horner) → After (suc k) H → After k (atPlace (compensatedStep y) f k H)
@@ -101,7 +102,8 @@ module _ (f : List Float) (d : ℕ) (y : Float) (degree : d ≤ 4) (coefficients
         suc n,
         omega arith,
         nextH h (magnitude (place-num .v)) (magnitude (C .v)) oneUnits,
-        renamed (exactFrom f d y (suc n) (suc k)) (C .v) (place-num .v) (signedUnits (getD f k nan)) (signedUnits y) (oneUnits ^ n * oneUnits) (oneUnits ^ suc n)
+        renamed (exactFrom f d y (suc n) (suc k)) (C .v) (place-num .v) (signedUnits (getD f k nan)) (signedUnits y)
+            (oneUnits ^ n * oneUnits) (oneUnits ^ suc n)
             (num-units C) (num-units place-num) (pow-suc oneUnits n) t,
       )
 

@@ -1,9 +1,10 @@
 -- A turn of the compensated Horner rule on doubles: how far the value and its correction, together, are from the exact polynomial (`step`).
--- v and r are the value and its correction so far, Q / S units the exact value, and 2 ^ 53 h units bound the sum of the sizes of its terms, up to ε 2 ^ 53. Kept are
+-- v and r are the value and its correction so far, Q / S units the exact value, and 2 ^ 53 h units bound the sum of the sizes of its terms, up to ε 2 ^ 53.
+-- Kept are
 --   |v| ≤ 2 ^ 53 h + α h + β      |r| ≤ ρ h + τ      2 ^ 53 |v + r - Q / S| ≤ κ h + b
 -- and a turn with |y| ≤ 4 and |c| ≤ 2 makes of them
 --   α + 4      4 β + 3      ρ + 8      6 τ + 2 ^ 66      κ + 2 ρ + 26      4 b + 9 τ + 2 ^ 118      4 ε + 1
--- The argument on numbers is that of rounding's Step. Assumes nothing.
+-- The argument on numbers is that of rounding's Step.
 use mathlib.Core.Path.{_≡_, sym, ap, subst}
 use Prim.Native.Nat.{ℕ, zero, suc, _+_, _*_, _/_, _^_, _≤_, _<_}
 use native.Mathlib.Nat.{add-le-add, le-refl, le-trans, le-of-eq, le-of-lt, mul-le-mul-right, mul-le-mul-left, mul-pos, div-mul-le-self, lt-div-mul-add}

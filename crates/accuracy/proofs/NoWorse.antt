@@ -1,7 +1,6 @@
 -- Where the residual at a last place is no larger in size than at a first one, the last is no worse beyond rounding: demand 3's inequality (`no-worse`).
 -- With w for the residuals and e = 2^-53·P + 201·2^-106·M + 2^-1001 for how far they are from the exact values,
 -- P(last) - e(last) ≤ |w(last)| ≤ |w(first)| ≤ P(first) + e(first). That times 2^53 is the inequality, as 201·2^-53 ≤ 2^-45 and 2·2^(53 - 1001) ≤ 2^-946.
--- Assumes nothing.
 use mathlib.Core.Path.{_≡_}
 use mathlib.Core.Bool.{true}
 use mathlib.Core.List.{List}
@@ -35,11 +34,14 @@ module _ (f : List Float) (d : ℕ) where
   unfolding P
   exact-le y A =
       let far = apart-sym (signedUnits (residualOf f d y) ⊡ (2 ^ 106 * oneUnits ^ d)) (exactOf f d y ⊡ 2 ^ 106) (distanceOf f d y) (A .near) in
-      rw (units-size (residualOf f d y)) at (size-near (exactOf f d y) (signedUnits (residualOf f d y)) (2 ^ 106) (2 ^ 106 * oneUnits ^ d) (distanceOf f d y) far)
+      rw (units-size (residualOf f d y)) at (size-near (exactOf f d y) (signedUnits (residualOf f d y)) (2 ^ 106) (2 ^ 106 * oneUnits ^ d)
+      (distanceOf f d y) far)
 
   value-le : (y : Float) → Accurate f d y → unitsOf (residualOf f d y) * (2 ^ 106 * oneUnits ^ d) ≤ P f d y * 2 ^ 106 + distanceOf f d y
   unfolding P
-  value-le y A = rw (units-size (residualOf f d y)) at (size-near (signedUnits (residualOf f d y)) (exactOf f d y) (2 ^ 106 * oneUnits ^ d) (2 ^ 106) (distanceOf f d y) (A .near))
+  value-le y A =
+      rw (units-size (residualOf f d y)) at (size-near (signedUnits (residualOf f d y)) (exactOf f d y) (2 ^ 106 * oneUnits ^ d) (2 ^ 106)
+      (distanceOf f d y) (A .near))
 
   -- Demand 3 for any two places of size 4 at most, with coefficients of size 2 at most and degree 4 at most, whatever leads from the first to the last.
   pub no-worse : (first last : Float) → d ≤ 4 → AllAtMost two64 f d → atMost four64 first ≡ true → atMost four64 last ≡ true

@@ -1,10 +1,11 @@
--- A double in the two parts that `two_prod` takes, hi = `splitHigh` x and lo = x - hi: they add up to x, and where x has all of its 53 digits in use, each part has 26.
--- x = X U with U = 2 ^ i units and 2 ^ 52 ≤ |X| < 2 ^ 53 (`Full`): hi = H 2 ^ 27 U and lo = L U, with X = 2 ^ 27 H + L and |H|, |L| ≤ 2 ^ 26 (`Cut`).
--- Else x is below 2 ^ 52 units, and neither part is above 3 |x| (`Loose`). The argument on the four roundings is that of rounding's Split. Assumes nothing.
+-- A double in the two parts that `two_prod` takes, hi = `splitHigh` x and lo = x - hi: they add up to x, and where x has all of its 53 digits in use, each part
+-- has 26. x = X U with U = 2 ^ i units and 2 ^ 52 ≤ |X| < 2 ^ 53 (`Full`): hi = H 2 ^ 27 U and lo = L U, with X = 2 ^ 27 H + L and |H|, |L| ≤ 2 ^ 26 (`Cut`).
+-- Else x is below 2 ^ 52 units, and neither part is above 3 |x| (`Loose`). The argument on the four roundings is that of rounding's Split.
 use mathlib.Core.Path.{_≡_, refl, sym, ap, _∙_, subst}
 use mathlib.Core.Logic.{_⊎_, inl, inr}
 use Prim.Native.Nat.{ℕ, _+_, _-_, _*_, _^_, _≤_, _<_}
-use native.Mathlib.Nat.{le-trans, le-of-eq, le-of-lt, lt-of-lt-of-le, le-of-mul-le-mul-right, mul-le-mul-right, mul-assoc, mul-comm, zero-mul, eq-zero-or-pos, eq-of-mul-eq-mul-right}
+use native.Mathlib.Nat.{le-trans, le-of-eq, le-of-lt, lt-of-lt-of-le, le-of-mul-le-mul-right, mul-le-mul-right}
+use native.Mathlib.Nat.{mul-assoc, mul-comm, zero-mul, eq-zero-or-pos, eq-of-mul-eq-mul-right}
 use native.Mathlib.Omega.{arith}
 use lib.Dec.{T, lit<}
 use lib.Pow.{pow-add, pow-pos, pow-mono, shl-lt}
@@ -73,11 +74,27 @@ full-or-small F X = go (on-grid F X) X
     go : {x : Float} {p n : ℕ} → Grid p n → Val x p n → Full p n ⊎ (p + n < 2 ^ 52)
     go G (plus-sign {p = p} h) = elim (normal (G .a) (G .i) (omega (arith, G .few))) [
       | inl o ↦ inr (omega (arith, G .p-is))
-      | inr d ↦ inl (record { i = d .i; a = d .a; b = 0; p-is = G .p-is ∙ d .is; n-is = sym (zero-mul (2 ^ d .i)); few = omega (arith, d .few); many = inl (refl, d .many) })
+      | inr d ↦ inl (record {
+        i = d .i;
+        a = d .a;
+        b = 0;
+        p-is = G .p-is ∙ d .is;
+        n-is = sym (zero-mul (2 ^ d .i));
+        few = omega (arith, d .few);
+        many = inl (refl, d .many);
+      })
     ]
     go G (minus-sign {n = n} h) = elim (normal (G .b) (G .i) (omega (arith, G .few))) [
       | inl o ↦ inr (omega (arith, G .n-is))
-      | inr d ↦ inl (record { i = d .i; a = 0; b = d .a; p-is = sym (zero-mul (2 ^ d .i)); n-is = G .n-is ∙ d .is; few = omega (arith, d .few); many = inr (refl, d .many) })
+      | inr d ↦ inl (record {
+        i = d .i;
+        a = 0;
+        b = d .a;
+        p-is = sym (zero-mul (2 ^ d .i));
+        n-is = G .n-is ∙ d .is;
+        few = omega (arith, d .few);
+        many = inr (refl, d .many);
+      })
     ]
 
 -- ---- the four roundings that give the parts. 134217729 is 2 ^ 27 + 1
@@ -191,7 +208,8 @@ module _ {x : Diff} {h l : Float} {k : ℕ} (S : Pieces x h l k) where
       let L : Diff = record { p = s .a'; n = s .b' } in
       let lf = low-few (S .lo .v) L U (pow-pos (F .i)) (s .lo) (s .lo-few) in
       let e =
-      whole-of x (S .hi .v) (S .lo .v) A H L U (pow-pos (F .i)) (same-parts (x .p) (x .n) (F .a * U) (F .b * U) (F .p-is) (F .n-is)) (s .hi) (s .lo) (s .adds-up) in
+      whole-of x (S .hi .v) (S .lo .v) A H L U (pow-pos (F .i)) (same-parts (x .p) (x .n) (F .a * U) (F .b * U) (F .p-is) (F .n-is)) (s .hi)
+      (s .lo) (s .adds-up) in
       record { H = H; L = L; hi = s .hi; lo = s .lo; whole = e; H-few = high-few A H L e (F .few) lf; L-few = lf }
 
   pub loose-small : magnitude x < 2 ^ 52 → Loose x (S .hi .v) (S .lo .v) (magnitude x)

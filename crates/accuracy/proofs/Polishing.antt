@@ -1,5 +1,5 @@
--- Demand 3 for `polish`, whatever the number of turns and the gap: a turn is taken only where the residual's size falls (`smaller`), so at the last place it is no
--- larger than at the first (`kept`), and `no-worse` gives the inequality. The places between them play no part. Assumes nothing.
+-- Demand 3 for `polish`, whatever the number of turns and the gap: a turn is taken only where the residual's size falls (`smaller`), so at the last place it is
+-- no larger than at the first (`kept`), and `no-worse` gives the inequality. The places between them play no part.
 use mathlib.Core.Path.{_≡_, refl}
 use mathlib.Core.Bool.{Bool, true, false, _&&_, _||_, not, cond, true≢false, false≢true}
 use mathlib.Core.List.{List}
@@ -43,7 +43,8 @@ module _ (f : List Float) (d : ℕ) (b : ℕ) where
   abbrev Bounded : Place → Type 0
   Bounded s = (isFiniteOf (residualOf f d (s .y)) ≡ true) × (unitsOf (residualOf f d (s .y)) ≤ b)
 
-  taken : (s : Place) → Bounded s → (step next : Float) → (t : Bool) → noGainOf (residualOf f d (s .y)) (residualOf f d next) ≡ t → Given Bounded (cond t none (some (arrived step next)))
+  taken : (s : Place) → Bounded s → (step next : Float) → (t : Bool) → noGainOf (residualOf f d (s .y)) (residualOf f d next) ≡ t
+      → Given Bounded (cond t none (some (arrived step next)))
   taken s B step next true e = tt
   taken s B step next false e = let l = smaller (residualOf f d (s .y)) (residualOf f d next) (B .0) e in (l .0, le-trans (l .1) (B .1))
 

@@ -1,11 +1,12 @@
 -- The rounding error of a product, as `productError` works it out, is the true one within 2 ^ 64 units: |p + e - a b| ≤ 2 ^ 64 (`product-num`).
--- a = A U and b = B W full, where U W is a whole number of units: with A = 2 ^ 27 H + L and B = 2 ^ 27 G + M all eight operations after the product are exact, and
--- so is the error. Otherwise, exponents being too low or a factor below 2 ^ 52 units, |a b| ≤ 2 ^ 106 units: each operation goes by its relative error, in all by
--- less than 2 ^ 64 units. Assumes nothing.
+-- a = A U and b = B W full, where U W is a whole number of units: with A = 2 ^ 27 H + L and B = 2 ^ 27 G + M all eight operations after the product are exact,
+-- and so is the error. Otherwise, exponents being too low or a factor below 2 ^ 52 units, |a b| ≤ 2 ^ 106 units: each operation goes by its relative error, in
+-- all by less than 2 ^ 64 units.
 use mathlib.Core.Path.{_≡_, sym, ap, _∙_, subst}
 use mathlib.Core.Logic.{_⊎_, inl, inr}
 use Prim.Native.Nat.{ℕ, _+_, _-_, _*_, _^_, _≤_, _<_}
-use native.Mathlib.Nat.{le-trans, le-of-eq, le-of-lt, le-of-mul-le-mul-right, mul-le-mul-right, mul-le-mul-left, mul-le-mul, add-comm, mul-assoc, mul-comm, zero-mul, mul-zero, mul-left-comm}
+use native.Mathlib.Nat.{le-trans, le-of-eq, le-of-lt, le-of-mul-le-mul-right, mul-le-mul-right, mul-le-mul-left, mul-le-mul}
+use native.Mathlib.Nat.{add-comm, mul-assoc, mul-comm, zero-mul, mul-zero, mul-left-comm}
 use native.Mathlib.Omega.{arith}
 use lib.Dec.{lit≤}
 use lib.Pow.{pow-add, pow-mono}

@@ -1,4 +1,4 @@
--- The size of a difference: it bounds the difference, goes with multiples, and is no larger than that of a near one and the distance (`size-near`). Assumes nothing.
+-- The size of a difference: it bounds the difference, goes with multiples, and is no larger than that of a near one and the distance (`size-near`).
 use mathlib.Core.Path.{_≡_, sym, ap}
 use mathlib.Core.Bool.{Bool, true, false}
 use Prim.Native.Nat.{ℕ, _+_, _*_, _≤_}

@@ -1,5 +1,5 @@
--- The rounding error of a sum, as `sumError` works it out, is the true one within 7 h / 2 ^ 53, where 2 ^ 53 h units bound the sizes of the two summands (`sum-num`).
--- With s = p + c, b = s - p and t = s - b, each rounded, only t has to be exact; the argument is that of rounding's TwoSum. Assumes nothing.
+-- The rounding error of a sum, as `sumError` works it out, is the true one within 7 h / 2 ^ 53, where 2 ^ 53 h units bound the sizes of the two summands
+-- (`sum-num`). With s = p + c, b = s - p and t = s - b, each rounded, only t has to be exact; the argument is that of rounding's TwoSum.
 use Prim.Native.Nat.{ℕ, _+_, _*_, _^_, _≤_}
 use native.Mathlib.Nat.{le-trans}
 use native.Mathlib.Omega.{arith}
@@ -43,7 +43,8 @@ sum-num {p} {c} {k} {l} P C h =
       sum = s;
       err = weaken (96 * (k + l)) (e-size k l) (e .result);
       close = λ g m.
-          let n = error-near (on-grid (P .held) (P .is)) (on-grid (C .held) (C .is)) (s .rounds) (b .rounds) (t .rounds) (v .rounds) (w .rounds) (e .rounds) g m in
+          let n = error-near (on-grid (P .held) (P .is)) (on-grid (C .held) (C .is)) (s .rounds) (b .rounds) (t .rounds) (v .rounds)
+          (w .rounds) (e .rounds) g m in
           restate (e .result .v) (P .v) (C .v) (s .result .v) (7 * g) (n .0) (n .1);
     }
   where

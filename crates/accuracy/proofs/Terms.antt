@@ -1,7 +1,6 @@
 -- Horner's rule without rounding gives the sum of the terms (`exact-is`), and the two parts of that sum add up to M (`sizes-are`).
 -- With A_i and Y for a_i and y in units, and O for 1, the rule's value from a_k on is E_k = A_k O^(d-k) + E_(k+1) Y, with none after a_d; the sum of the terms
 -- from i = k on is E_k Y^k, and k = 0 is the claim. What is above 0 is added up in p and what is below in n, and nothing cancels: these are equations of pairs.
--- Assumes nothing.
 use mathlib.Core.Path.{_≡_, refl, sym, ap, ap₂, _∙_}
 use mathlib.Core.Logic.{inl, inr}
 use mathlib.Core.Bool.{Bool, true, false, _&&_}
@@ -101,7 +100,8 @@ module _ (f : List Float) (d : ℕ) (y : Float) where
   -- ---- the sizes of the terms: one of the two parts of each is 0
   term-size : (k : ℕ) → sizeOf (termOf f d y k) ≡ magnitude (termOf f d y k)
   unfolding termOf
-  term-size k = go (unlike (isSignNegativeOf (getD f k nan)) (isSignNegativeOf y && eqb (k % 2) 1)) (unitsOf (getD f k nan) * unitsOf y ^ k * oneUnits ^ (d - k))
+  term-size k =
+      go (unlike (isSignNegativeOf (getD f k nan)) (isSignNegativeOf y && eqb (k % 2) 1)) (unitsOf (getD f k nan) * unitsOf y ^ k * oneUnits ^ (d - k))
     where
       go : (s : Bool) (a : ℕ) → sizeOf (signedDiff s a) ≡ magnitude (signedDiff s a)
       go s a = signed-size s a ∙ sym (signed-magnitude s a)

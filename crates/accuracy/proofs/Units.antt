@@ -1,5 +1,5 @@
 -- A double as a signed number of units: a value of so many units has them (`val-units`), a double that compares as no larger has no more of them (`no-larger`),
--- and one of size c at most is a number with that bound (`at-most-num`). Assumes nothing.
+-- and one of size c at most is a number with that bound (`at-most-num`).
 use mathlib.Core.Path.{_≡_, refl, sym, ap, _∙_, subst}
 use mathlib.Core.Bool.{Bool, true, false, _&&_, _||_, false≢true}
 use Prim.Native.Nat.{ℕ, _*_, _/_, _^_, _≤_, _<_}

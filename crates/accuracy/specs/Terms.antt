@@ -1,6 +1,7 @@
 -- The exact value of a polynomial at a place, in whole numbers: P and M of demand 3. Definitions only.
 -- f holds the coefficients a_0, a_1, .., and d is the degree. A finite double is a whole number of units of 2^-1074, `unitsOf` in size, and 1 is `oneUnits` of
--- them, 2^1074. So a_i·y^i, times oneUnits ^ (d + 1), is the whole number ± unitsOf a_i * unitsOf y ^ i * oneUnits ^ (d - i). Everything here is times that power.
+-- them, 2^1074. So a_i·y^i, times oneUnits ^ (d + 1), is the whole number ± unitsOf a_i * unitsOf y ^ i * oneUnits ^ (d - i). Everything here is times that
+-- power.
 use mathlib.Core.Bool.{Bool, cond, _&&_}
 use mathlib.Core.List.{List}
 use Prim.Native.Nat.{ℕ, _+_, _-_, _*_, _%_, _^_}

@@ -4,7 +4,8 @@ use mathlib.Core.Logic.{_⊎_, inl, inr, ⊎-elim}
 use mathlib.Core.Bool.{Bool, true, false, cond, false≢true}
 use Prim.Native.Nat.{ℕ, zero, suc, _*_, _/_, _^_, _≤_, _<_}
 use native.Mathlib.Omega.{arith}
-use native.Mathlib.Nat.{le-of-lt, le-of-eq, lt-of-lt-of-le, zero-lt-suc, zero-mul, zero-div, mul-le-mul, mul-le-mul-left, mul-lt-mul-of-pos-right, lt-of-mul-lt-mul-right, eq-of-mul-eq-mul-right}
+use native.Mathlib.Nat.{le-of-lt, le-of-eq, lt-of-lt-of-le, zero-lt-suc, zero-mul, zero-div}
+use native.Mathlib.Nat.{mul-le-mul, mul-le-mul-left, mul-lt-mul-of-pos-right, lt-of-mul-lt-mul-right, eq-of-mul-eq-mul-right}
 use borrow.Author.Tests.{le-leb, lt-leb, lt-ltb}
 use lib.Dec.{lit<, lit≤}
 use lib.Pow.{pow-pos, pow-mono}
@@ -101,7 +102,8 @@ module _ (v : Float) (w k : ℕ) (d : Decoded v w k) where
     units-below : k < 1074 → unitsOf v < 2 ^ 1074
     units-below l =
         lt-of-mul-lt-mul-right (2 ^ 52)
-        (subst (λ (x : ℕ). x < 2 ^ 1074 * 2 ^ 52) (n .value) (lt-of-lt-of-le (mul-lt-mul-of-pos-right (n .short) (pow-pos k)) (mul-le-mul-left (2 ^ 53) (pow-mono (let e : k ≤ 1073 = omega arith in e)))))
+        (subst (λ (x : ℕ). x < 2 ^ 1074 * 2 ^ 52) (n .value) (lt-of-lt-of-le (mul-lt-mul-of-pos-right (n .short) (pow-pos k))
+        (mul-le-mul-left (2 ^ 53) (pow-mono (let e : k ≤ 1073 = omega arith in e)))))
 
     units-one : 1074 ≤ k → k ≤ 1074 → w ≤ 2 ^ 52 → unitsOf v ≡ 2 ^ 1074
     units-one a b l =
@@ -119,7 +121,8 @@ module _ (v : Float) (w k : ℕ) (d : Decoded v w k) where
     digits-inside s e l m q =
         let b = half-bounds _ (monotone (levelOf s w k)) (sized (levelOf s w k) (level-lt w k (n .short) l s)) m q in
         all-digits _ _ (b .0) (b .1)
-        (cos-is v r (le-of-lt (units-below l)) ∙ ap (λ (s : Bool). nearestCos s (unitsOf v)) e ∙ cos-nearest s (unitsOf v) w k m n (le-of-lt (units-below l)) l q)
+        (cos-is v r (le-of-lt (units-below l)) ∙ ap (λ (s : Bool). nearestCos s (unitsOf v)) e
+        ∙ cos-nearest s (unitsOf v) w k m n (le-of-lt (units-below l)) l q)
 
     pub digits-above : 1074 ≤ k → (1074 < k) ⊎ (2 ^ 52 < w) → CosineDigits (cosOf v) 0
     digits-above a c = no-digits _ (cos-above v (units-above a c))

@@ -11,7 +11,7 @@ use lib.Ieee.{Float, odd}
 use Rattle.decode.specs.Shape.{Normal}
 use Rattle.nearest.specs.Greatest.{nearestOf, NearestHalf}
 use Rattle.nearest.proofs.Search.{found}
-use Rattle.nearest.proofs.ByTest.{Monotone, Sized, apart, by-test}
+use Rattle.nearest.proofs.ByTest.{Monotone, Sized, apart, odd-middle, by-test}
 use Rattle.angle.specs.Third.{left, right, atMostSolution, cosUnits}
 use Rattle.angle.specs.Parts.{rise, levelOf, cosLe}
 use Rattle.angle.proofs.Rise as rises
@@ -25,7 +25,9 @@ pub half-passes : (level t : ℕ) → t ≤ 2 ^ 53 → cosLe level t ≡ true
 half-passes level t h = ap (λ (x : ℕ). leb x level) (rise-none (2 ^ 53) t h) ∙ le-leb 0 level zero-le
 
 pub square-lt : (y hi lo : ℕ) → y < 3 * 2 ^ 53 → hi * 2 ^ 64 + lo ≡ y * y → hi < 2 ^ 50
-square-lt y hi lo h e = let m : y * y ≤ 3 * 2 ^ 53 * (3 * 2 ^ 53) = mul-le-mul (let l : y ≤ 3 * 2 ^ 53 = omega arith in l) (let l : y ≤ 3 * 2 ^ 53 = omega arith in l) in omega arith
+square-lt y hi lo h e =
+    let m : y * y ≤ 3 * 2 ^ 53 * (3 * 2 ^ 53) = mul-le-mul (let l : y ≤ 3 * 2 ^ 53 = omega arith in l) (let l : y ≤ 3 * 2 ^ 53 = omega arith in l) in
+    omega arith
 
 -- y * y by its two words, and x the product of the two
 pub rise-is : (t hi lo x : ℕ) → let y = t - 2 ^ 53 in hi * 2 ^ 64 + lo ≡ y * y → x ≡ (y + 3 * 2 ^ 53) * (hi * 2 ^ 64 + lo) → x ≡ rise (2 ^ 53) t
@@ -85,9 +87,6 @@ module _ (s : Bool) (n w k m : ℕ) (d : Normal n w k) (h : n ≤ 2 ^ 1074) (l :
       (record { least = half; most = one })
       (record { some = q .some; low = at (2 * m - 1) ∙ q .low; high = at (2 * m + 1) ∙ q .high })
       (λ g x.
-      cos-no-tie s n w k (2 * m - 1) d (odd-one m (q .some)) (middle (2 * m - 1) g)
+      cos-no-tie s n w k (2 * m - 1) d (odd-middle m (q .some)) (middle (2 * m - 1) g)
       (ap (left s n) g ∙ eqb-true (left s n t) (right s n t) x ∙ sym (ap (right s n) g)))
       (lit< tt)
-    where
-      odd-one : (m : ℕ) → 0 < m → (2 * m - 1) % 2 ≡ 1
-      odd-one m h = omega arith

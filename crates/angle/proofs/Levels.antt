@@ -4,7 +4,9 @@ use mathlib.Core.Logic.{_⊎_, inl, inr}
 use mathlib.Core.Bool.{Bool, true, false, cond}
 use Prim.Native.Nat.{ℕ, _+_, _-_, _*_, _/_, _%_, _^_, _≤_, _<_}
 use native.Mathlib.Omega.{arith}
-use native.Mathlib.Nat.{zero-add, add-zero, one-mul, zero-mul, mul-assoc, add-mul, mul-pos, mul-le-mul-right, mul-le-mul-left, mul-lt-mul-of-pos-right, lt-of-mul-lt-mul-right, lt-of-lt-of-le, lt-of-le-of-lt, le-add-right, le-trans, mod-lt, mod-eq-of-lt, div-add-mod', eq-zero-or-pos, mul-add-div-right, div-lt-iff-lt-mul, sub-le}
+use native.Mathlib.Nat.{zero-add, add-zero, one-mul, zero-mul, mul-assoc, add-mul, mul-pos, mul-le-mul-right}
+use native.Mathlib.Nat.{mul-le-mul-left, mul-lt-mul-of-pos-right, lt-of-mul-lt-mul-right, lt-of-lt-of-le, lt-of-le-of-lt, le-add-right, le-trans, mod-lt}
+use native.Mathlib.Nat.{mod-eq-of-lt, div-add-mod', eq-zero-or-pos, mul-add-div-right, div-lt-iff-lt-mul, sub-le}
 use borrow.Author.Tests.{lt-ltb, le-ltb}
 use lib.Dec.{ltb}
 use lib.Pow.{pow-add, pow-pos, pow-mono, pow-lt}
@@ -26,7 +28,8 @@ joined a b l e = sym (pow-add 2 a b) ∙ ap (λ (x : ℕ). 2 ^ x) e
 pub none : (w k : ℕ) → 0 < w → w < 2 ^ 53 → k < 903 → WholePart w k (value 0 0 0) true
 none w k p h l =
     cut w k 0 (w * 2 ^ k) true (sym (zero-add (w * 2 ^ k)))
-    (lt-of-lt-of-le (mul-lt-mul-of-pos-right h (pow-pos k)) (subst (λ (x : ℕ). x ≤ 2 ^ 966) (pow-add 2 53 k) (pow-mono (let e : 53 + k ≤ 966 = omega arith in e))))
+    (lt-of-lt-of-le (mul-lt-mul-of-pos-right h (pow-pos k)) (subst (λ (x : ℕ). x ≤ 2 ^ 966) (pow-add 2 53 k)
+    (pow-mono (let e : 53 + k ≤ 966 = omega arith in e))))
     (sym (lt-ltb 0 (w * 2 ^ k) (mul-pos p (pow-pos k))))
 
 -- the machine's 1 << d
@@ -45,7 +48,8 @@ low w k a b = subst (λ (x : ℕ). WholePart w k (value 0 0 (w / x)) (ltb 0 (w %
 
     sum : (w d y l : ℕ) → d * y ≡ l → w * y ≡ w / d * l + w % d * y
     sum w d y l e =
-        ap (λ (x : ℕ). x * y) (sym (div-add-mod' w d)) ∙ add-mul (w / d * d) (w % d) y ∙ ap (λ (x : ℕ). x + w % d * y) (mul-assoc (w / d) d y ∙ ap (λ (x : ℕ). w / d * x) e)
+        ap (λ (x : ℕ). x * y) (sym (div-add-mod' w d)) ∙ add-mul (w / d * d) (w % d) y
+        ∙ ap (λ (x : ℕ). x + w % d * y) (mul-assoc (w / d) d y ∙ ap (λ (x : ℕ). w / d * x) e)
 
     some-left : (r y : ℕ) → 0 < y → ltb 0 r ≡ ltb 0 (r * y)
     some-left r y p = go (eq-zero-or-pos r)
@@ -66,11 +70,13 @@ exact : (w k n : ℕ) → 966 ≤ k → n ≡ w * 2 ^ (k - 966) → WholePart w 
 exact w k n a v =
     subst (λ (x : ℕ). WholePart w k x false) (sym v)
     (cut w k (w * 2 ^ (k - 966)) 0 false
-    (sym (add-zero (w * 2 ^ (k - 966) * 2 ^ 966) ∙ mul-assoc w (2 ^ (k - 966)) (2 ^ 966) ∙ ap (λ (x : ℕ). w * x) (joined (k - 966) 966 k (let e : k - 966 + 966 ≡ k = omega arith in e)))) (pow-pos 966) refl)
+    (sym (add-zero (w * 2 ^ (k - 966) * 2 ^ 966) ∙ mul-assoc w (2 ^ (k - 966)) (2 ^ 966)
+    ∙ ap (λ (x : ℕ). w * x) (joined (k - 966) 966 k (let e : k - 966 + 966 ≡ k = omega arith in e)))) (pow-pos 966) refl)
 
 pub mid : (w k h l : ℕ) → 966 ≤ k → k < 1030 → h * 2 ^ 64 + l ≡ w * (1 * 2 ^ (k - 966) % 2 ^ 64) → WholePart w k (value 0 h l) false
 mid w k h l a b e =
-    exact w k (value 0 h l) a (ap (λ (x : ℕ). x * 2 ^ 64 + l) (zero-add h) ∙ e ∙ ap (λ (x : ℕ). w * x) (bit (k - 966) (let q : k - 966 < 64 = omega arith in q)))
+    exact w k (value 0 h l) a (ap (λ (x : ℕ). x * 2 ^ 64 + l) (zero-add h) ∙ e
+    ∙ ap (λ (x : ℕ). w * x) (bit (k - 966) (let q : k - 966 < 64 = omega arith in q)))
 
 pub high : (w k h l : ℕ) → 1030 ≤ k → k < 1074 → h * 2 ^ 64 + l ≡ w * (1 * 2 ^ (k - 1030) % 2 ^ 64) → WholePart w k (value h l 0) false
 high w k h l a b e =
@@ -88,13 +94,15 @@ sum a b c d e f ea eb ec =
     ∙ ap₂ (λ (x y : ℕ). x * 2 ^ 64 + y) (ap₂ (λ (x y : ℕ). x * 2 ^ 64 + y) ea eb) ec
 
 -- with what is carried where there is no rest
-pub filled : (a b c d e f A B C : ℕ) (rest : Bool) {t : Bool} → rest ≡ t → a + d ≡ A → b + e ≡ B → c + f ≡ C → value A B C + cond t 1 0 ≡ 2 ^ 160 → value a b c + value d e f + cond rest 1 0 ≡ 2 ^ 160
+pub filled : (a b c d e f A B C : ℕ) (rest : Bool) {t : Bool} → rest ≡ t → a + d ≡ A → b + e ≡ B → c + f ≡ C
+    → value A B C + cond t 1 0 ≡ 2 ^ 160 → value a b c + value d e f + cond rest 1 0 ≡ 2 ^ 160
 filled a b c d e f A B C rest r ea eb ec whole = ap₂ (λ (x : ℕ) (u : Bool). x + cond u 1 0) (sum a b c d e f ea eb ec) r ∙ whole
 
 pub top-lt : (hi mid lo : ℕ) → value hi mid lo < 2 ^ 160 → hi < 2 ^ 32
 top-lt hi mid lo h =
     lt-of-mul-lt-mul-right (2 ^ 128)
-    (lt-of-le-of-lt (subst (λ (x : ℕ). x ≤ value hi mid lo) (mul-assoc hi (2 ^ 64) (2 ^ 64)) (le-trans (mul-le-mul-right (2 ^ 64) (le-add-right (hi * 2 ^ 64) mid)) (le-add-right ((hi * 2 ^ 64 + mid) * 2 ^ 64) lo))) h)
+    (lt-of-le-of-lt (subst (λ (x : ℕ). x ≤ value hi mid lo) (mul-assoc hi (2 ^ 64) (2 ^ 64))
+    (le-trans (mul-le-mul-right (2 ^ 64) (le-add-right (hi * 2 ^ 64) mid)) (le-add-right ((hi * 2 ^ 64 + mid) * 2 ^ 64) lo))) h)
 
 -- ---- the level
 
@@ -113,19 +121,24 @@ module _ (w k : ℕ) (h : w < 2 ^ 53) (l : k < 1074) where
   level-lt true = div-lt-iff-lt-mul (pow-pos 966) .1 (lt-of-le-of-lt (sub-le (2 ^ 1126) (w * 2 ^ k)) (pow-lt (let e : 1126 < 1127 = omega arith in e)))
 
   pub level-above : (hi mid lo : ℕ) (rest : Bool) → WholePart w k (value hi mid lo) rest → value (2 ^ 32 + hi) mid lo ≡ levelOf false w k
-  level-above hi mid lo rest s = sym (sum (2 ^ 32) 0 0 hi mid lo refl (zero-add mid) (zero-add lo)) ∙ ap (λ (x : ℕ). 2 ^ 160 + x) (s .whole) ∙ sym (mul-add-div-right (pow-pos 966) (2 ^ 160) (w * 2 ^ k))
+  level-above hi mid lo rest s =
+      sym (sum (2 ^ 32) 0 0 hi mid lo refl (zero-add mid) (zero-add lo)) ∙ ap (λ (x : ℕ). 2 ^ 160 + x) (s .whole)
+      ∙ sym (mul-add-div-right (pow-pos 966) (2 ^ 160) (w * 2 ^ k))
 
 -- B * G - a has one more than q whole parts G below B where nothing is left of a
 less-div : (B G a q : ℕ) → 0 < G → q + a / G + cond (ltb 0 (a % G)) 1 0 ≡ B → (B * G - a) / G ≡ q
 less-div B G a q p e = go (eq-zero-or-pos (a % G))
   where
     parts : q * G + a / G * G + cond (ltb 0 (a % G)) 1 0 * G ≡ B * G
-    parts = ap (λ (x : ℕ). x + cond (ltb 0 (a % G)) 1 0 * G) (sym (add-mul q (a / G) G)) ∙ sym (add-mul (q + a / G) (cond (ltb 0 (a % G)) 1 0) G) ∙ ap (λ (x : ℕ). x * G) e
+    parts =
+        ap (λ (x : ℕ). x + cond (ltb 0 (a % G)) 1 0 * G) (sym (add-mul q (a / G) G))
+        ∙ sym (add-mul (q + a / G) (cond (ltb 0 (a % G)) 1 0) G) ∙ ap (λ (x : ℕ). x * G) e
 
     go : (a % G ≡ 0) ⊎ (0 < a % G) → (B * G - a) / G ≡ q
     go (inl z) =
         let d = div-add-mod' a G in
-        let b : q * G + a / G * G + 0 * G ≡ B * G = subst (λ (b : Bool). q * G + a / G * G + cond b 1 0 * G ≡ B * G) (le-ltb 0 (a % G) (let y : a % G ≤ 0 = omega arith in y)) parts in
+        let b : q * G + a / G * G + 0 * G ≡ B * G = subst (λ (b : Bool). q * G + a / G * G + cond b 1 0 * G ≡ B * G)
+        (le-ltb 0 (a % G) (let y : a % G ≤ 0 = omega arith in y)) parts in
         div-unique G q (omega arith) (omega arith)
     go (inr r) =
         let d = div-add-mod' a G in

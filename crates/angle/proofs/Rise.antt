@@ -1,5 +1,5 @@
--- The definition's test, 4t³ ≤ (3t ± n) * 2 ^ 2148 from a half on, is x²(x + 3) ≤ 2(1 ± v) for x = 2c - 1: it grows with t, and on the grid of 2 ^ 1020 units it
--- is the function's test.
+-- The definition's test, 4t³ ≤ (3t ± n) * 2 ^ 2148 from a half on, is x²(x + 3) ≤ 2(1 ± v) for x = 2c - 1: it grows with t, and on the grid of 2 ^ 1020 units
+-- it is the function's test.
 use mathlib.Core.Path.{_≡_, refl, sym, ap, ap₂, _∙_, subst}
 use mathlib.Core.Bool.{Bool, true, false, _||_}
 use Prim.Native.Nat.{ℕ, _+_, _-_, _*_, _/_, _^_, _≤_, _<_, zero-le}
@@ -53,19 +53,24 @@ module _ (H U n t : ℕ) (e : U ≡ 4 * (H * H)) (l : H ≤ t) where
   side-plus =
       let r : (3 * t + n) * U ≡ 4 * (3 * (H * H * t) + n * (H * H)) =
       ap (λ (x : ℕ). (3 * t + n) * x) e ∙ ring 3 (λ t n H. (# 3 :* t :+ n) :* (# 4 :* (H :* H)) := # 4 :* (# 3 :* (H :* H :* t) :+ n :* (H :* H))) tt t n H in
-      let s : (2 * H + n) * (H * H) ≡ 2 * (H * H * H) + n * (H * H) = ring 2 (λ H n. (# 2 :* H :+ n) :* (H :* H) := # 2 :* (H :* H :* H) :+ n :* (H :* H)) tt H n in
-      ap (λ (x : ℕ). leb (4 * (t * t * t)) x) r ∙ moved (t * t * t) (H * H * t) (H * H * H) (n * (H * H)) (rise H t) (cubic H t l) ∙ ap (λ (x : ℕ). leb (rise H t) x) (sym s)
+      let s : (2 * H + n) * (H * H) ≡ 2 * (H * H * H) + n * (H * H) = ring 2
+      (λ H n. (# 2 :* H :+ n) :* (H :* H) := # 2 :* (H :* H :* H) :+ n :* (H :* H)) tt H n in
+      ap (λ (x : ℕ). leb (4 * (t * t * t)) x) r ∙ moved (t * t * t) (H * H * t) (H * H * H) (n * (H * H)) (rise H t) (cubic H t l)
+      ∙ ap (λ (x : ℕ). leb (rise H t) x) (sym s)
     where
       moved : (X A B C R : ℕ) → X + 2 * B ≡ 3 * A + R → leb (4 * X) (4 * (3 * A + C)) ≡ leb R (2 * B + C)
       moved X A B C R c = leb-same (4 * X) (4 * (3 * A + C)) R (2 * B + C) (λ q. omega arith) (λ q. omega arith)
 
   side-minus : n ≤ 2 * H → leb (4 * (t * t * t) + n * U) (3 * t * U) ≡ leb (rise H t) ((2 * H - n) * (H * H))
   side-minus h =
-      let r : 3 * t * U ≡ 4 * (3 * (H * H * t)) = ap (λ (x : ℕ). 3 * t * x) e ∙ ring 2 (λ t H. # 3 :* t :* (# 4 :* (H :* H)) := # 4 :* (# 3 :* (H :* H :* t))) tt t H in
+      let r : 3 * t * U ≡ 4 * (3 * (H * H * t)) = ap (λ (x : ℕ). 3 * t * x) e
+      ∙ ring 2 (λ t H. # 3 :* t :* (# 4 :* (H :* H)) := # 4 :* (# 3 :* (H :* H :* t))) tt t H in
       let s : n * U ≡ 4 * (n * (H * H)) = ap (λ (x : ℕ). n * x) e ∙ ring 2 (λ n H. n :* (# 4 :* (H :* H)) := # 4 :* (n :* (H :* H))) tt n H in
       let q : (2 * H - n) * (H * H) + n * (H * H) ≡ 2 * (H * H * H) =
-      sym (add-mul (2 * H - n) n (H * H)) ∙ ap (λ (x : ℕ). x * (H * H)) (let z : 2 * H - n + n ≡ 2 * H = omega arith in z) ∙ ring 1 (λ H. # 2 :* H :* (H :* H) := # 2 :* (H :* H :* H)) tt H in
-      ap₂ (λ (x y : ℕ). leb (4 * (t * t * t) + x) y) s r ∙ moved (t * t * t) (H * H * t) (H * H * H) (n * (H * H)) (rise H t) ((2 * H - n) * (H * H)) (cubic H t l) q
+      sym (add-mul (2 * H - n) n (H * H)) ∙ ap (λ (x : ℕ). x * (H * H)) (let z : 2 * H - n + n ≡ 2 * H = omega arith in z)
+      ∙ ring 1 (λ H. # 2 :* H :* (H :* H) := # 2 :* (H :* H :* H)) tt H in
+      ap₂ (λ (x y : ℕ). leb (4 * (t * t * t) + x) y) s r ∙ moved (t * t * t) (H * H * t) (H * H * H) (n * (H * H)) (rise H t)
+      ((2 * H - n) * (H * H)) (cubic H t l) q
     where
       moved : (X A B C R Q : ℕ) → X + 2 * B ≡ 3 * A + R → Q + C ≡ 2 * B → leb (4 * X + 4 * C) (4 * (3 * A)) ≡ leb R Q
       moved X A B C R Q c d = leb-same (4 * X + 4 * C) (4 * (3 * A)) R Q (λ q. omega arith) (λ q. omega arith)
@@ -79,13 +84,16 @@ below-is s n t h = go (leb t (2 ^ 1073)) refl
     side true l = side-minus (2 ^ 1073) (2 ^ 2148) n t refl l h
 
     go : (b : Bool) → leb t (2 ^ 1073) ≡ b → b || leb (left s n t) (right s n t) ≡ leb (rise (2 ^ 1073) t) (onePlus s (2 ^ 1074) n * (2 ^ 1073 * 2 ^ 1073))
-    go true e = sym (ap (λ (x : ℕ). leb x (onePlus s (2 ^ 1074) n * (2 ^ 1073 * 2 ^ 1073))) (rise-none (2 ^ 1073) t (leb-true t (2 ^ 1073) e)) ∙ le-leb 0 (onePlus s (2 ^ 1074) n * (2 ^ 1073 * 2 ^ 1073)) zero-le)
+    go true e =
+        sym (ap (λ (x : ℕ). leb x (onePlus s (2 ^ 1074) n * (2 ^ 1073 * 2 ^ 1073))) (rise-none (2 ^ 1073) t (leb-true t (2 ^ 1073) e))
+        ∙ le-leb 0 (onePlus s (2 ^ 1074) n * (2 ^ 1073 * 2 ^ 1073)) zero-le)
     go false e = side s (le-of-lt (leb-false t (2 ^ 1073) e))
 
 pub monotone : (s : Bool) (n : ℕ) → n ≤ 2 ^ 1074 → Monotone (atMostSolution s n)
 monotone s n h a b l t =
     let Q = onePlus s (2 ^ 1074) n * (2 ^ 1073 * 2 ^ 1073) in
-    subst T (sym (below-is s n a h)) (le→leb (rise (2 ^ 1073) a) Q (le-trans (rise-ordered (2 ^ 1073) a b l) (leb→le (rise (2 ^ 1073) b) Q (subst T (below-is s n b h) t))))
+    subst T (sym (below-is s n a h)) (le→leb (rise (2 ^ 1073) a) Q
+    (le-trans (rise-ordered (2 ^ 1073) a b l) (leb→le (rise (2 ^ 1073) b) Q (subst T (below-is s n b h) t))))
 
 -- ---- on the grid: K is the square of a half and X³ = Y * K, with P for 2 ^ 52 and G for Y * P
 
@@ -101,7 +109,8 @@ pub grid : (s : Bool) (n w k t : ℕ) → n ≤ 2 ^ 1074 → Normal n w k → at
 grid s n w k t h d =
     below-is s n (t * 2 ^ 1020) h
     ∙ ap (λ (x : ℕ). leb x (onePlus s (2 ^ 1074) n * (2 ^ 1073 * 2 ^ 1073))) (rise-scaled (2 ^ 53) t (2 ^ 1020))
-    ∙ on-level (rise (2 ^ 53) t) (onePlus s (2 ^ 1074) n) (2 ^ 2146) (2 ^ 914) (2 ^ 52) (onePlus s (2 ^ 1126) (w * 2 ^ k)) (2 ^ 966) (pow-pos 2146) (pow-pos 52) (pow-pos 966) refl (scaled s)
+    ∙ on-level (rise (2 ^ 53) t) (onePlus s (2 ^ 1074) n) (2 ^ 2146) (2 ^ 914) (2 ^ 52) (onePlus s (2 ^ 1126) (w * 2 ^ k)) (2 ^ 966)
+    (pow-pos 2146) (pow-pos 52) (pow-pos 966) refl (scaled s)
   where
     scaled : (s : Bool) → onePlus s (2 ^ 1074) n * 2 ^ 52 ≡ onePlus s (2 ^ 1126) (w * 2 ^ k)
     scaled false = add-mul (2 ^ 1074) n (2 ^ 52) ∙ ap (λ (x : ℕ). 2 ^ 1126 + x) (sym (d .value))

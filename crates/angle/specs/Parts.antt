@@ -48,8 +48,8 @@ pub record Shift (n w h : ℕ) : Type 0 where
   pub short : w < 2 ^ 53
   pub reach : h ≤ 26
 
--- With c = m / 2 ^ 53: 1 - c² is (2 ^ 53 - m) * (2 ^ 53 + m) of 2 ^ -106, and times 2 ^ 2042 the number of two words times the square of 2 ^ k. It is even and has
--- 107 or 108 digits.
+-- With c = m / 2 ^ 53: 1 - c² is (2 ^ 53 - m) * (2 ^ 53 + m) of 2 ^ -106, and times 2 ^ 2042 the number of two words times the square of 2 ^ k. It is even and
+-- has 107 or 108 digits.
 pub record SineSquare (m hi lo k : ℕ) : Type 0 where
   pub square : (2 ^ 53 - m) * (2 ^ 53 + m) * 2 ^ 2042 ≡ (hi * 2 ^ 64 + lo) * (2 ^ k * 2 ^ k)
   pub least : 2 ^ 42 ≤ hi

@@ -37,7 +37,8 @@ cosOf (fin s m e) =
     let t = cosUnits s n in
     cond (leb n (2 ^ 1074)) (nearestOf t (eqb (left s n t) (right s n t))) nan
 
--- s is 'the double nearest √(1 − c²) for that rounded c', which is from a half to 1. NaN for a NaN. With u units for c, 1 - c² is 2 ^ 2148 - u * u of 2 ^ -2148.
+-- s is 'the double nearest √(1 − c²) for that rounded c', which is from a half to 1. NaN for a NaN. With u units for c, 1 - c² is 2 ^ 2148 - u * u of 2 ^
+-- -2148.
 unfoldable pub sinOf : Float → Float
 unfolding nearestOf
 sinOf nan = nan

@@ -1,5 +1,5 @@
 -- Walks with the replies at hand: a walk through t and then k is a walk through t and on through k, a loop goes on turn by turn, and a reply more is
--- needed at a question alone. Assumes nothing.
+-- needed at a question alone.
 use mathlib.Core.Path.{_≡_, refl, sym, ap, _∙_}
 use mathlib.Core.Bool.{Bool}
 use mathlib.Core.List.{List, [], _∷_, _++_}

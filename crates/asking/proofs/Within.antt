@@ -1,4 +1,4 @@
--- Bounds that hold whatever the replies: made from those of the parts, and what they give for a function and for a list of replies. Assumes nothing.
+-- Bounds that hold whatever the replies: made from those of the parts, and what they give for a function and for a list of replies.
 use mathlib.Core.Bool.{Bool, true, false, cond}
 use mathlib.Core.List.{List, [], _∷_}
 use Prim.Native.Nat.{ℕ, zero, suc, _≤_, _<_}
@@ -53,11 +53,13 @@ module _ {A B : Type 0} where
 
 module _ {S X : Type 0} where
   -- a loop's invariant: of the questions left, the state, and the list left
-  pub each-within : (f : S → X → Asking S) (I : ℕ → S → List X → Type 0) → ((n : ℕ) (s : S) (x : X) (xs : List X) → I n s (x ∷ xs) → EndsWithin n (f s x) (λ m s′. I m s′ xs))
+  pub each-within : (f : S → X → Asking S) (I : ℕ → S → List X → Type 0)
+      → ((n : ℕ) (s : S) (x : X) (xs : List X) → I n s (x ∷ xs) → EndsWithin n (f s x) (λ m s′. I m s′ xs))
       → (xs : List X) (n : ℕ) (s : S) → I n s xs → EndsWithin n (each f s xs) (λ m s′. I m s′ [])
   unfolding each
   each-within f I step [] n s i = i
   each-within f I step (x ∷ xs) n s i =
       let Q : ℕ → S → Type 0 = λ m s′. I m s′ [] in
       let go : S → Asking S = λ s′. each f s′ xs in
-      then-within Q n (f s x) go (weaken (λ m s′. I m s′ xs) (λ m s′. EndsWithin m (go s′) Q) n (f s x) (λ m s′ j. each-within f I step xs m s′ j) (step n s x xs i))
+      then-within Q n (f s x) go (weaken (λ m s′. I m s′ xs) (λ m s′. EndsWithin m (go s′) Q) n (f s x)
+      (λ m s′ j. each-within f I step xs m s′ j) (step n s x xs i))

@@ -1,5 +1,5 @@
--- A computation that asks yes-or-no questions about places. A Rust function that takes a closure `touches` is written once, as an Asking, and read in two ways: by a
--- function, as the Rust does; and by a list of replies, as an inquiry does. Definitions only.
+-- A computation that asks yes-or-no questions about places. A Rust function that takes a closure `touches` is written once, as an Asking, and read in two ways:
+-- by a function, as the Rust does; and by a list of replies, as an inquiry does. Definitions only.
 use mathlib.Core.Bool.{Bool}
 use mathlib.Core.List.{List, [], _∷_}
 use lib.Ieee.{Float}

@@ -1,4 +1,4 @@
--- The last way out of `within_band`, and what it looks at. Assumes nothing.
+-- The last way out of `within_band`, and what it looks at.
 use mathlib.Core.Path.{_≡_, refl, sym}
 use mathlib.Core.Bool.{false}
 use lib.ListN.{getD}
@@ -8,7 +8,8 @@ use Rattle.scaled.specs.declared.Scaled.{Scaled}
 use Rattle.band.specs.Band.{budgetOf, noiseWithin, noiseOf, baseOf, withinBandOf, bare}
 
 -- ---- the band: beyond the caller's, and not beyond the crude bound: the noise decides
-pub noise-decides : (poly : Scaled) (half y tol : Float) {base budget power lead noise : Float} → base ≡ baseOf (poly .unit) y tol → budget ≡ budgetOf (poly .f) (poly .d) y
+pub noise-decides : (poly : Scaled) (half y tol : Float) {base budget power lead noise : Float} → base ≡ baseOf (poly .unit) y tol
+    → budget ≡ budgetOf (poly .f) (poly .d) y
     → power ≡ powiOf (sub binary64 half base) (poly .d) → lead ≡ absOf (getD (poly .f) (poly .d) nan) → noise ≡ noiseWithin (poly .f) (poly .d) y budget
     → le half base ≡ false → lt budget (mul binary64 power lead) ≡ false → le half (add binary64 base noise) ≡ withinBandOf poly half y tol
 unfolding withinBandOf noiseOf

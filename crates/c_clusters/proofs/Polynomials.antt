@@ -1,5 +1,4 @@
 -- What the C functions below the list are handed, and that counts and multiplicities stay within theirs.
--- Assumes nothing.
 use mathlib.Core.Path.{_≡_, refl, sym, subst⁻¹, _∙_}
 use mathlib.Core.Bool.{Bool, false, _||_}
 use mathlib.Core.List.{List, [], _∷_}
@@ -60,11 +59,13 @@ factor-fits s (double y) h k = (kept-fits _ _ h, k)
 factor-fits s (apart y z) h k = (kept-fits _ _ (kept-fits _ _ h), k)
 factor-fits s (complex p) h k = (h, paired-fits _ _ k)
 
-pub quadratic-fits : (poly : Scaled) (al be tol : Float) (c : List ℕ) (n m : ℕ) {out : Roots} {pairs : Pairs} {s : Found} → n ≤ 4 → m ≤ 2 → out ≡ candidatesAt c n → pairs ≡ pairsAt c m
+pub quadratic-fits : (poly : Scaled) (al be tol : Float) (c : List ℕ) (n m : ℕ) {out : Roots} {pairs : Pairs} {s : Found} → n ≤ 4 → m ≤ 2
+    → out ≡ candidatesAt c n → pairs ≡ pairsAt c m
     → s ≡ pushQuadraticIn poly al be tol out pairs → Fits (s .roots) × PairsFit (s .pairs)
 unfolding pushQuadraticIn
 quadratic-fits poly al be tol c n m h k o p e =
-    let fit = factor-fits (record { roots = candidatesAt c n; pairs = pairsAt c m }) (quadraticRootsOf poly al be tol) (candidates-fit c n h) (pairs-fit c m k) in
+    let fit = factor-fits (record { roots = candidatesAt c n; pairs = pairsAt c m }) (quadraticRootsOf poly al be tol)
+    (candidates-fit c n h) (pairs-fit c m k) in
     rw (e, o, p) fit
 
 pub finish-fits : (poly : Scaled) (c : List RealRoot) (tol : Float) {s : Roots} → s ≡ rootsOf (finishOf poly c tol) → Fits s

@@ -1,8 +1,8 @@
 // Layer 6 below the list as C functions on numbers and byte slices, under the contracts of what they pass on to: the band, what is found in it, polishing
 // and the finished roots, each for the polynomial Scaled::new of five doubles in 40 bytes and a degree. A number is NaN, a truth false, and nothing is
 // stored, where the doubles have fewer bytes or the degree is above 4. No C function here requires anything.
-// `rt staticlib c_clusters` makes of them one of the archives that the test host links. It rests on the crates whose functions it hands out, and on `lent_bytes`;
-// `c_roots` rests on it.
+// `rt staticlib c_clusters` makes of them one of the archives that the test host links. It rests on the crates whose functions it hands out, and on
+// `lent_bytes`; `c_roots` rests on it.
 ghost use mathlib.Core.Path.{_≡_};
 ghost use mathlib.Core.Bool.{false};
 ghost use Prim.Native.Nat.{_^_, _≤_, _<_};
@@ -14,7 +14,8 @@ ghost use Rattle.band.specs.Band.{noiseOf, bandOf, withinBandOf};
 ghost use Rattle.critical.specs.Critical.{criticalPointOf, extremumOf};
 ghost use Rattle.polish.specs.Polish.{polishOf};
 ghost use Rattle.lent_bytes.specs.Bytes.{lacksFive, unless, Stored};
-ghost use Rattle.c_clusters.specs.Clustering.{polyAt, turningOrNan, candidateAt, lacksOf, candidatesAt, pairsAt, rootNumbers, foundNumbers, pushedNumbers, finishedNumbers};
+ghost use Rattle.c_clusters.specs.Clustering.{polyAt, turningOrNan, candidateAt, lacksOf, candidatesAt};
+ghost use Rattle.c_clusters.specs.Clustering.{pairsAt, rootNumbers, foundNumbers, pushedNumbers, finishedNumbers};
 use lent_bytes::five_at;
 use lent_bytes::lacks_five;
 use lent_bytes::store;

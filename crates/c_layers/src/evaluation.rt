@@ -1,5 +1,5 @@
-// Evaluation: all numbers of an answer as doubles, one after another, in lent bytes; how many bytes are stored. Nothing is stored where the five doubles of p have fewer
-// than 40 bytes, where the degree is above 4, or where the bytes lent are too few.
+// Evaluation: all numbers of an answer as doubles, one after another, in lent bytes; how many bytes are stored. Nothing is stored where the five doubles of p
+// have fewer than 40 bytes, where the degree is above 4, or where the bytes lent are too few.
 ghost use mathlib.Core.Path.{_≡_};
 ghost use mathlib.Core.List.{[]};
 ghost use Rattle.horner.specs.Product.{twoProdOf, discriminantOf};
@@ -28,7 +28,8 @@ pub extern "C" fn discriminant(al: f64, be: f64) -> f64
 
 #[no_mangle]
 pub extern "C" fn value_slope(p: &[u8], d: u64, y: f64, out: &mut [u8]) -> u64
-    ensures { λ r. ⌜ Stored (unless [] (lacksFive (now (p .entry)) d) (slopeNumbers (valueSlopeOf (fiveAt (now (p .entry))) d y))) (now (out .entry)) r (now (out .exit)) ⌝ }
+    ensures { λ r. ⌜ Stored (unless [] (lacksFive (now (p .entry)) d) (slopeNumbers (valueSlopeOf (fiveAt (now (p .entry))) d y)))
+        (now (out .entry)) r (now (out .exit)) ⌝ }
 {
     if lacks_five(p, d) {
         return 0;
@@ -39,7 +40,8 @@ pub extern "C" fn value_slope(p: &[u8], d: u64, y: f64, out: &mut [u8]) -> u64
 
 #[no_mangle]
 pub extern "C" fn value_slope_compensated(p: &[u8], d: u64, y: f64, out: &mut [u8]) -> u64
-    ensures { λ r. ⌜ Stored (unless [] (lacksFive (now (p .entry)) d) (slopeNumbers (valueSlopeCompensatedOf (fiveAt (now (p .entry))) d y))) (now (out .entry)) r (now (out .exit)) ⌝ }
+    ensures { λ r. ⌜ Stored (unless [] (lacksFive (now (p .entry)) d)
+        (slopeNumbers (valueSlopeCompensatedOf (fiveAt (now (p .entry))) d y))) (now (out .entry)) r (now (out .exit)) ⌝ }
 {
     if lacks_five(p, d) {
         return 0;
@@ -50,7 +52,8 @@ pub extern "C" fn value_slope_compensated(p: &[u8], d: u64, y: f64, out: &mut [u
 
 #[no_mangle]
 pub extern "C" fn derivs12(p: &[u8], d: u64, y: f64, out: &mut [u8]) -> u64
-    ensures { λ r. ⌜ Stored (unless [] (lacksFive (now (p .entry)) d) (derivsNumbers (derivs12Of (fiveAt (now (p .entry))) d y))) (now (out .entry)) r (now (out .exit)) ⌝ }
+    ensures { λ r. ⌜ Stored (unless [] (lacksFive (now (p .entry)) d) (derivsNumbers (derivs12Of (fiveAt (now (p .entry))) d y)))
+        (now (out .entry)) r (now (out .exit)) ⌝ }
 {
     if lacks_five(p, d) {
         return 0;

@@ -1,5 +1,5 @@
-// Factors of cubics and quartics: all numbers of an answer as doubles, one after another, in lent bytes; how many bytes are stored, 0 and nothing where those lent are
-// too few.
+// Factors of cubics and quartics: all numbers of an answer as doubles, one after another, in lent bytes; how many bytes are stored, 0 and nothing where those
+// lent are too few.
 ghost use mathlib.Core.Path.{_≡_};
 ghost use Rattle.cubic.specs.Cubic.{cubicClosedFormOf, cubicFactorOf};
 ghost use Rattle.quartic.specs.Quartic.{quarticFactorOf};

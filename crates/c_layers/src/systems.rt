@@ -1,5 +1,5 @@
-// Square systems: all numbers of an answer as doubles, one after another, in lent bytes; how many bytes are stored. Nothing is stored where the bytes handed in are short,
-// or where those lent are too few.
+// Square systems: all numbers of an answer as doubles, one after another, in lent bytes; how many bytes are stored. Nothing is stored where the bytes handed in
+// are short, or where those lent are too few.
 ghost use mathlib.Core.Path.{_≡_};
 ghost use mathlib.Core.List.{[], _∷_};
 ghost use lib.Dec.{ltb};
@@ -19,7 +19,8 @@ use lent_bytes::three_at;
 // Of a system row by row, and its right-hand side: 1 and the unknowns, or zeros where there is no answer.
 #[no_mangle]
 pub extern "C" fn solve_square3(s: &[u8], tol: f64, out: &mut [u8]) -> u64
-    ensures { λ r. ⌜ Stored (unless [] (ltb (length (now (s .entry))) 96) (step3Numbers (step3 (solveSquareOf 3 (threeRows (now (s .entry))) (f64sAt 3 (now (s .entry)) 72) tol)))) (now (out .entry)) r (now (out .exit)) ⌝ }
+    ensures { λ r. ⌜ Stored (unless [] (ltb (length (now (s .entry))) 96)
+        (step3Numbers (step3 (solveSquareOf 3 (threeRows (now (s .entry))) (f64sAt 3 (now (s .entry)) 72) tol)))) (now (out .entry)) r (now (out .exit)) ⌝ }
 {
     if s.len() < 96 {
         return 0;
@@ -33,7 +34,8 @@ pub extern "C" fn solve_square3(s: &[u8], tol: f64, out: &mut [u8]) -> u64
 
 #[no_mangle]
 pub extern "C" fn solve_square4(s: &[u8], tol: f64, out: &mut [u8]) -> u64
-    ensures { λ r. ⌜ Stored (unless [] (ltb (length (now (s .entry))) 160) (step4Numbers (step4 (solveSquareOf 4 (fourRows (now (s .entry))) (f64sAt 4 (now (s .entry)) 128) tol)))) (now (out .entry)) r (now (out .exit)) ⌝ }
+    ensures { λ r. ⌜ Stored (unless [] (ltb (length (now (s .entry))) 160)
+        (step4Numbers (step4 (solveSquareOf 4 (fourRows (now (s .entry))) (f64sAt 4 (now (s .entry)) 128) tol)))) (now (out .entry)) r (now (out .exit)) ⌝ }
 {
     if s.len() < 160 {
         return 0;
@@ -52,7 +54,8 @@ pub extern "C" fn solve_square4(s: &[u8], tol: f64, out: &mut [u8]) -> u64
 
 #[no_mangle]
 pub extern "C" fn refine_cubic(b: f64, c: f64, d: f64, x: &[u8], out: &mut [u8]) -> u64
-    ensures { λ r. ⌜ Stored (unless [] (ltb (length (now (x .entry))) 24) (refineOf 3 (cubicSystem b c d) (f64sAt 3 (now (x .entry)) 0))) (now (out .entry)) r (now (out .exit)) ⌝ }
+    ensures { λ r. ⌜ Stored (unless [] (ltb (length (now (x .entry))) 24) (refineOf 3 (cubicSystem b c d) (f64sAt 3 (now (x .entry)) 0)))
+        (now (out .entry)) r (now (out .exit)) ⌝ }
 {
     if x.len() < 24 {
         return 0;
@@ -62,7 +65,8 @@ pub extern "C" fn refine_cubic(b: f64, c: f64, d: f64, x: &[u8], out: &mut [u8])
 
 #[no_mangle]
 pub extern "C" fn refine_quartic(b: f64, c: f64, d: f64, e: f64, x: &[u8], out: &mut [u8]) -> u64
-    ensures { λ r. ⌜ Stored (unless [] (ltb (length (now (x .entry))) 32) (refineOf 4 (quarticSystem b c d e) (f64sAt 4 (now (x .entry)) 0))) (now (out .entry)) r (now (out .exit)) ⌝ }
+    ensures { λ r. ⌜ Stored (unless [] (ltb (length (now (x .entry))) 32)
+        (refineOf 4 (quarticSystem b c d e) (f64sAt 4 (now (x .entry)) 0))) (now (out .entry)) r (now (out .exit)) ⌝ }
 {
     if x.len() < 32 {
         return 0;
@@ -72,7 +76,8 @@ pub extern "C" fn refine_quartic(b: f64, c: f64, d: f64, e: f64, x: &[u8], out: 
 
 #[no_mangle]
 pub extern "C" fn refine_peel(b: f64, c: f64, d: f64, e: f64, x: &[u8], out: &mut [u8]) -> u64
-    ensures { λ r. ⌜ Stored (unless [] (ltb (length (now (x .entry))) 32) (refineOf 4 (peelSystem b c d e) (f64sAt 4 (now (x .entry)) 0))) (now (out .entry)) r (now (out .exit)) ⌝ }
+    ensures { λ r. ⌜ Stored (unless [] (ltb (length (now (x .entry))) 32) (refineOf 4 (peelSystem b c d e) (f64sAt 4 (now (x .entry)) 0)))
+        (now (out .entry)) r (now (out .exit)) ⌝ }
 {
     if x.len() < 32 {
         return 0;

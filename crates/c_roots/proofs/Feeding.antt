@@ -1,5 +1,4 @@
 -- Replies fed one after another, and the numbers that say what an inquiry shows.
--- Assumes nothing.
 use mathlib.Core.Path.{_≡_, ap}
 use mathlib.Core.Bool.{Bool, cond}
 use mathlib.Core.List.{List, [], _∷_}
@@ -25,7 +24,8 @@ module _ {A : Type 0} (f : A → Bool → A) (rs : List ℕ) (i : ℕ) (p : A) w
 
 -- from the numbers of the list, in an array
 pub shown-is : (n : ℕ) (asks : Bool) (place x : Float) (list : Roots) (l : List Float) → x ≡ cond asks one64 zero64 → l ≡ rootNumbers list
-    → number n ∷ x ∷ place ∷ getD l 0 nan ∷ getD l 1 nan ∷ getD l 2 nan ∷ getD l 3 nan ∷ getD l 4 nan ∷ getD l 5 nan ∷ getD l 6 nan ∷ getD l 7 nan ∷ getD l 8 nan ∷ []
+    → number n ∷ x ∷ place ∷ getD l 0 nan ∷ getD l 1 nan ∷ getD l 2 nan ∷ getD l 3 nan ∷ getD l 4 nan ∷ getD l 5 nan ∷ getD l 6 nan
+    ∷ getD l 7 nan ∷ getD l 8 nan ∷ []
     ≡ shownNumbers n asks place list
 unfolding shownNumbers rootNumbers
 shown-is n asks place x list l e f = rw (f, e)

@@ -1,5 +1,4 @@
 -- What an answer to doubles in lent bytes says and stores.
--- Assumes nothing.
 use mathlib.Core.Path.{_≡_}
 use mathlib.Core.Bool.{Bool, true, false}
 use mathlib.Core.List.{List, []}

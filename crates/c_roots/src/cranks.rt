@@ -1,5 +1,5 @@
-// Crank equations in lent bytes, from the start: the replies so far in, one byte each, 0 for no; k and then what the inquiry shows out, as for a list, thirteen doubles.
-// The answer is how many bytes are stored, 104, or the number of the refused start, or 0 where those lent are too few: nothing is stored then.
+// Crank equations in lent bytes, from the start: the replies so far in, one byte each, 0 for no; k and then what the inquiry shows out, as for a list, thirteen
+// doubles. The answer is how many bytes are stored, 104, or the number of the refused start, or 0 where those lent are too few: nothing is stored then.
 ghost use mathlib.Core.Path.{_≡_};
 ghost use Rattle.crank.specs.Crank.{crankStartOf};
 ghost use Rattle.lent_bytes.specs.Bytes.{Answered};
@@ -43,7 +43,8 @@ pub extern "C" fn crank_inquire(
     replies: &[u8],
     out: &mut [u8],
 ) -> u64
-    ensures { λ r. ⌜ Answered (crankStartOf confusion a2 b2 c1 d1 e .number) (shownAfter (now (replies .entry)) (crankStartOf confusion a2 b2 c1 d1 e)) (now (out .entry)) r (now (out .exit)) ⌝ }
+    ensures { λ r. ⌜ Answered (crankStartOf confusion a2 b2 c1 d1 e .number)
+        (shownAfter (now (replies .entry)) (crankStartOf confusion a2 b2 c1 d1 e)) (now (out .entry)) r (now (out .exit)) ⌝ }
 {
     let s = crank::shown_after(confusion, a2, b2, c1, d1, e, first_replies(replies));
     answer(out, s.number, &crank_shown_numbers(s))

@@ -1,6 +1,6 @@
-// Inquiries in lent bytes, from the start: coefficients as for a list and the replies so far in, one byte each, 0 for no; what the inquiry shows then out, as doubles:
-// 0, or 4 where a reply was refused; 1 and the place where it asks, 0 and 0 where not; and the list as for `real_roots`. The answer is how many bytes are stored, 96,
-// or the number of the refused start, or 0 where the bytes are no whole doubles or where those lent are too few: nothing is stored then.
+// Inquiries in lent bytes, from the start: coefficients as for a list and the replies so far in, one byte each, 0 for no; what the inquiry shows then out, as
+// doubles: 0, or 4 where a reply was refused; 1 and the place where it asks, 0 and 0 where not; and the list as for `real_roots`. The answer is how many bytes
+// are stored, 96, or the number of the refused start, or 0 where the bytes are no whole doubles or where those lent are too few: nothing is stored then.
 ghost use mathlib.Core.Path.{_≡_};
 ghost use Rattle.roots.specs.Listed.{Fits};
 ghost use Rattle.lent_bytes.specs.Bytes.{Answered};
@@ -66,7 +66,8 @@ pub fn seen_numbers(s: Seen) -> [f64; 12]
 
 #[no_mangle]
 pub extern "C" fn inquire(coeffs: &[u8], tol: f64, replies: &[u8], out: &mut [u8]) -> u64
-    ensures { λ r. ⌜ Answered (inquiryRefusal (now (coeffs .entry)) tol) (shownAt (now (coeffs .entry)) tol (now (replies .entry))) (now (out .entry)) r (now (out .exit)) ⌝ }
+    ensures { λ r. ⌜ Answered (inquiryRefusal (now (coeffs .entry)) tol) (shownAt (now (coeffs .entry)) tol (now (replies .entry)))
+        (now (out .entry)) r (now (out .exit)) ⌝ }
 {
     if not_doubles(coeffs) {
         return 0;

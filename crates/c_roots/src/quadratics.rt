@@ -1,6 +1,6 @@
-// Quadratics and the crank's quartic in lent bytes. A quadratic's answer is three doubles: its number, 0 to 4 for two, one, linear, degenerate and empty, and its first
-// and second place, NaN where there is none. What is said is how many bytes are stored, or the number of the refusal, or 0 where the bytes lent are too few: nothing is
-// stored then.
+// Quadratics and the crank's quartic in lent bytes. A quadratic's answer is three doubles: its number, 0 to 4 for two, one, linear, degenerate and empty, and
+// its first and second place, NaN where there is none. What is said is how many bytes are stored, or the number of the refusal, or 0 where the bytes lent are
+// too few: nothing is stored then.
 ghost use mathlib.Core.Path.{_≡_};
 ghost use Rattle.solution.specs.Solution.{shiftedOf, touchingAtOf};
 ghost use Rattle.equation.specs.Quadratic.{quadraticCentreOf, solveQuadraticOf, quadraticOf};
@@ -34,7 +34,8 @@ pub extern "C" fn quadratic(
     angular: f64,
     out: &mut [u8],
 ) -> u64
-    ensures { λ r. ⌜ Answered (quadraticOf a b c confusion angular .number) (solutionNumbers (quadraticOf a b c confusion angular .solution)) (now (out .entry)) r (now (out .exit)) ⌝ }
+    ensures { λ r. ⌜ Answered (quadraticOf a b c confusion angular .number)
+        (solutionNumbers (quadraticOf a b c confusion angular .solution)) (now (out .entry)) r (now (out .exit)) ⌝ }
 {
     let x = equation::quadratic(a, b, c, confusion, angular);
     let s = x.solution;

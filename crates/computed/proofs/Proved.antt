@@ -1,6 +1,7 @@
--- The proof of specs/Computed: each value is what the definition computes to. Assumes nothing.
+-- The proof of specs/Computed: each value is what the definition computes to.
 use mathlib.Core.Path.{refl}
-use Rattle.computed.specs.Computed.{Computed, DoubleValues, Squares, Quartics, Scaling, Splitting, FactorValues, Factorizing, Bands, PolishValues, Inquiring, Equations}
+use Rattle.computed.specs.Computed.{Computed, DoubleValues, Squares, Quartics, Scaling, Splitting}
+use Rattle.computed.specs.Computed.{FactorValues, Factorizing, Bands, PolishValues, Inquiring, Equations}
 use Rattle.computed.proofs.Unfolded.{arithmetic, evaluation, factoring, scaling, solving}
 use Rattle.computed.proofs.Steps.{steps}
 

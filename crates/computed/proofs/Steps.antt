@@ -1,5 +1,5 @@
 -- A step that is not finite is never kept: not in polishing, where the value at the next place is a NaN, and not in refinement, where the next norm is
--- infinite or a NaN. Assumes nothing.
+-- infinite or a NaN.
 use mathlib.Core.Path.{_≡_, refl, ap, _∙_, sym}
 use mathlib.Core.Bool.{Bool, true, false, true≢false, cond, not, _&&_, _||_}
 use mathlib.Core.List.{List, [], _∷_}
@@ -260,7 +260,8 @@ module _ (sys : System) (x : List Float) (current : Float) (f : isFiniteOf curre
   Found : List Float → Type 0
   Found step = allFiniteOf step ≡ false → huge (normOf (weightedOf 4 (sys .res (moved 4 x step)) (sys .mag (moved 4 x step)))) ≡ true
 
-  four : ((s t u v : Float) → Found (s ∷ t ∷ u ∷ v ∷ [])) → (step : List Float) → length step ≡ 4 → allFiniteOf step ≡ false → keptOf 4 sys current (some (moved 4 x step)) ≡ none
+  four : ((s t u v : Float) → Found (s ∷ t ∷ u ∷ v ∷ [])) → (step : List Float) → length step ≡ 4 → allFiniteOf step ≡ false
+      → keptOf 4 sys current (some (moved 4 x step)) ≡ none
   unfolding Found
   four found step e h = not-kept 4 sys current f (moved 4 x step) (of-four Found found step e h)
 

@@ -92,11 +92,13 @@ pub record Quartics : Type 0 where
   -- the same, for the places -1 and 1 and two that are NaN; not the last of equally isolated quartic roots
   pub first-of-equals : isolatedRootOf (record { al = zero64; be = neg one64; ga = nan; de = nan }) ≡ At (neg one64)
   -- 522 and 523, for (y - 1) * y^3; not the cluster's root before the peeled one
-  pub peeled-first : (quads : QuarticFactor) → pairedOf (neg one64) zero64 zero64 zero64 quads (At one64) ≡ factors (one64 ∷ zero64 ∷ []) (quadOf zero64 zero64 ∷ [])
+  pub peeled-first : (quads : QuarticFactor) → pairedOf (neg one64) zero64 zero64 zero64 quads (At one64)
+      ≡ factors (one64 ∷ zero64 ∷ []) (quadOf zero64 zero64 ∷ [])
 
 pub record Scaling : Type 0 where
   -- 267, `lg[i] += shift`: 2^-1075 becomes 0 as f_0, and lg_0 is -1075; not lg from the scaled coefficient (then it is minus infinity)
-  pub lg-unscaled : let s = scaledOf (1 /2^ 1074 ∷ zero64 ∷ two64 ∷ two64 ∷ zero64 ∷ []) 3 in (getD (s .f) 0 nan ≡ zero64) × (getD (s .lg) 0 nan ≡ neg (1075 /2^ 0))
+  pub lg-unscaled : let s = scaledOf (1 /2^ 1074 ∷ zero64 ∷ two64 ∷ two64 ∷ zero64 ∷ []) 3 in (getD (s .f) 0 nan ≡ zero64)
+      × (getD (s .lg) 0 nan ≡ neg (1075 /2^ 0))
 
 pub record Splitting : Type 0 where
   -- 638, `cross >= 0.0`, at three points of one line; not: points on an edge stay in the hull
@@ -183,7 +185,8 @@ pub record PolishValues : Type 0 where
 
 pub record Inquiring : Type 0 where
   -- 120, `if pairs.len > 0`; not items always sorted
-  pub no-pair : answered (λ x. false) (touching (bare (zero64 ∷ one64 ∷ []) 1 one64) zero64 (root two64 1 ∷ root one64 1 ∷ []) []) ≡ root two64 1 ∷ root one64 1 ∷ []
+  pub no-pair : answered (λ x. false) (touching (bare (zero64 ∷ one64 ∷ []) 1 one64) zero64 (root two64 1 ∷ root one64 1 ∷ []) [])
+      ≡ root two64 1 ∷ root one64 1 ∷ []
   -- 121, `total_cmp`; not: -0 and +0 are ties among items
   pub zeros-in-order : ordered (pair zero64 one64 ∷ []) (root zero64 1 ∷ root minusZero 1 ∷ []) ≡ root minusZero 1 ∷ root zero64 1 ∷ []
   -- 'ties stay in their earlier order'; not items of equal place in the other order

@@ -1,4 +1,4 @@
--- The two ways out of `crank`: a list, every question replied no, or a refusal. Assumes nothing.
+-- The two ways out of `crank`: a list, every question replied no, or a refusal.
 use mathlib.Core.Path.{_≡_, sym, ap, _∙_}
 use mathlib.Core.Bool.{false}
 use Prim.Native.Nat.{_≤_}

@@ -1,4 +1,4 @@
--- A crank that is fed is the quartic's inquiry that is fed, with k beside it; and one that has four replies no at hand ends with the list. Assumes nothing.
+-- A crank that is fed is the quartic's inquiry that is fed, with k beside it; and one that has four replies no at hand ends with the list.
 use mathlib.Core.Path.{_≡_, refl, sym, ap, _∙_}
 use mathlib.Core.Bool.{Bool, true, false}
 use mathlib.Core.List.{List}
@@ -84,6 +84,7 @@ unfolding askedOf shown
 no-listed coeffs tol h =
     let t = realRootsTouching coeffs tol in
     let few : length (placesAsked (λ x. false) t) ≤ 4 = omega (arith, start-most (λ x. false) coeffs tol, h) in
-    sym (if-taken (shown (walked (replicate 4 false) (asking (startOf coeffs tol .inquiry)))) nothing (no-sound (startOf coeffs tol .inquiry) (start-sound coeffs tol)) refl)
+    sym (if-taken (shown (walked (replicate 4 false) (asking (startOf coeffs tol .inquiry)))) nothing
+    (no-sound (startOf coeffs tol .inquiry) (start-sound coeffs tol)) refl)
     ∙ ap (λ (u : Asking (List RealRoot)). shown (walked (replicate 4 false) u)) (start-asks coeffs tol)
     ∙ ap shown (always false 4 t few .1)

@@ -1,4 +1,4 @@
--- A sum or a product is finite only where its parts are: the quartic's first coefficient is finite only where the equation's five numbers are. Assumes nothing.
+-- A sum or a product is finite only where its parts are: the quartic's first coefficient is finite only where the equation's five numbers are.
 use mathlib.Core.Path.{_≡_, refl}
 use mathlib.Core.Bool.{Bool, true, false, cond, Bool·beq, false≢true}
 use mathlib.Core.List.{[], _∷_}

@@ -1,4 +1,4 @@
--- What an equation starts, by whether its numbers and its quartic are finite: the number, k, and what is asked. Assumes nothing.
+-- What an equation starts, by whether its numbers and its quartic are finite: the number, k, and what is asked.
 use mathlib.Core.Path.{_≡_, refl, sym, ap, _∙_, subst}
 use mathlib.Core.Logic.{_⊎_, inl, inr}
 use mathlib.Core.Bool.{Bool, true, false, cond}
@@ -56,7 +56,8 @@ module _ (a2 b2 c1 d1 e : Float) where
   samples-below zero s h = h
   samples-below (suc m) s h =
       let v = absOf (fAtOf a2 b2 c1 d1 e (8 - suc m + 4)) in
-      samples-below m (sampledOf a2 b2 c1 d1 e (8 - suc m) s) (either-way (λ (p : ℕ × Float). p .0 < 8) (totalLeOf (s .1) v) {x = (8 - suc m, v)} {y = s} (omega arith) h)
+      samples-below m (sampledOf a2 b2 c1 d1 e (8 - suc m) s) (either-way (λ (p : ℕ × Float). p .0 < 8) (totalLeOf (s .1) v)
+      {x = (8 - suc m, v)} {y = s} (omega arith) h)
 
   sample-below : sampleOf a2 b2 c1 d1 e < 8
   unfolding sampleOf
@@ -76,7 +77,8 @@ module _ (a2 b2 c1 d1 e : Float) where
       either false = refl
 
   -- all finite, or not: by the quartic alone
-  by-quartic : {A : Type 0} → (allFiniteOf numbers ≡ true → allFiniteOf q ≡ true → A) → (allFiniteOf q ≡ false → front ≡ noCrank (cond (allFiniteOf numbers) 5 1) → A) → A
+  by-quartic : {A : Type 0} → (allFiniteOf numbers ≡ true → allFiniteOf q ≡ true → A)
+      → (allFiniteOf q ≡ false → front ≡ noCrank (cond (allFiniteOf numbers) 5 1) → A) → A
   by-quartic {A = A} f g = go (allFiniteOf q) refl
     where
       go : (b : Bool) → allFiniteOf q ≡ b → A
@@ -104,7 +106,8 @@ module _ (a2 b2 c1 d1 e : Float) where
     pub same-asking : realRootsTouching (front .q) confusion ≡ realRootsTouching q confusion
     same-asking =
         by-quartic (λ h g. ap (λ (f : Crank). realRootsTouching (f .q) confusion) (made h g))
-        (λ h is. ap (λ (f : Crank). realRootsTouching (f .q) confusion) is ∙ refused-asks (replicate 5 zero64) confusion zeros-refused ∙ sym (refused-asks q confusion (quartic-refused h)))
+        (λ h is. ap (λ (f : Crank). realRootsTouching (f .q) confusion) is ∙ refused-asks (replicate 5 zero64) confusion zeros-refused
+        ∙ sym (refused-asks q confusion (quartic-refused h)))
 
     -- its k is the Rust's, or nothing is asked
     pub same-k : (front .k ≡ sampleOf a2 b2 c1 d1 e) ⊎ (realRootsTouching q confusion ≡ done [])
@@ -124,7 +127,9 @@ module _ (a2 b2 c1 d1 e : Float) where
 
     number-is : number ≡ numberBy (allFiniteOf numbers) (allFiniteOf q) (leb (trimmedOf q) 1)
     unfolding crankStartOf
-    number-is = by-quartic (λ h g. ap byFront (made h g) ∙ start-number q confusion ∙ listed-number g ∙ rw (h, g)) (λ g is. ap byFront is ∙ refused (allFiniteOf numbers) ∙ rw g)
+    number-is =
+        by-quartic (λ h g. ap byFront (made h g) ∙ start-number q confusion ∙ listed-number g ∙ rw (h, g))
+        (λ g is. ap byFront is ∙ refused (allFiniteOf numbers) ∙ rw g)
       where
         refused : (a : Bool) → byFront (noCrank (cond a 5 1)) ≡ cond a 5 1
         refused true = refl

@@ -1,4 +1,4 @@
--- Every claim about cranks, for all bits. Assumes nothing.
+-- Every claim about cranks, for all bits.
 use mathlib.Core.Path.{_≡_, refl, sym, ap, _∙_, subst}
 use mathlib.Core.Logic.{_⊎_, ⊎-elim}
 use mathlib.Core.Bool.{Bool, true, false, cond}
@@ -26,10 +26,12 @@ use Rattle.crank.proofs.Answer as answers
 
 -- ---- a computation that asks nothing is the same for every function
 module _ {X : Type 0} (touches : ℕ → Float → Bool) (read : (Float → Bool) → Asking (List RealRoot) → X) where
-  same-reading : (j k : ℕ) (s t : Asking (List RealRoot)) → ((f g : Float → Bool) → read f (done []) ≡ read g (done [])) → s ≡ t → (j ≡ k) ⊎ (t ≡ done []) → read (touches j) s ≡ read (touches k) t
+  same-reading : (j k : ℕ) (s t : Asking (List RealRoot)) → ((f g : Float → Bool) → read f (done []) ≡ read g (done [])) → s ≡ t → (j ≡ k)
+      ⊎ (t ≡ done []) → read (touches j) s ≡ read (touches k) t
   same-reading j k s t none e h =
       ap (read (touches j)) e
-      ∙ ⊎-elim (λ same. ap (λ (i : ℕ). read (touches i) t) same) (λ stop. ap (read (touches j)) stop ∙ none (touches j) (touches k) ∙ sym (ap (read (touches k)) stop)) h
+      ∙ ⊎-elim (λ same. ap (λ (i : ℕ). read (touches i) t) same)
+      (λ stop. ap (read (touches j)) stop ∙ none (touches j) (touches k) ∙ sym (ap (read (touches k)) stop)) h
 
 module _ (confusion a2 b2 c1 d1 e : Float) where
   abbrev k : ℕ
@@ -41,16 +43,19 @@ module _ (confusion a2 b2 c1 d1 e : Float) where
   -- the front's k and quartic read as the Rust's
   module _ (touches : ℕ → Float → Bool) where
     by-front : {X : Type 0} (read : (Float → Bool) → Asking (List RealRoot) → X) → ((f g : Float → Bool) → read f (done []) ≡ read g (done []))
-        → read (touches (crankFrontOf a2 b2 c1 d1 e .k)) (realRootsTouching (crankFrontOf a2 b2 c1 d1 e .q) confusion) ≡ read (touches k) (realRootsTouching q confusion)
+        → read (touches (crankFrontOf a2 b2 c1 d1 e .k)) (realRootsTouching (crankFrontOf a2 b2 c1 d1 e .q) confusion)
+        ≡ read (touches k) (realRootsTouching q confusion)
     by-front read none = same-reading touches read _ _ _ _ none (same-asking a2 b2 c1 d1 e confusion) (same-k a2 b2 c1 d1 e confusion)
 
-    fed-so : CrankFed touches (crankStartOf confusion a2 b2 c1 d1 e .crank) (placesTrigOf touches confusion a2 b2 c1 d1 e) (solveTrigOf touches confusion a2 b2 c1 d1 e .1)
+    fed-so : CrankFed touches (crankStartOf confusion a2 b2 c1 d1 e .crank) (placesTrigOf touches confusion a2 b2 c1 d1 e)
+        (solveTrigOf touches confusion a2 b2 c1 d1 e .1)
     unfolding crankStartOf answered placesAsked
     fed-so =
         rw (sym (by-front placesAsked (λ f g. refl)), sym (by-front answered (λ f g. refl)))
         (feeding.fed-so touches (crankFrontOf a2 b2 c1 d1 e .k) (crankFrontOf a2 b2 c1 d1 e .q) confusion)
 
-    refused : 0 < crankStartOf confusion a2 b2 c1 d1 e .number → (placesTrigOf touches confusion a2 b2 c1 d1 e ≡ []) × (solveTrigOf touches confusion a2 b2 c1 d1 e .1 ≡ [])
+    refused : 0 < crankStartOf confusion a2 b2 c1 d1 e .number → (placesTrigOf touches confusion a2 b2 c1 d1 e ≡ [])
+        × (solveTrigOf touches confusion a2 b2 c1 d1 e .1 ≡ [])
     unfolding answered placesAsked
     refused h = let none = refused-nothing a2 b2 c1 d1 e confusion h in (ap (placesAsked (touches k)) none, ap (answered (touches k)) none)
 

@@ -22,10 +22,11 @@ pub record Numbers (number : ℕ) (numbers q : List Float) : Type 0 where
   pub two : Exactly (number ≡ 2) ((allFiniteOf numbers ≡ true) × (allFiniteOf q ≡ true) × (trimmedOf q ≤ 1))
   pub five : Exactly (number ≡ 5) ((allFiniteOf numbers ≡ true) × (allFiniteOf q ≡ false))
 
--- Fed the replies of touches, c asks at these places in this order and ends with this list. After n replies the question is about the place number n; after as many
--- as there are places the list is shown, and nothing is asked any more: a further reply is refused with 4, the inquiry unaltered.
+-- Fed the replies of touches, c asks at these places in this order and ends with this list. After n replies the question is about the place number n; after as
+-- many as there are places the list is shown, and nothing is asked any more: a further reply is refused with 4, the inquiry unaltered.
 pub record CrankFed (touches : ℕ → Float → Bool) (c : CrankInquiry) (places : List Float) (list : List RealRoot) : Type 0 where
-  pub question : (n : ℕ) → n < length places → crankAskedOf (crankFed touches n c) ≡ record { asking = true; k = c .k; place = getD places n nan; list = noRoots }
+  pub question : (n : ℕ) → n < length places → crankAskedOf (crankFed touches n c)
+      ≡ record { asking = true; k = c .k; place = getD places n nan; list = noRoots }
   pub finished : crankAskedOf (crankFed touches (length places) c) ≡ record { asking = false; k = c .k; place = zero64; list = rootsOf list }
   pub over : (reply : Bool) → let end = crankFed touches (length places) c in crankRepliedOf end reply ≡ record { number = 4; crank = end }
 
@@ -38,7 +39,8 @@ pub record Cranks (confusion a2 b2 c1 d1 e : Float) : Type 0 where
       → crankStartOf confusion a2 b2 c1 d1 e .crank .k ≡ solveTrigOf touches confusion a2 b2 c1 d1 e .0
   -- for every yes-or-no function of k and u
   pub fed-so : (touches : ℕ → Float → Bool)
-      → CrankFed touches (crankStartOf confusion a2 b2 c1 d1 e .crank) (placesTrigOf touches confusion a2 b2 c1 d1 e) (solveTrigOf touches confusion a2 b2 c1 d1 e .1)
+      → CrankFed touches (crankStartOf confusion a2 b2 c1 d1 e .crank) (placesTrigOf touches confusion a2 b2 c1 d1 e)
+      (solveTrigOf touches confusion a2 b2 c1 d1 e .1)
   -- what is refused is not asked about, and the Rust's list is empty
   pub refused : 0 < crankStartOf confusion a2 b2 c1 d1 e .number → (touches : ℕ → Float → Bool)
       → (placesTrigOf touches confusion a2 b2 c1 d1 e ≡ []) × (solveTrigOf touches confusion a2 b2 c1 d1 e .1 ≡ [])

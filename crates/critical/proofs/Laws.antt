@@ -1,4 +1,4 @@
--- One turn of `critical_point` by what its tests found. Assumes nothing.
+-- One turn of `critical_point` by what its tests found.
 use mathlib.Core.Path.{_≡_, sym}
 use mathlib.Core.Bool.{true, false}
 use mathlib.Core.List.{List}

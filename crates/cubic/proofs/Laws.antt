@@ -1,4 +1,4 @@
--- How many roots the closed form gives, its one constant, and what the fold over one and over three roots that finds the most isolated comes to. Assumes nothing.
+-- How many roots the closed form gives, its one constant, and what the fold over one and over three roots that finds the most isolated comes to.
 use mathlib.Core.Path.{_≡_, refl, sym, _∙_}
 use mathlib.Core.Bool.{Bool, true, false, cond, _||_}
 use mathlib.Core.List.{List}
@@ -12,7 +12,8 @@ use Rattle.float.specs.Literals.{zero64, half64, three64}
 use Rattle.float.specs.Methods.{totalLeOf}
 use Rattle.sqrt.specs.Root.{sqrtOf}
 use Rattle.cubic.specs.declared.CubicRoots.{CubicRoots}
-use Rattle.cubic.specs.Cubic.{oneRootOf, threeRootsOf, depressedRootsOf, cubicClosedFormOf, OneOrThree, isolationOf, isolationAmong, betterOf, mostIsolatedOf}
+use Rattle.cubic.specs.Cubic.{oneRootOf, threeRootsOf, depressedRootsOf, cubicClosedFormOf, OneOrThree}
+use Rattle.cubic.specs.Cubic.{isolationOf, isolationAmong, betterOf, mostIsolatedOf}
 
 -- ---- one root or three
 
@@ -40,7 +41,8 @@ unfolding mostIsolatedOf countUp
 only-root roots n e = rw e
 
 module _ (roots : List Float) (n : ℕ) (i0 i1 i2 : Float) (all : n ≡ 3) (e0 : i0 ≡ isolationAmong (getD roots 0 nan) (getD roots 1 nan) (getD roots 2 nan))
-    (e1 : i1 ≡ isolationAmong (getD roots 1 nan) (getD roots 0 nan) (getD roots 2 nan)) (e2 : i2 ≡ isolationAmong (getD roots 2 nan) (getD roots 0 nan) (getD roots 1 nan)) where
+    (e1 : i1 ≡ isolationAmong (getD roots 1 nan) (getD roots 0 nan) (getD roots 2 nan))
+    (e2 : i2 ≡ isolationAmong (getD roots 2 nan) (getD roots 0 nan) (getD roots 1 nan)) where
   f0 : i0 ≡ isolationOf roots 3 0
   unfolding isolationOf countUp
   f0 = e0

@@ -4,7 +4,8 @@ ghost use mathlib.Core.Path.{_≡_};
 ghost use mathlib.Core.Bool.{_||_};
 ghost use lib.Ieee.{lt, le};
 ghost use Rattle.float.specs.Literals.{zero64};
-ghost use Rattle.cubic.specs.Cubic.{cardanoOf, oneRootOf, threeRootsOf, cubicClosedFormOf, OneOrThree, isolationAmong, mostIsolatedOf, overOr, cubicFactorOf};
+ghost use Rattle.cubic.specs.Cubic.{cardanoOf, oneRootOf, threeRootsOf, cubicClosedFormOf, OneOrThree};
+ghost use Rattle.cubic.specs.Cubic.{isolationAmong, mostIsolatedOf, overOr, cubicFactorOf};
 
 // The first n places hold roots.
 pub struct CubicRoots {

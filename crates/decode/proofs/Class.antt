@@ -1,4 +1,4 @@
--- What comparisons with itself and with zero say of a double, and what `normal_of` reads from its pattern. Assumes nothing.
+-- What comparisons with itself and with zero say of a double, and what `normal_of` reads from its pattern.
 use mathlib.Core.Path.{_≡_, refl, sym, ap, ap₂, _∙_, subst}
 use mathlib.Core.Logic.{_⊎_, inl, inr, ⊎-elim}
 use mathlib.Core.Bool.{Bool, true, false, not, _||_, Bool·beq, false≢true}
@@ -36,7 +36,8 @@ zero-is (inf s) e = absurd (false≢true e)
 zero-is (fin s m k) e =
     let z : m ≡ 0 =
     first-zero m (up k) (up-pos k)
-    (sym (mul-one (m * up k)) ∙ eqb→eq (m * up k * 1) (0 * down k) (and-l (eqb (m * up k * 1) (0 * down k)) (Bool·beq s false || eqb (m * up k * 1) 0) (subst T (sym e) tt)) ∙ zero-mul (down k)) in
+    (sym (mul-one (m * up k)) ∙ eqb→eq (m * up k * 1) (0 * down k)
+    (and-l (eqb (m * up k * 1) (0 * down k)) (Bool·beq s false || eqb (m * up k * 1) 0) (subst T (sym e) tt)) ∙ zero-mul (down k)) in
     (s, k, ap (λ (a : ℕ). fin s a k) z)
 
 -- a zero equals +0, whatever its exponent
@@ -80,13 +81,17 @@ decoded-none x f z = record {
 pub decoded-digits : (x : Float) (w k : ℕ) → Normal (unitsOf x) w k → Decoded x w k
 decoded-digits x w k h = record {
   regular = λ r. h;
-  other = λ r. absurd (no-product w (2 ^ k) (mul-pos (lt-of-lt-of-le (pow-pos 52) (h .led)) (pow-pos k)) (h .value ∙ ap (λ (n : ℕ). n * 2 ^ 52) (irregular-units x r)));
+  other =
+      λ r. absurd (no-product w (2 ^ k) (mul-pos (lt-of-lt-of-le (pow-pos 52) (h .led)) (pow-pos k))
+      (h .value ∙ ap (λ (n : ℕ). n * 2 ^ 52) (irregular-units x r)));
 }
 
 -- ---- what it reads from the pattern b of an x without its sign
 
 pub nan-none : (x : Float) → ne x x ≡ true → Decoded x 0 0
-nan-none x e = subst (λ (y : Float). Decoded y 0 0) (sym (differs-from-itself x (subst T (sym e) tt))) (record { regular = λ r. absurd (false≢true r); other = λ r. (refl, refl) })
+nan-none x e =
+    subst (λ (y : Float). Decoded y 0 0) (sym (differs-from-itself x (subst T (sym e) tt)))
+    (record { regular = λ r. absurd (false≢true r); other = λ r. (refl, refl) })
 
 pub self-not-nan : (x : Float) → ne x x ≡ false → T (not (isNan x))
 unfolding ne isNan
@@ -99,7 +104,8 @@ module _ (x : Float) (f : fits binary64 x ≡ true) (b : ℕ) (p : Pattern x b) 
   top-none t = ⊎-elim (λ i. decoded-none x f (i .1)) (λ h. absurd (not-top _ _ _ b (h .2) (h .3) t)) p
 
   pub field-digits : (b / 2 ^ 52 ≡ 2047 → ⊥) → (b / 2 ^ 52 ≡ 0 → ⊥) → Decoded x (2 ^ 52 + b % 2 ^ 52) (b / 2 ^ 52 + 51)
-  field-digits t z = ⊎-elim (λ i. absurd (t (let e : b / 2 ^ 52 ≡ 2047 = omega (arith, i .0) in e))) (λ h. decoded-digits x _ _ (normal _ _ _ b (h .2) (h .3) z)) p
+  field-digits t z =
+      ⊎-elim (λ i. absurd (t (let e : b / 2 ^ 52 ≡ 2047 = omega (arith, i .0) in e))) (λ h. decoded-digits x _ _ (normal _ _ _ b (h .2) (h .3) z)) p
 
   units-are : b / 2 ^ 52 ≡ 0 → b % 2 ^ 52 ≡ unitsOf x
   units-are z = ⊎-elim (λ i. absurd (let e : ⊥ = omega (arith, i .0) in e)) (λ h. fraction-is _ _ _ b (h .2) (h .3) z) p
@@ -158,7 +164,8 @@ positive-view nan t r = absurd (false≢true r)
 positive-view (inf s) t r = absurd (false≢true r)
 positive-view (fin s zero e) t r = absurd (false≢true r)
 positive-view (fin true (suc m) e) t r =
-    absurd (false≢true (sym t ∙ lt-ltb 0 (suc m * up e * 1 + 0 * down e) (add-pos (suc m * up e * 1) (0 * down e) (mul-pos (mul-pos (zero-lt-suc m) (up-pos e)) (zero-lt-suc 0)))))
+    absurd (false≢true (sym t ∙ lt-ltb 0 (suc m * up e * 1 + 0 * down e)
+    (add-pos (suc m * up e * 1) (0 * down e) (mul-pos (mul-pos (zero-lt-suc m) (up-pos e)) (zero-lt-suc 0)))))
   where
     add-pos : (a b : ℕ) → 0 < a → 0 < a + b
     add-pos a b h = omega arith

@@ -1,4 +1,4 @@
--- a - (c + 1), where the two are below 2 ^ 31, as the machine computes it in an i32. Assumes nothing.
+-- a - (c + 1), where the two are below 2 ^ 31, as the machine computes it in an i32.
 use mathlib.Core.Path.{_≡_, sym, ap, _∙_, subst}
 use mathlib.Core.Logic.{_⊎_, inl, inr}
 use Prim.Native.Nat.{ℕ, suc, _-_, _^_, _≤_, _<_}
@@ -24,7 +24,8 @@ module _ (c a : ℕ) where
     where
       go : (suc c ≤ a) ⊎ (a < suc c) → minus (suc a) (suc (suc c)) ≡ pos a -ℤ pos (suc c)
       go (inl l) = rw (le-leb (suc (suc c)) (suc a) (omega arith), le-ltb a (suc c) l) (let e : suc a - suc (suc c) ≡ a - suc c = omega arith in ap pos e)
-      go (inr l) = rw (lt-leb (suc (suc c)) (suc a) (omega arith), lt-ltb a (suc c) l) (let e : suc (suc c) - suc (suc a) ≡ suc c - suc a = omega arith in ap negsuc e)
+      go (inr l) =
+          rw (lt-leb (suc (suc c)) (suc a) (omega arith), lt-ltb a (suc c) l) (let e : suc (suc c) - suc (suc a) ≡ suc c - suc a = omega arith in ap negsuc e)
 
   module _ (hc : c < 2 ^ 30) (ha : a < 2 ^ 31) where
     pub minus-fits : SFits w32 (pos a -ℤ pos (suc c))

@@ -1,10 +1,12 @@
--- The bit pattern of a finite double, by its units. Assumes nothing.
+-- The bit pattern of a finite double, by its units.
 use mathlib.Core.Path.{_≡_, refl, sym, ap, _∙_, subst}
 use mathlib.Core.Logic.{_⊎_, inl, inr, ⊎-elim}
 use mathlib.Core.Bool.{Bool, true, false, not, cond, _&&_}
 use Prim.Native.Nat.{ℕ, zero, suc, _+_, _-_, _*_, _/_, _%_, _^_, _≤_, _<_}
 use native.Mathlib.Omega.{arith}
-use native.Mathlib.Nat.{add-assoc, mod-eq-of-lt, mul-pos, mul-le-mul-right, mul-one, zero-mul, mul-assoc, mul-comm, div-one, mul-div-cancel, mul-lt-mul-of-pos-right, lt-of-mul-lt-mul-right, lt-of-le-of-lt, lt-of-lt-of-le, lt-of-not-le, lt-irrefl, le-of-suc-le-suc, eq-zero-or-pos, le-div-iff-mul-le, zero-div}
+use native.Mathlib.Nat.{add-assoc, mod-eq-of-lt, mul-pos, mul-le-mul-right, mul-one, zero-mul, mul-assoc}
+use native.Mathlib.Nat.{mul-comm, div-one, mul-div-cancel, mul-lt-mul-of-pos-right, lt-of-mul-lt-mul-right, lt-of-le-of-lt, lt-of-lt-of-le}
+use native.Mathlib.Nat.{lt-of-not-le, lt-irrefl, le-of-suc-le-suc, eq-zero-or-pos, le-div-iff-mul-le, zero-div}
 use lib.Dec.{T, eqb, ltb, leb, ltb→lt, leb→le, lit≤}
 use lib.Pow.{pow-add, pow-pos, pow-lt, pow-mono, shl-lt}
 use lib.IntN.{ℤ, pos, negsuc}
@@ -45,7 +47,8 @@ place l u (negsuc a) h = record {
   under = λ m b.
       lt-of-mul-lt-mul-right (2 ^ suc a)
       (subst (λ (x : ℕ). x < 2 ^ (u + l) * 2 ^ suc a) (sym (whole m))
-      (subst (λ (x : ℕ). m * 1 * 2 ^ l < x) (moved (2 ^ u) (2 ^ suc a) (2 ^ l) ∙ ap (λ (x : ℕ). x * 2 ^ suc a) (sym (pow-add 2 u l))) (mul-lt-mul-of-pos-right b (pow-pos l))));
+      (subst (λ (x : ℕ). m * 1 * 2 ^ l < x) (moved (2 ^ u) (2 ^ suc a) (2 ^ l) ∙ ap (λ (x : ℕ). x * 2 ^ suc a) (sym (pow-add 2 u l)))
+      (mul-lt-mul-of-pos-right b (pow-pos l))));
 }
   where
     whole : (m : ℕ) → m * 2 ^ (l - suc a) * 2 ^ suc a ≡ m * 1 * 2 ^ l
@@ -64,7 +67,8 @@ cut p m j h =
     let n = m * 2 ^ j in
     let k = size n - p in
     let k-le : k ≤ j = spare (size n) (size-le n (p + j) (shl-lt p j h)) in
-    let split : m * 2 ^ (j - k) * 2 ^ k ≡ n = mul-assoc m (2 ^ (j - k)) (2 ^ k) ∙ ap (λ (x : ℕ). m * x) (sym (pow-add 2 (j - k) k) ∙ ap (λ (x : ℕ). 2 ^ x) (sum-back j k k-le)) in
+    let split : m * 2 ^ (j - k) * 2 ^ k ≡ n = mul-assoc m (2 ^ (j - k)) (2 ^ k)
+    ∙ ap (λ (x : ℕ). m * x) (sym (pow-add 2 (j - k) k) ∙ ap (λ (x : ℕ). 2 ^ x) (sum-back j k k-le)) in
     ap (λ (x : ℕ). x / 2 ^ k * 2 ^ k) (sym split) ∙ ap (λ (x : ℕ). x * 2 ^ k) (mul-div-cancel (m * 2 ^ (j - k)) (pow-pos k)) ∙ split
   where
     spare : (z : ℕ) → z ≤ p + j → z - p ≤ j
@@ -91,7 +95,8 @@ pub record Shape (s : Bool) (m : ℕ) (e : ℤ) : Type 0 where
   pub whole : Significand (unitsOf (fin s m e)) w k
   pub bits : toBits binary64 (fin s m e) ≡ cond s (2 ^ 63) 0 + k * 2 ^ 52 + w
 
-bits-at : (s : Bool) (m : ℕ) (e : ℤ) → let n = unitsOf (fin s m e) in toBits binary64 (fin s m e) ≡ cond s (2 ^ 63) 0 + (size n - 53) * 2 ^ 52 + n / 2 ^ (size n - 53)
+bits-at : (s : Bool) (m : ℕ) (e : ℤ) → let n = unitsOf (fin s m e) in toBits binary64 (fin s m e)
+    ≡ cond s (2 ^ 63) 0 + (size n - 53) * 2 ^ 52 + n / 2 ^ (size n - 53)
 unfolding toBits
 bits-at s m e = refl
 
@@ -127,7 +132,8 @@ shape s (suc m) e t =
     let d = ltb (suc m * up e) (2 ^ 1024 * down e) in
     let abc = and-l (a && b && c) d t in
     let p = place 1074 1024 e (leb→le (down e) (2 ^ 1074) (and-r (a && b) c abc)) in
-    of-digits s (suc m) e (p .j) (p .is (suc m)) (ltb→lt (suc m) (2 ^ 53) (and-r a b (and-l (a && b) c abc))) (p .under (suc m) (ltb→lt (suc m * up e) (2 ^ 1024 * down e) (and-r (a && b && c) d t)))
+    of-digits s (suc m) e (p .j) (p .is (suc m)) (ltb→lt (suc m) (2 ^ 53) (and-r a b (and-l (a && b) c abc)))
+    (p .under (suc m) (ltb→lt (suc m * up e) (2 ^ 1024 * down e) (and-r (a && b && c) d t)))
 
 -- a value that is not zero has units
 pub units-pos : (s : Bool) (m : ℕ) (e : ℤ) → T (fits binary64 (fin s m e)) → 0 < m → 0 < unitsOf (fin s m e)
@@ -155,7 +161,14 @@ pub pattern : (x : Float) → fits binary64 x ≡ true → T (not (isNan x)) →
 unfolding toBits isNan
 pattern nan f t = absurd t
 pattern (inf s) f t = inl (sign-off s (2047 * 2 ^ 52) (omega arith), refl)
-pattern (fin s m e) f t = inr (h .w, h .k, ap (λ (b : ℕ). b % 2 ^ 63) (h .bits ∙ add-assoc (cond s (2 ^ 63) 0) (h .k * 2 ^ 52) (h .w)) ∙ sign-off s (h .k * 2 ^ 52 + h .w) (omega (arith, h .whole .short, h .whole .reach)), h .whole)
+pattern (fin s m e) f t =
+    inr (
+      h .w,
+      h .k,
+      ap (λ (b : ℕ). b % 2 ^ 63) (h .bits ∙ add-assoc (cond s (2 ^ 63) 0) (h .k * 2 ^ 52) (h .w))
+          ∙ sign-off s (h .k * 2 ^ 52 + h .w) (omega (arith, h .whole .short, h .whole .reach)),
+      h .whole,
+    )
   where
     h : Shape s m e
     h = shape s m e (subst T (sym f) tt)
@@ -201,7 +214,8 @@ shifted w p l =
     let up-lt : w * 2 ^ z < 2 ^ 53 =
     subst (λ (x : ℕ). w * 2 ^ z < 2 ^ x) (let e : suc j + z ≡ 53 = omega arith in e) (shl-lt (suc j) z (top .3)) in
     let lo : 2 ^ 52 ≤ w * 2 ^ z =
-    subst (λ (x : ℕ). x ≤ w * 2 ^ z) (sym (pow-add 2 j z) ∙ ap (λ (x : ℕ). 2 ^ x) (let e : j + z ≡ 52 = omega arith in e)) (mul-le-mul-right (2 ^ z) (top .2)) in
+    subst (λ (x : ℕ). x ≤ w * 2 ^ z) (sym (pow-add 2 j z) ∙ ap (λ (x : ℕ). 2 ^ x) (let e : j + z ≡ 52 = omega arith in e))
+    (mul-le-mul-right (2 ^ z) (top .2)) in
     let small : w * 2 ^ z % 2 ^ 64 ≡ w * 2 ^ z = mod-eq-of-lt (lt-of-lt-of-le up-lt (lit≤ tt)) in
     let val : w * 2 ^ z * 2 ^ (52 - z) ≡ w * 2 ^ 52 =
     mul-assoc w (2 ^ z) (2 ^ (52 - z))

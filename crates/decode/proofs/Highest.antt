@@ -1,9 +1,10 @@
--- The exponent of a double, from the highest set digit of its units. Assumes nothing.
+-- The exponent of a double, from the highest set digit of its units.
 use mathlib.Core.Path.{_≡_, refl, sym, ap, _∙_, subst}
 use mathlib.Core.Bool.{true, false, false≢true}
 use Prim.Native.Nat.{ℕ, zero, suc, _+_, _-_, _*_, _/_, _^_, _≤_, _<_}
 use native.Mathlib.Omega.{arith}
-use native.Mathlib.Nat.{zero-mul, mul-comm, zero-div, zero-lt-suc, le-antisymm, lt-of-lt-of-le, lt-of-le-of-lt, lt-irrefl, lt-of-not-le, le-of-mul-le-mul-right, lt-of-mul-lt-mul-right, mul-le-mul-right, mul-lt-mul-of-pos-right}
+use native.Mathlib.Nat.{zero-mul, mul-comm, zero-div, zero-lt-suc, le-antisymm, lt-of-lt-of-le, lt-of-le-of-lt}
+use native.Mathlib.Nat.{lt-irrefl, lt-of-not-le, le-of-mul-le-mul-right, lt-of-mul-lt-mul-right, mul-le-mul-right, mul-lt-mul-of-pos-right}
 use borrow.Author.Tests.{lt-ltb}
 use lib.Pow.{pow-add, pow-pos, pow-mono}
 use lib.IntN.{pos, negsuc, _-ℤ_}
@@ -22,10 +23,12 @@ size-exact n j lo hi =
 size-of-normal : (n w k : ℕ) → Normal n w k → size n ≡ suc k
 size-of-normal n w k h =
     size-exact n k
-    (le-of-mul-le-mul-right (subst (λ (x : ℕ). 2 ^ k * 2 ^ 52 ≤ x) (h .value) (subst (λ (x : ℕ). x ≤ w * 2 ^ k) (mul-comm (2 ^ 52) (2 ^ k)) (mul-le-mul-right (2 ^ k) (h .led)))) (pow-pos 52))
+    (le-of-mul-le-mul-right (subst (λ (x : ℕ). 2 ^ k * 2 ^ 52 ≤ x) (h .value)
+    (subst (λ (x : ℕ). x ≤ w * 2 ^ k) (mul-comm (2 ^ 52) (2 ^ k)) (mul-le-mul-right (2 ^ k) (h .led)))) (pow-pos 52))
     (lt-of-mul-lt-mul-right (2 ^ 52)
     (subst (λ (x : ℕ). x < 2 ^ suc k * 2 ^ 52) (h .value)
-    (subst (λ (x : ℕ). w * 2 ^ k < x) (sym (pow-add 2 53 k) ∙ ap (λ (x : ℕ). 2 ^ x) (let e : 53 + k ≡ suc k + 52 = omega arith in e) ∙ pow-add 2 (suc k) 52) (mul-lt-mul-of-pos-right (h .short) (pow-pos k)))))
+    (subst (λ (x : ℕ). w * 2 ^ k < x) (sym (pow-add 2 53 k) ∙ ap (λ (x : ℕ). 2 ^ x) (let e : 53 + k ≡ suc k + 52 = omega arith in e)
+    ∙ pow-add 2 (suc k) 52) (mul-lt-mul-of-pos-right (h .short) (pow-pos k)))))
 
 pub exponent-is : (x : Float) (w k : ℕ) → regularOf x ≡ true → Normal (unitsOf x) w k → exponentOf x ≡ pos k -ℤ pos 1074
 unfolding exponentOf

@@ -1,10 +1,11 @@
--- c is nearest to the greatest solution of 4c³ - 3c = v. Below, U is 1 and W is U * U, in units; n is the size of v. Assumes nothing.
+-- c is nearest to the greatest solution of 4c³ - 3c = v. Below, U is 1 and W is U * U, in units; n is the size of v.
 use mathlib.Core.Path.{_≡_, refl, sym}
 use mathlib.Core.Logic.{_⊎_, inl, inr, ⊎-elim}
 use mathlib.Core.Bool.{Bool, true, false, not, cond, _||_, true≢false}
 use Prim.Native.Nat.{ℕ, suc, _+_, _-_, _*_, _^_, _≤_, _<_, zero-le}
 use native.Mathlib.Omega.{arith}
-use native.Mathlib.Nat.{le-trans, le-of-eq, le-of-lt, le-of-suc-le-suc, le-suc, le-dest, lt-of-le-of-lt, lt-of-not-le, lt-of-lt-of-le, mul-le-mul, mul-le-mul-left, mul-le-mul-right, not-le-of-lt}
+use native.Mathlib.Nat.{le-trans, le-of-eq, le-of-lt, le-of-suc-le-suc, le-suc, le-dest, lt-of-le-of-lt}
+use native.Mathlib.Nat.{lt-of-not-le, lt-of-lt-of-le, mul-le-mul, mul-le-mul-left, mul-le-mul-right, not-le-of-lt}
 use borrow.Author.Tests.{le-leb}
 use lib.Dec.{T, lit≤, lit<, leb, eqb, leb→le, nleb→lt, eqb→eq, not-T}
 use lib.IntN.{pos, negsuc}
@@ -37,7 +38,10 @@ module _ (a b W : ℕ) (l : a ≤ b) (h : W ≤ a * a) where
 -- ---- the words of specs/Demands, and the definition's test
 
 under-down : (s : Bool) (n a b : ℕ) → a ≤ b → AtMostSolution s n b → AtMostSolution s n a
-under-down s n a b l u = ⊎-elim (λ h. inl h) (λ g. ⊎-elim (λ h. absurd (not-le-of-lt (lt-of-lt-of-le g l) h)) (λ h. inr (fall a b (2 ^ 2148) l (mul-le-mul (le-of-lt g) (le-of-lt g)) (cond s (2 * n * 2 ^ 2148) 0) (cond s 0 (2 * n * 2 ^ 2148)) h)) u) (le-or-lt a (2 ^ 1074))
+under-down s n a b l u =
+    ⊎-elim (λ h. inl h) (λ g. ⊎-elim (λ h. absurd (not-le-of-lt (lt-of-lt-of-le g l) h))
+    (λ h. inr (fall a b (2 ^ 2148) l (mul-le-mul (le-of-lt g) (le-of-lt g)) (cond s (2 * n * 2 ^ 2148) 0) (cond s 0 (2 * n * 2 ^ 2148)) h))
+    u) (le-or-lt a (2 ^ 1074))
 
 over-up : (s : Bool) (n a b : ℕ) → a ≤ b → AtLeastSolution s n a → AtLeastSolution s n b
 over-up s n a b l o = (le-trans (o .0) l, rise a b (2 ^ 2148) l (mul-le-mul (o .0) (o .0)) (cond s (2 * n * 2 ^ 2148) 0) (cond s 0 (2 * n * 2 ^ 2148)) (o .1))
@@ -83,7 +87,9 @@ over-whole s n t g h = (mul-le-mul-left 2 g, rw (lines-twice s n t, cubes-twice 
 
 -- above 2 U half units the cube is the larger side: (2 U + 1)³ > 3 (2 U + 1) U² + 2 U³
 past : (s : Bool) (n h : ℕ) → n ≤ 2 ^ 1074 → 2 ^ 1075 < h → AtMostSolution s n h → ⊥
-past s n h l g u = ⊎-elim (λ k. not-le-of-lt (lt-of-le-of-lt k (lit< tt)) (le-of-lt g)) (λ k. large (2 ^ 1074) h (cond s (2 * n * 2 ^ 2148) 0) (cond s 0 (2 * n * 2 ^ 2148)) g (added s) k) u
+past s n h l g u =
+    ⊎-elim (λ k. not-le-of-lt (lt-of-le-of-lt k (lit< tt)) (le-of-lt g))
+    (λ k. large (2 ^ 1074) h (cond s (2 * n * 2 ^ 2148) 0) (cond s 0 (2 * n * 2 ^ 2148)) g (added s) k) u
   where
     added : (s : Bool) → cond s 0 (2 * n * 2 ^ 2148) ≤ 2 * 2 ^ 1074 * 2 ^ 2148
     added true = zero-le
@@ -92,7 +98,8 @@ past s n h l g u = ⊎-elim (λ k. not-le-of-lt (lt-of-le-of-lt k (lit< tt)) (le
     large : (U h x y : ℕ) → 2 * U < h → y ≤ 2 * U * (U * U) → h * h * h + x ≤ 3 * h * (U * U) + y → ⊥
     large U h x y l b k = let f = fall (suc (2 * U)) h (U * U) l (let q : U * U ≤ suc (2 * U) * suc (2 * U) = omega arith in q) x y k in omega arith
 
-cos-nearest : (s : Bool) (n : ℕ) → n ≤ 2 ^ 1074 → let t = cosUnits s n in Nearest false (AtMostSolution s n) (AtLeastSolution s n) (nearestOf t (eqb (left s n t) (right s n t)))
+cos-nearest : (s : Bool) (n : ℕ) → n ≤ 2 ^ 1074 → let t = cosUnits s n in Nearest false (AtMostSolution s n) (AtLeastSolution s n)
+    (nearestOf t (eqb (left s n t) (right s n t)))
 unfolding cosUnits
 cos-nearest s n l =
     let p = atMostSolution s n in
@@ -141,7 +148,8 @@ cosine-range v f l =
     let r = unitsOf (cosOf v) in
     let c = cosine v f l in (
       ⊎-elim (λ h. h) (λ g. low (2 ^ 1073) r (c .larger (fin false 1 (negsuc 0)) half-finite g .0)) (le-or-lt (2 ^ 1073) r),
-      ⊎-elim (λ h. h) (λ g. absurd (past (isSignNegativeOf v) (unitsOf v) (r + 2 ^ 1074) l (high (2 ^ 1074) r g) (c .smaller (fin false 1 (pos 0)) one-finite g))) (le-or-lt r (2 ^ 1074)),
+      ⊎-elim (λ h. h) (λ g. absurd (past (isSignNegativeOf v) (unitsOf v) (r + 2 ^ 1074) l (high (2 ^ 1074) r g)
+          (c .smaller (fin false 1 (pos 0)) one-finite g))) (le-or-lt r (2 ^ 1074)),
     )
   where
     low : (a r : ℕ) → 2 * a ≤ r + a → a ≤ r

@@ -1,4 +1,4 @@
--- The exponent and L, by the digits of a number: 2^z ≤ n / 2^l < 2^(z + 1) where n has z + l + 1 digits. Assumes nothing.
+-- The exponent and L, by the digits of a number: 2^z ≤ n / 2^l < 2^(z + 1) where n has z + l + 1 digits.
 use mathlib.Core.Path.{_≡_, sym, subst}
 use mathlib.Core.Bool.{true}
 use Prim.Native.Nat.{ℕ, zero, suc, _*_, _^_, _≤_, _<_}
@@ -41,7 +41,9 @@ between n l p = go (size n) (size-lt n) (size-reaches n)
 
 pub exponent-between : (x : Float) → Finite x → regularOf x ≡ true → Between (exponentOf x) (unitsOf x) (2 ^ 1074)
 unfolding exponentOf
-exponent-between x f p = let v = regular-is x p in rw (v .2) (between (unitsOf (fin (isSignNegativeOf x) (suc (v .0)) (v .1))) 1074 (rw (v .2) at (regular-units x (f .held) p)))
+exponent-between x f p =
+    let v = regular-is x p in
+    rw (v .2) (between (unitsOf (fin (isSignNegativeOf x) (suc (v .0)) (v .1))) 1074 (rw (v .2) at (regular-units x (f .held) p)))
 
 pub grid-between : (n : ℕ) → 0 < n → Between (gridOf n) (n ^ 256) (2 ^ (1074 * 256))
 unfolding gridOf

@@ -1,4 +1,4 @@
--- A finite double is its sign and its units. Assumes nothing.
+-- A finite double is its sign and its units.
 use mathlib.Core.Path.{_≡_, refl, sym, ap, ap₂, _∙_}
 use mathlib.Core.Logic.{_⊎_, inl, inr, ⊎-elim}
 use mathlib.Core.Bool.{Bool, true, false, cond, true≢false}
@@ -30,12 +30,16 @@ units-exact nan f = absurd (true≢false (sym (f .finite)))
 units-exact (inf s) f = absurd (true≢false (sym (f .finite)))
 units-exact (fin s m e) f =
     let i = exponent e (fits-says s m e (of-true (f .held)) .1) in
-    let v : HasValue (fin s m e) s (m * 2 ^ i .0) (2 ^ 1074) = (refl, mul-assoc m (up e) (2 ^ 1074) ∙ ap (λ (a : ℕ). m * a) (i .1) ∙ sym (mul-assoc m (2 ^ i .0) (down e))) in
+    let v : HasValue (fin s m e) s (m * 2 ^ i .0) (2 ^ 1074) = (
+      refl,
+      mul-assoc m (up e) (2 ^ 1074) ∙ ap (λ (a : ℕ). m * a) (i .1) ∙ sym (mul-assoc m (2 ^ i .0) (down e)),
+    ) in
     rw (units-of (fin s m e) s (m * 2 ^ i .0) v) v
 
 -- ---- the bits are made of the sign and the units
 
-same-bits : (x y : Float) → isFiniteOf x ≡ true → isFiniteOf y ≡ true → isSignNegativeOf x ≡ isSignNegativeOf y → unitsOf x ≡ unitsOf y → toBits binary64 x ≡ toBits binary64 y
+same-bits : (x y : Float) → isFiniteOf x ≡ true → isFiniteOf y ≡ true → isSignNegativeOf x ≡ isSignNegativeOf y → unitsOf x ≡ unitsOf y
+    → toBits binary64 x ≡ toBits binary64 y
 unfolding toBits isFiniteOf isSignNegativeOf
 same-bits (fin s m e) (fin t n d) f g a b = ap₂ (λ (s : Bool) (n : ℕ). cond s (2 ^ 63) 0 + (size n - 53) * 2 ^ 52 + n / 2 ^ (size n - 53)) a b
 same-bits nan y f g a b = absurd (true≢false (sym f))
@@ -45,7 +49,8 @@ same-bits (fin s m e) (inf t) f g a b = absurd (true≢false (sym g))
 
 pub only-one : (x y : Float) → Finite x → Finite y → isSignNegativeOf x ≡ isSignNegativeOf y → unitsOf x ≡ unitsOf y → x ≡ y
 only-one x y f g a b =
-    sym (ofBits-toBits binary64 x (of-true (f .held))) ∙ ap (ofBits binary64) (same-bits x y (f .finite) (g .finite) a b) ∙ ofBits-toBits binary64 y (of-true (g .held))
+    sym (ofBits-toBits binary64 x (of-true (f .held))) ∙ ap (ofBits binary64) (same-bits x y (f .finite) (g .finite) a b)
+    ∙ ofBits-toBits binary64 y (of-true (g .held))
 
 -- ---- the double of n units, where n is w * 2 ^ j
 
@@ -64,11 +69,14 @@ pub held : (x : Float) → Finite x → Held (unitsOf x)
 unfolding isFiniteOf
 held nan f = absurd (true≢false (sym (f .finite)))
 held (inf s) f = absurd (true≢false (sym (f .finite)))
-held (fin s m e) f = let h = shape s m e (of-true (f .held)) in record { w = h .w; j = h .k; is = sym (h .whole .value); short = h .whole .short; reach = units-under (fin s m e) f }
+held (fin s m e) f =
+    let h = shape s m e (of-true (f .held)) in
+    record { w = h .w; j = h .k; is = sym (h .whole .value); short = h .whole .short; reach = units-under (fin s m e) f }
 
 pub double-value : (s : Bool) (n : ℕ) → Held n → HasValue (doubleOf s n) s n (2 ^ 1074)
 unfolding doubleOf
-double-value s n h = round-exact binary64 s n (2 ^ 1074) (h .w) (h .j) (pow-pos 1074) (h .short) (rw (h .is) at (h .reach)) (ap (λ (a : ℕ). a * 2 ^ 1074) (h .is))
+double-value s n h =
+    round-exact binary64 s n (2 ^ 1074) (h .w) (h .j) (pow-pos 1074) (h .short) (rw (h .is) at (h .reach)) (ap (λ (a : ℕ). a * 2 ^ 1074) (h .is))
 
 -- x is that double
 pub itself : (x : Float) → Finite x → x ≡ doubleOf (isSignNegativeOf x) (unitsOf x)
@@ -78,7 +86,8 @@ itself x f =
     let n = unitsOf x in
     let v = double-value s n (held x f) in
     let g = has-sign (doubleOf s n) s n (2 ^ 1074) v in
-    only-one x (doubleOf s n) f (record { held = is-true _ (round-fits binary64 s n (2 ^ 1074)); finite = g .0 }) (sym (g .1)) (sym (units-of (doubleOf s n) s n v))
+    only-one x (doubleOf s n) f (record { held = is-true _ (round-fits binary64 s n (2 ^ 1074)); finite = g .0 }) (sym (g .1))
+    (sym (units-of (doubleOf s n) s n v))
 
 pub less-or : (a b : ℕ) → (a < b) ⊎ (b ≤ a)
 less-or a b = go (leb b a) refl

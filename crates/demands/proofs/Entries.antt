@@ -1,4 +1,4 @@
--- The table's one fact: the definitions give its answers, by computation. Assumes nothing.
+-- The table's one fact: the definitions give its answers, by computation.
 use mathlib.Core.Path.{_≡_, refl, ap, _∙_, sym}
 use mathlib.Core.Logic.{⊎-elim}
 use mathlib.Core.List.{List, [], _∷_, map, List·Memᴰ, List·Memᴰ·not-nil, List·Memᴰ·cases-cons, head-eq-of-cons-eq, tail-eq-of-cons-eq}

@@ -1,4 +1,4 @@
--- Document 01's example has its listing, by computation; and what holds of the listing of an empty file, and of one that is too long. Assumes nothing.
+-- Document 01's example has its listing, by computation; and what holds of the listing of an empty file, and of one that is too long.
 use mathlib.Core.Path.{_≡_, refl, _∙_}
 use mathlib.Core.List.{List, []}
 use Prim.Native.Nat.{ℕ, _<_}

@@ -1,4 +1,4 @@
--- From `nearest-best` to the words of specs/Demands, and what a finite double is that is not zero. Assumes nothing.
+-- From `nearest-best` to the words of specs/Demands, and what a finite double is that is not zero.
 use mathlib.Core.Path.{_≡_, refl, sym, ap, _∙_}
 use mathlib.Core.Bool.{Bool, true, false, not, cond, true≢false}
 use Prim.Native.Nat.{ℕ, zero, suc, _+_, _*_, _^_, _≤_, _<_}
@@ -29,7 +29,8 @@ has-sign (fin t m e) s a c h = (refl, h .0)
 
 -- t passes the test and t + 1 does not: the number is t where it is exact, and less than t + 1 elsewhere
 pub nearest-of : (t : ℕ) (exact : Bool) → t < 2 ^ 2000 → (exact ≡ false → 2 ^ 53 ≤ t) → (under over : ℕ → Type 0)
-    → ((a b : ℕ) → a ≤ b → under b → under a) → ((a b : ℕ) → a ≤ b → over a → over b) → under (2 * t) → (T exact → over (2 * t)) → over (2 * suc t) → Nearest false under over (nearestOf t exact)
+    → ((a b : ℕ) → a ≤ b → under b → under a) → ((a b : ℕ) → a ≤ b → over a → over b) → under (2 * t) → (T exact → over (2 * t))
+    → over (2 * suc t) → Nearest false under over (nearestOf t exact)
 nearest-of t exact small big under over down up lo is hi =
     let v = has-sign (nearestOf t exact) false (unitsOf (nearestOf t exact)) (2 ^ 1074) (nearest-value t exact small) in
     let best = nearest-best t exact small big under over down up lo (above exact is) in
@@ -65,7 +66,8 @@ positive-units x f p = let v = positive-is x p in regular-units x (f .held) (ap 
 
 -- ---- the same number in other words, and with a sign
 
-pub in-words : {s : Bool} {under over : ℕ → Type 0} {r : Float} (below above : ℕ → Type 0) → ((h : ℕ) → under h → below h) → ((h : ℕ) → over h → above h) → Nearest s under over r → Nearest s below above r
+pub in-words : {s : Bool} {under over : ℕ → Type 0} {r : Float} (below above : ℕ → Type 0) → ((h : ℕ) → under h → below h)
+    → ((h : ℕ) → over h → above h) → Nearest s under over r → Nearest s below above r
 in-words {r = r} below above u o n = record {
   finite = n .finite;
   sign = n .sign;

@@ -1,4 +1,4 @@
--- The proof of specs/Demands, from the laws beside it. Assumes nothing.
+-- The proof of specs/Demands, from the laws beside it.
 use mathlib.Core.Path.{refl, ap}
 use mathlib.Core.Logic.{⊎-elim}
 use Prim.Native.Nat.{_-_, _≤_}
@@ -52,14 +52,18 @@ use Rattle.demands.proofs.Entries.{given, stated, all-rows, agree}
 square-root : SquareRoot
 unfolding sqrtOf ofBits
 square-root = record {
-  nearest = λ x f p. rw (sqrt-is x p) (square-nearest _ (λ a. omega arith) _ (scaled-most x 1074 _ f (lit≤ tt)) (λ z. scaled-least (unitsOf x) 1074 _ (positive-units x f p) (lit≤ tt)));
+  nearest =
+      λ x f p. rw (sqrt-is x p) (square-nearest _ (λ a. omega arith) _ (scaled-most x 1074 _ f (lit≤ tt))
+      (λ z. scaled-least (unitsOf x) 1074 _ (positive-units x f p) (lit≤ tt)));
   negative = λ x e. ⊎-elim (λ i. ap sqrtOf i) (λ v. ap sqrtOf (v .2)) (negative-view x e);
   zero = λ s. refl;
 }
 
 cube-root : CubeRoot
 cube-root = record {
-  nearest = λ x f p. rw (cbrt-is x p) (signed _ _ (cube-nearest _ (λ a. omega arith) _ (scaled-most x 2148 _ f (lit≤ tt)) (λ z. scaled-least (unitsOf x) 2148 _ (regular-units x (f .held) p) (lit≤ tt))));
+  nearest =
+      λ x f p. rw (cbrt-is x p) (signed _ _ (cube-nearest _ (λ a. omega arith) _ (scaled-most x 2148 _ f (lit≤ tt))
+      (λ z. scaled-least (unitsOf x) 2148 _ (regular-units x (f .held) p) (lit≤ tt))));
   others = root-special;
 }
 

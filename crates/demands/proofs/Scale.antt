@@ -1,4 +1,4 @@
--- ldexp is exact where x * 2^k is a double: the doubles on the way are those of the units on the way, and from 2^1024 on infinities. Assumes nothing.
+-- ldexp is exact where x * 2^k is a double: the doubles on the way are those of the units on the way, and from 2^1024 on infinities.
 use mathlib.Core.Path.{_≡_, refl, sym, ap, ap₂, _∙_}
 use mathlib.Core.Logic.{⊎-elim}
 use mathlib.Core.Bool.{Bool, true, false}
@@ -53,7 +53,9 @@ module _ (below : Bool) (N : ℕ) (E : ℕ → Float) (step : (i b : ℕ) → i 
   along : (j i : ℕ) → i + j * 1000 ≤ N → chain j (pow2Of (signed below 1000)) (E i) ≡ E (i + j * 1000)
   unfolding chain
   along zero i h = ap E (let q : i ≡ i + 0 * 1000 = omega arith in q)
-  along (suc j) i h = ap (chain j (pow2Of (signed below 1000))) (step i 1000 (omega arith)) ∙ along j (i + 1000) (omega arith) ∙ ap E (let q : i + 1000 + j * 1000 ≡ i + suc j * 1000 = omega arith in q)
+  along (suc j) i h =
+      ap (chain j (pow2Of (signed below 1000))) (step i 1000 (omega arith)) ∙ along j (i + 1000) (omega arith)
+      ∙ ap E (let q : i + 1000 + j * 1000 ≡ i + suc j * 1000 = omega arith in q)
 
   whole : timesPowerOf below N (E 0) ≡ E N
   unfolding timesPowerOf

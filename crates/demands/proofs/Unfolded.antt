@@ -1,4 +1,4 @@
--- The definitions that a computed answer goes through. A fact that names a group on its `unfolding` line may compute these. Assumes nothing.
+-- The definitions that a computed answer goes through. A fact that names a group on its `unfolding` line may compute these.
 use mathlib.Core.List.{flatMap}
 use Prim.Native.Nat.{ℕ}
 use lib.Ieee.{sub, mul, div, le, ne, ofInt, isNan, ofBits, toBits, neg}
@@ -49,7 +49,8 @@ use Rattle.listing.specs.File.{listing}
 
 -- doubles, their bytes, loops and orders
 unfoldable pub arithmetic : ℕ
-unfolding sub mul div le ne ofInt isNan ofBits toBits neg flatMap countUp countDown turnsOf sortedBy insertedAll insertedBy isFiniteOf absOf copysignOf minOf maxOf totalLeOf powiOf f64At bytesOf
+unfolding sub mul div le ne ofInt isNan ofBits toBits neg flatMap countUp countDown turnsOf sortedBy insertedAll insertedBy isFiniteOf absOf
+    copysignOf minOf maxOf totalLeOf powiOf f64At bytesOf
 arithmetic = 0
 
 -- layer 1
@@ -59,27 +60,33 @@ leaves = 0
 
 -- layers 2 and 3
 unfoldable pub evaluation : ℕ
-unfolding downTo splitHigh productError twoProdOf discriminantOf hornerStep valueSlopeOf sumError compensatedStep compensatedOf valueSlopeCompensatedOf derivsStep derivs12Of sizeSumOf overOf weightedOf normOf isSettledOf nextOf refineOf flatOf noGainOf newtonNext newtonCubicOf
+unfolding downTo splitHigh productError twoProdOf discriminantOf hornerStep valueSlopeOf sumError compensatedStep compensatedOf
+    valueSlopeCompensatedOf derivsStep derivs12Of sizeSumOf overOf weightedOf normOf isSettledOf nextOf refineOf flatOf noGainOf newtonNext newtonCubicOf
 evaluation = 0
 
 -- layer 4
 unfoldable pub factoring : ℕ
-unfolding oneRootOf depressedRootsOf cubicClosedFormOf farRootOf rootPairOf isBetterOf judgedOf bestRootOf isolatedRootOf largestOf resolventOf isClearOf ferrariOf quarticFactorOf
+unfolding oneRootOf depressedRootsOf cubicClosedFormOf farRootOf rootPairOf isBetterOf judgedOf bestRootOf isolatedRootOf largestOf
+    resolventOf isClearOf ferrariOf quarticFactorOf
 factoring = 0
 
 -- layer 5
 unfoldable pub scaling : ℕ
-unfolding scaleExponentOf topOf shiftOf coefficientOf coefficientsOf monicAt monicOf sizesOf logSizeOf logSizesOf scaledOf poppedOf hullStep hullOf splitFrom magnitudeSplitOf pushQuadOf pairedOf quarticFactorsOf outOf secondOf factorsFrom factorizeOf
+unfolding scaleExponentOf topOf shiftOf coefficientOf coefficientsOf monicAt monicOf sizesOf logSizeOf logSizesOf scaledOf poppedOf hullStep
+    hullOf splitFrom magnitudeSplitOf pushQuadOf pairedOf quarticFactorsOf outOf secondOf factorsFrom factorizeOf
 scaling = 0
 
 -- layer 6: a list
 unfoldable pub solving : ℕ
-unfolding kept paired magnitudeStep magnitudeOf budgetOf baseOf withinBandOf criticalNext criticalPointOf extremumOf quadraticRootsOf pushFactor pushQuadraticOf polishNext polishOf byValue orderedAt orderedOf polishedAt polishedOf isNearOf joinedFrom joinedOf finishOf trimmedFrom trimmedOf zerosOf refusalBy middleAt middleOf polyOf zeroRootsOf candidatesOf finishedOf solveOf unscaledAll answerOf realRootsOf
+unfolding kept paired magnitudeStep magnitudeOf budgetOf baseOf withinBandOf criticalNext criticalPointOf extremumOf quadraticRootsOf
+    pushFactor pushQuadraticOf polishNext polishOf byValue orderedAt orderedOf polishedAt polishedOf isNearOf joinedFrom joinedOf finishOf
+    trimmedFrom trimmedOf zerosOf refusalBy middleAt middleOf polyOf zeroRootsOf candidatesOf finishedOf solveOf unscaledAll answerOf realRootsOf
 solving = 0
 
 -- an inquiry, a quadratic and a crank
 unfoldable pub asking : ℕ
-unfolding answered touchesAt pairOrder allApart pairAt pairTurn ordered contactOf emitted itemTurn chained touching realRootsTouching startOf valuesOf isGrazingOf twoOf solveQuadraticOf quadraticOf eighthOf fAtOf sampleOf quarticOf crankFrontOf crankStartOf crankOf
+unfolding answered touchesAt pairOrder allApart pairAt pairTurn ordered contactOf emitted itemTurn chained touching realRootsTouching
+    startOf valuesOf isGrazingOf twoOf solveQuadraticOf quadraticOf eighthOf fAtOf sampleOf quarticOf crankFrontOf crankStartOf crankOf
 asking = 0
 
 -- layer 7

@@ -223,9 +223,9 @@ pub record Loops : Type 0 where
 -- ---- demand 1, for a list of any length, bits and tolerance
 
 -- 'An answer has at most four finite roots, each of multiplicity one or more, adding to no more than the degree left once trailing zeros are dropped. A refusal
--- has no root': `Within d` says this of a list of roots, and `Fits` that the array of four has room for them. The numbers: 'is answered', 0, 'or refused under a
--- number from document 01', each exactly under its condition: '1, some coefficient not finite, wherever it stands; 2, trimmed length 0 or 1; 3, trimmed length
--- above 5'.
+-- has no root': `Within d` says this of a list of roots, and `Fits` that the array of four has room for them. The numbers: 'is answered', 0, 'or refused under
+-- a number from document 01', each exactly under its condition: '1, some coefficient not finite, wherever it stands; 2, trimmed length 0 or 1; 3, trimmed
+-- length above 5'.
 pub record Lists : Type 0 where
   pub trimmed : (coeffs : List Float) → Trimmed coeffs (trimmedOf coeffs)
   pub roots : (coeffs : List Float) (tol : Float) → Within (trimmedOf coeffs - 1) (listOf (realRootsOf coeffs tol .roots))
@@ -240,9 +240,9 @@ pub record Lists : Type 0 where
 
 -- ---- 'Contacts that only brush'
 
--- The refusals are a list's. `Fed`: 'For every yes-or-no function of x, feeding its replies gives the Rust's list and asks at the Rust's places in its order', and
--- then nothing is asked. 'At most (degree − 1) questions, 0 where the degree is 1, the degree being that left once trailing zeros are dropped.' Demand 1 holds of the
--- finished list.
+-- The refusals are a list's. `Fed`: 'For every yes-or-no function of x, feeding its replies gives the Rust's list and asks at the Rust's places in its order',
+-- and then nothing is asked. 'At most (degree − 1) questions, 0 where the degree is 1, the degree being that left once trailing zeros are dropped.' Demand 1
+-- holds of the finished list.
 pub record Inquiries : Type 0 where
   pub refusal : (coeffs : List Float) (tol : Float) → startOf coeffs tol .number ≡ refusalOf coeffs
   pub fed : (touches : Float → Bool) (coeffs : List Float) (tol : Float) → Fed touches (startOf coeffs tol .inquiry) coeffs tol
@@ -278,24 +278,25 @@ pub record Quadratics : Type 0 where
 pub record CrankEquations : Type 0 where
   pub every : (confusion a2 b2 c1 d1 e : Float) → Cranks confusion a2 b2 c1 d1 e
 
--- ---- demand 3: 'However many polishing steps are allowed, those that move nothing counted, and wherever they start, no run of them by demand 2's definition can
--- worsen a simple root beyond rounding.'
+-- ---- demand 3: 'However many polishing steps are allowed, those that move nothing counted, and wherever they start, no run of them by demand 2's definition
+-- can worsen a simple root beyond rounding.'
 
--- 'For every scaled polynomial of degree 1 to 4 with coefficients at most 2 in size, and whatever the neighbouring roots, let first and last place be at most 4 in
--- size. With P the exact size of the polynomial at a place and M the exact sum of its terms' sizes, (2^53 − 1)·P(last) is at most
+-- 'For every scaled polynomial of degree 1 to 4 with coefficients at most 2 in size, and whatever the neighbouring roots, let first and last place be at most 4
+-- in size. With P the exact size of the polynomial at a place and M the exact sum of its terms' sizes, (2^53 − 1)·P(last) is at most
 -- (2^53 + 1)·P(first) + 2^-45·(M(first) + M(last)) + 2^-946.' That is `Polished`, both sides times a power of two that makes them whole numbers. n is how many
 -- turns are allowed, the gap is the distance to the nearest neighbour, and the polynomial is f_0 + f_1·y + .. + f_d·y^d.
 pub record Polishing : Type 0 where
   pub run : (n : ℕ) (f : List Float) (d : ℕ) (gap first : Float) → d ≤ 4 → AllAtMost two64 f d → atMost four64 first ≡ true
       → let last = polishOf n f d gap first in atMost four64 last ≡ true → Polished f d first last
 
--- The places with which the roots come to polishing, in order, each with its multiplicity and its gap. All that begins with `solveOf`, as a list does, has these.
+-- The places with which the roots come to polishing, in order, each with its multiplicity and its gap. All that begins with `solveOf`, as a list does, has
+-- these.
 abbrev pub placesOf : List Float → Float → List Ordered
 placesOf coeffs tol = let s = solveOf coeffs tol in orderedOf (candidatesOf (s .poly) (zerosOf coeffs) (factorizeOf (s .poly) 0) (s .tol) .0)
 
 -- The same of every answer: 'A simple root comes to polishing with multiplicity 1. First is the place it comes with, last the one where the loop leaves it.'
--- What is found are these places, each polished by at most four turns, and then joined. Whatever the number of turns n, the k-th of them is not worsened where it
--- comes with multiplicity 1. The polynomial is the list's, scaled, 'with those zeros removed'; that its coefficients are at most 2 in size is no premise.
+-- What is found are these places, each polished by at most four turns, and then joined. Whatever the number of turns n, the k-th of them is not worsened where
+-- it comes with multiplicity 1. The polynomial is the list's, scaled, 'with those zeros removed'; that its coefficients are at most 2 in size is no premise.
 pub record SimpleRoots : Type 0 where
   pub polynomial : (coeffs : List Float) (tol : Float) → let s = solveOf coeffs tol in s .number ≡ 0 → s .poly ≡ polyOf coeffs
   pub found : (coeffs : List Float) (tol : Float) → let s = solveOf coeffs tol in s .number ≡ 0

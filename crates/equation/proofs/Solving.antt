@@ -1,4 +1,4 @@
--- The ways out of `solve_quadratic` and of `quadratic`. Assumes nothing.
+-- The ways out of `solve_quadratic` and of `quadratic`.
 use mathlib.Core.Path.{_≡_, refl, sym, ap, _∙_}
 use mathlib.Core.Bool.{Bool, true, false, true≢false}
 use mathlib.Core.List.{[], _∷_}
@@ -44,7 +44,8 @@ module _ (a b c confusion angular : Float) {s size root : Float} {grazing : Bool
   unfolding twoOf
   same-two k = rw (the-root, signed-root (quadraticDiscOf a b c) b k)
 
-  pub solved-two : {r : QuadraticSolution} → grazing ≡ false → lt (quadraticDiscOf a b c) zero64 ≡ false → r ≡ twoOf a b c root → r ≡ solveQuadraticOf a b c confusion angular
+  pub solved-two : {r : QuadraticSolution} → grazing ≡ false → lt (quadraticDiscOf a b c) zero64 ≡ false → r ≡ twoOf a b c root
+      → r ≡ solveQuadraticOf a b c confusion angular
   unfolding solveQuadraticOf
   solved-two h k is = if-left _ _ not-linear (if-left _ _ (sym the-test ∙ h) (if-left _ _ k (is ∙ same-two k)))
 

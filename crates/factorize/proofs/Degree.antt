@@ -1,4 +1,4 @@
--- The degrees of the factors add to that of the polynomial, at every depth: nlin + 2 nquad is d. Assumes nothing.
+-- The degrees of the factors add to that of the polynomial, at every depth: nlin + 2 nquad is d.
 use mathlib.Core.Path.{_≡_, refl, _∙_}
 use mathlib.Core.Bool.{Bool, true, false, cond, false≢true}
 use mathlib.Core.List.{List}
@@ -77,9 +77,11 @@ degrees-add zero sc D = out-degree (sc .g) (sc .d) D
 degrees-add (suc left) sc D =
     go (leb (sc .d) 2) (secondOf sc (outOf (sc .g) (sc .d))) (parted sc (outOf (sc .g) (sc .d)) D) (λ sub h. degrees-add left sub h)
   where
-    merge : (second : Second) → Parted (sc .d) second → second .found ≡ true → degreeOf (factorsFrom left (second .sub)) ≡ second .sub .d → degreeOf (mergedOf (second .large) (factorsFrom left (second .sub)) (second .sub .e)) ≡ sc .d
+    merge : (second : Second) → Parted (sc .d) second → second .found ≡ true → degreeOf (factorsFrom left (second .sub)) ≡ second .sub .d
+        → degreeOf (mergedOf (second .large) (factorsFrom left (second .sub)) (second .sub .e)) ≡ sc .d
     merge second P h i =
-        merged-degree (second .large) (factorsFrom left (second .sub)) (second .sub .e) (omega (arith, i, P .most, P .rest h)) ∙ omega (arith, i, P .most, P .rest h)
+        merged-degree (second .large) (factorsFrom left (second .sub)) (second .sub .e) (omega (arith, i, P .most, P .rest h))
+        ∙ omega (arith, i, P .most, P .rest h)
 
     either : (second : Second) → Parted (sc .d) second → degreeOf (factorsFrom left (second .sub)) ≡ second .sub .d → (f : Bool) → second .found ≡ f
         → degreeOf (cond f (mergedOf (second .large) (factorsFrom left (second .sub)) (second .sub .e)) (outOf (sc .g) (sc .d))) ≡ sc .d
@@ -87,6 +89,7 @@ degrees-add (suc left) sc D =
     either second P i false h = out-degree (sc .g) (sc .d) D
 
     go : (low : Bool) (second : Second) → Parted (sc .d) second → ((sub : Scaled) → sub .d ≤ 4 → degreeOf (factorsFrom left sub) ≡ sub .d)
-        → degreeOf (cond low (outOf (sc .g) (sc .d)) (cond (second .found) (mergedOf (second .large) (factorsFrom left (second .sub)) (second .sub .e)) (outOf (sc .g) (sc .d)))) ≡ sc .d
+        → degreeOf (cond low (outOf (sc .g) (sc .d)) (cond (second .found)
+        (mergedOf (second .large) (factorsFrom left (second .sub)) (second .sub .e)) (outOf (sc .g) (sc .d)))) ≡ sc .d
     go true second P ih = out-degree (sc .g) (sc .d) D
     go false second P ih = either second P (ih (second .sub) (omega (arith, P .most))) (second .found) refl

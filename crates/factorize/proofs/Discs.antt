@@ -1,4 +1,4 @@
--- Factors with their discriminants, from the factors alone. Assumes nothing.
+-- Factors with their discriminants, from the factors alone.
 use mathlib.Core.Path.{_≡_, refl, sym, ap, _∙_}
 use mathlib.Core.List.{[], _∷_}
 use Prim.Native.Nat.{ℕ, zero, suc, _<_, _≤_}
@@ -29,15 +29,19 @@ unfolding isolatedOf
 is-far quads is = ap (λ (p : Pairing). p .far) is
 
 two-rooted : (al be ga de : Float)
-    → record { f = pushQuadOf (pushQuadOf noFactors al be) ga de; disc = discOf al be ∷ discOf ga de ∷ [] } ≡ rootedOf (pushQuadOf (pushQuadOf noFactors al be) ga de)
+    → record { f = pushQuadOf (pushQuadOf noFactors al be) ga de; disc = discOf al be ∷ discOf ga de ∷ [] }
+    ≡ rootedOf (pushQuadOf (pushQuadOf noFactors al be) ga de)
 unfolding rootedOf discAt pushQuadOf
 two-rooted al be ga de = refl
 
 -- two quadratics with the discriminants that `isolated` took
-pub in-two : {s : Pairing} (quads : QuarticFactor) {n m f : Factors} (g : Factors) → s ≡ isolatedOf quads → n ≡ noFactors → m ≡ pushQuadOf n (quads .al) (quads .be) → f ≡ pushQuadOf m (quads .ga) (quads .de)
+pub in-two : {s : Pairing} (quads : QuarticFactor) {n m f : Factors} (g : Factors) → s ≡ isolatedOf quads → n ≡ noFactors
+    → m ≡ pushQuadOf n (quads .al) (quads .be) → f ≡ pushQuadOf m (quads .ga) (quads .de)
     → f ≡ g → record { f = f; disc = s .first ∷ s .second ∷ [] } ≡ rootedOf g
 unfolding isolatedOf
-in-two quads g is N M F h = handed-on (pushQuadOf (pushQuadOf noFactors (quads .al) (quads .be)) (quads .ga) (quads .de)) (rw (is, F, M, N) (two-rooted (quads .al) (quads .be) (quads .ga) (quads .de))) h
+in-two quads g is N M F h =
+    handed-on (pushQuadOf (pushQuadOf noFactors (quads .al) (quads .be)) (quads .ga) (quads .de))
+    (rw (is, F, M, N) (two-rooted (quads .al) (quads .be) (quads .ga) (quads .de))) h
 
 -- disc[i] is the discriminant of quad[i]
 pub disc-is : (r : Rooted) (i : ℕ) → r ≡ rootedOf (r .f) → i < r .f .nquad → r .f .nquad ≤ 2

@@ -1,5 +1,5 @@
 -- The scaling theorem holds of a second scaling: its coefficients are at most the leading one in size, which lies in [1, 2), and so at most 2. For where there
--- is one, `usable` has said of the quotient what the theorem asks. Assumes nothing.
+-- is one, `usable` has said of the quotient what the theorem asks.
 use mathlib.Core.Path.{_≡_}
 use mathlib.Core.Bool.{true, _&&_, false≢true}
 use mathlib.Core.List.{List}
@@ -33,7 +33,8 @@ pub record Promised (sc : Scaled) : Type 0 where
   pub leading : (2 ^ 1074 ≤ unitsOf (getD (sc .f) (sc .d) nan)) × (unitsOf (getD (sc .f) (sc .d) nan) < 2 ^ 1075)
   pub small : (i : ℕ) → i ≤ sc .d → (fits binary64 (getD (sc .f) i nan) && le (absOf (getD (sc .f) i nan)) two64) ≡ true
 
-promised : (g : List Float) (p : Monic) (small : ℕ) → small ≤ 4 → usableOf (quotientOf g p small) small ≡ true → Promised (scaledOf (quotientOf g p small) small)
+promised : (g : List Float) (p : Monic) (small : ℕ) → small ≤ 4 → usableOf (quotientOf g p small) small ≡ true
+    → Promised (scaledOf (quotientOf g p small) small)
 unfolding scaledOf
 promised g p small D U =
     let s = quotientOf g p small in

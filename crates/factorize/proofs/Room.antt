@@ -1,4 +1,4 @@
--- No push of factorize meets a full array, at any depth: the degrees add to 4 at most. Assumes nothing.
+-- No push of factorize meets a full array, at any depth: the degrees add to 4 at most.
 use mathlib.Core.Path.{_≡_}
 use mathlib.Core.Bool.{true}
 use Prim.Native.Nat.{ℕ, _+_, _≤_, _<_}
@@ -18,7 +18,8 @@ use Rattle.factorize.proofs.Degree.{out-degree, Parted, parted, degrees
 -- merging: the i-th factor of `inner` finds room behind those before it
 pub record Merges (second : Second) (inner : Factors) : Type 0 where
   pub lins : (i : ℕ) → i < inner .nlin → countUp i (backLin inner (second .sub .e)) i (second .large) .nlin < 4
-  pub quads : (i : ℕ) → i < inner .nquad → countUp i (backQuad inner (second .sub .e)) i (countUp (inner .nlin) (backLin inner (second .sub .e)) (inner .nlin) (second .large)) .nquad < 2
+  pub quads : (i : ℕ) → i < inner .nquad → countUp i (backQuad inner (second .sub .e)) i
+      (countUp (inner .nlin) (backLin inner (second .sub .e)) (inner .nlin) (second .large)) .nquad < 2
 
 module _ (left : ℕ) (sc : Scaled) (D : sc .d ≤ 4) where
   abbrev out : Factors
@@ -31,7 +32,8 @@ module _ (left : ℕ) (sc : Scaled) (D : sc .d ≤ 4) where
   pub factors-find-room : secondOf sc out .found ≡ true → Merges (secondOf sc out) (factorsFrom left (secondOf sc out .sub))
   factors-find-room h = go (secondOf sc out) (parted sc out D) h (λ sub l. degrees-add left sub l)
     where
-      go : (second : Second) → Parted (sc .d) second → second .found ≡ true → ((sub : Scaled) → sub .d ≤ 4 → degreeOf (factorsFrom left sub) ≡ sub .d) → Merges second (factorsFrom left (second .sub))
+      go : (second : Second) → Parted (sc .d) second → second .found ≡ true
+          → ((sub : Scaled) → sub .d ≤ 4 → degreeOf (factorsFrom left sub) ≡ sub .d) → Merges second (factorsFrom left (second .sub))
       go second P h add =
           let inner = factorsFrom left (second .sub) in
           let room : degreeOf (second .large) + degreeOf inner ≤ 4 = omega (arith, P .most, P .rest h, add (second .sub) (omega (arith, P .most))) in

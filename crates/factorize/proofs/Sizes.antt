@@ -1,4 +1,4 @@
--- What each call in factorize asks of the counts, degrees and exponents that earlier calls gave. Assumes nothing.
+-- What each call in factorize asks of the counts, degrees and exponents that earlier calls gave.
 use mathlib.Core.Path.{_≡_, sym, ap, _∙_, subst}
 use mathlib.Core.List.{List}
 use Prim.Native.Nat.{ℕ, _-_, _^_, _≤_, _<_}

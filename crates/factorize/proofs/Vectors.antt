@@ -1,4 +1,4 @@
--- Worked values: what factorize of poly.rs gives in the reference build, computed from the definitions. Assumes nothing.
+-- Worked values: what factorize of poly.rs gives in the reference build, computed from the definitions.
 use mathlib.Core.Path.{_≡_, refl}
 use mathlib.Core.List.{[], _∷_, flatMap}
 use Prim.Native.Nat.{ℕ}
@@ -23,7 +23,10 @@ use Rattle.factorize.specs.Factorize.{cubicFactorsOf, pairedOf, quarticF
 
 -- what has to unfold for the definitions to compute: a fact says `unfolding computes`
 unfoldable pub computes : ℕ
-unfolding factors-compute flatMap ofInt size insertedBy insertedAll sortedBy floorOf chain timesPowerOf ldexpOf greatest exponentOf heldAt heldBelow tooSmall scaleExponentOf topOf shiftOf coefficientOf coefficientsOf monicAt monicOf scaledOf crossOf poppedOf hullStep hullOf magOf exp2Of splitFrom magnitudeSplitOf pushLinOf pushQuadOf quadUnitsOf factorUnitsOf endsOf withUnit largeFrom largeOf productTermOf nextAt mulOf productOf accOf quotientOf usableOf mergedOf cubicFactorsOf pairedOf quarticFactorsOf outOf secondOf factorsFrom factorizeOf
+unfolding factors-compute flatMap ofInt size insertedBy insertedAll sortedBy floorOf chain timesPowerOf ldexpOf greatest exponentOf heldAt
+    heldBelow tooSmall scaleExponentOf topOf shiftOf coefficientOf coefficientsOf monicAt monicOf scaledOf crossOf poppedOf hullStep hullOf
+    magOf exp2Of splitFrom magnitudeSplitOf pushLinOf pushQuadOf quadUnitsOf factorUnitsOf endsOf withUnit largeFrom largeOf productTermOf
+    nextAt mulOf productOf accOf quotientOf usableOf mergedOf cubicFactorsOf pairedOf quarticFactorsOf outOf secondOf factorsFrom factorizeOf
 computes = 0
 
 abbrev bits : ℕ → Float
@@ -44,12 +47,23 @@ cubic = record {
 }
 
 -- the gap parts the last root from the others, and a second scaling gives it alone
-cubic-split : factorizeOf cubic 0 ≡ record { lin = bits 0x3fe0_0000_0000_0000 ∷ bits 0x3fd0_0000_0000_0000 ∷ bits 0x3f20_0000_0000_0000 ∷ none ∷ []; nlin = 3; quad = quadOf none none ∷ quadOf none none ∷ []; nquad = 0 }
+cubic-split : factorizeOf cubic 0 ≡ record {
+  lin = bits 0x3fe0_0000_0000_0000 ∷ bits 0x3fd0_0000_0000_0000 ∷ bits 0x3f20_0000_0000_0000
+      ∷ none ∷ [];
+  nlin = 3;
+  quad = quadOf none none ∷ quadOf none none ∷ [];
+  nquad = 0;
+}
 unfolding computes
 cubic-split = refl
 
 -- not at depth 3
-cubic-whole : factorizeOf cubic 3 ≡ record { lin = bits 0x3fe0_0000_0000_0000 ∷ none ∷ none ∷ none ∷ []; nlin = 1; quad = quadOf (bits 0xbfd0_0200_0000_0000) (bits 0x3f00_0000_0000_0000) ∷ quadOf none none ∷ []; nquad = 1 }
+cubic-whole : factorizeOf cubic 3 ≡ record {
+  lin = bits 0x3fe0_0000_0000_0000 ∷ none ∷ none ∷ none ∷ [];
+  nlin = 1;
+  quad = quadOf (bits 0xbfd0_0200_0000_0000) (bits 0x3f00_0000_0000_0000) ∷ quadOf none none ∷ [];
+  nquad = 1;
+}
 unfolding computes
 cubic-whole = refl
 
@@ -65,6 +79,11 @@ quartic = record {
 }
 
 -- a quadratic is split at the gap, a pair stays
-quartic-split : factorizeOf quartic 0 ≡ record { lin = bits 0x3fbd_e06e_44bf_2997 ∷ bits 0x3f20_0000_0000_0000 ∷ none ∷ none ∷ []; nlin = 2; quad = quadOf (bits 0xbfd8_87e4_6ed0_359a) (bits 0x3fd1_2319_a696_e214) ∷ quadOf none none ∷ []; nquad = 1 }
+quartic-split : factorizeOf quartic 0 ≡ record {
+  lin = bits 0x3fbd_e06e_44bf_2997 ∷ bits 0x3f20_0000_0000_0000 ∷ none ∷ none ∷ [];
+  nlin = 2;
+  quad = quadOf (bits 0xbfd8_87e4_6ed0_359a) (bits 0x3fd1_2319_a696_e214) ∷ quadOf none none ∷ [];
+  nquad = 1;
+}
 unfolding computes
 quartic-split = refl

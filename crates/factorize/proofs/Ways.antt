@@ -1,4 +1,4 @@
--- The ways through factorize, over plain values, with the depth as code has it. Assumes nothing.
+-- The ways through factorize, over plain values, with the depth as code has it.
 use mathlib.Core.Path.{_≡_, sym, ap, _∙_}
 use mathlib.Core.Bool.{Bool, true, false}
 use mathlib.Core.List.{List}
@@ -28,7 +28,8 @@ use Rattle.quotient.specs.Quotient.{productOf, quotientOf, usableOf, mergedOf}
 use Rattle.factorize.specs.Factorize.{pairedOf, quarticFactorsOf, outOf, secondOf, factorsFrom, factorizeOf}
 
 -- ---- a quartic
-module _ (b c d e : Float) (quads : QuarticFactor) (far : LoneRoot) (Q : quads ≡ quarticFactorOf b c d e) (I : far ≡ isolatedRootOf quads) (n : Factors) (N : n ≡ noFactors) where
+module _ (b c d e : Float) (quads : QuarticFactor) (far : LoneRoot) (Q : quads ≡ quarticFactorOf b c d e) (I : far ≡ isolatedRootOf quads)
+    (n : Factors) (N : n ≡ noFactors) where
   pub peeled : (r : Float) (p : Peeled) (k : CubicFactor) (m o f : Factors) → far ≡ lone.At r → p ≡ peelRootOf b c d e r
       → k ≡ cubicFactorOf (p .h2) (p .h1) (p .h0) → m ≡ pushLinOf n (p .r)
       → o ≡ pushLinOf m (k .r) → f ≡ pushQuadOf o (k .e) (k .f) → f ≡ quarticFactorsOf b c d e

@@ -1,4 +1,4 @@
--- The counts of factors: one more where a push finds room. Assumes nothing.
+-- The counts of factors: one more where a push finds room.
 use mathlib.Core.Path.{_≡_, ap}
 use Prim.Native.Nat.{ℕ, _+_, _<_}
 use native.Mathlib.Omega.{arith}

@@ -1,5 +1,5 @@
 -- What a test gives: what its two arms return is what `cond` gives, what holds of both arms holds of it, and a test of two parts is known by its parts.
--- Assumes nothing. Statement and proof of each law stand together here: it is a tool of other proofs, and there is nothing that a reader has to believe.
+-- Statement and proof of each law stand together here: it is a tool of other proofs, and there is nothing that a reader has to believe.
 use mathlib.Core.Path.{_≡_, refl, sym}
 use mathlib.Core.Bool.{Bool, true, false, cond, _&&_, true≢false}
 

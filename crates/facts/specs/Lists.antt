@@ -1,5 +1,5 @@
 -- Lists: sums over them, and what holds of all their items; the first n of an array, as a loop reads them; one more behind them; an array of four by its
--- places. Assumes nothing.
+-- places.
 -- The definitions to read are `sumOf` and `AllOf`. The laws stand here with their proofs: tools of other proofs, in which there is nothing to believe.
 use mathlib.Core.Path.{_≡_, sym, ap, _∙_}
 use mathlib.Core.List.{List, [], _∷_, _++_, map}

@@ -1,6 +1,6 @@
 -- A stable sort: each item in turn goes behind those that the test puts before it, so ties stay in their earlier order. It keeps the number of items, each sum
 -- over them, and what holds of all of them; it goes by what the test says of the items; and to sort numbers of places by the keys there, and then to read, is
--- to sort what is read. Assumes nothing.
+-- to sort what is read.
 -- The definition to read is `sortedBy`, with the two before it. Its laws stand here with their proofs: tools of other proofs, with nothing to believe.
 use mathlib.Core.Path.{_≡_, refl, ap, _∙_}
 use mathlib.Core.Bool.{Bool, true, false, cond}
@@ -43,7 +43,8 @@ module _ {A : Type 0} (before : A → A → Bool) where
   sum-inserted : (size : A → ℕ) (x : A) (l : List A) → sumOf size (insertedBy before x l) ≡ size x + sumOf size l
   unfolding insertedBy
   sum-inserted size x [] = refl
-  sum-inserted size x (y ∷ l) = either-way (λ (m : List A). sumOf size m ≡ size x + (size y + sumOf size l)) (before y x) (omega (arith, sum-inserted size x l)) (omega arith)
+  sum-inserted size x (y ∷ l) =
+      either-way (λ (m : List A). sumOf size m ≡ size x + (size y + sumOf size l)) (before y x) (omega (arith, sum-inserted size x l)) (omega arith)
 
   sum-all : (size : A → ℕ) (s l : List A) → sumOf size (insertedAll before s l) ≡ sumOf size s + sumOf size l
   unfolding insertedAll

@@ -1,4 +1,4 @@
--- A rule of a table holds at each of its entries, by one test that the checker computes over the whole table: `every-at f xs tt k h`. Assumes nothing.
+-- A rule of a table holds at each of its entries, by one test that the checker computes over the whole table: `every-at f xs tt k h`.
 -- The definition to read is `every`. Its law stands here with its proof: a tool of other proofs, in which there is nothing to believe.
 use mathlib.Core.Path.{_∙_, subst, sym}
 use mathlib.Core.Bool.{Bool, true, _&&_}

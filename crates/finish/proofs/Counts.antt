@@ -1,4 +1,4 @@
--- At most four roots are finished, whatever the candidates are. Assumes nothing.
+-- At most four roots are finished, whatever the candidates are.
 use mathlib.Core.List.{List, [], _∷_}
 use Prim.Native.Nat.{_≤_}
 use native.Mathlib.Omega.{arith}

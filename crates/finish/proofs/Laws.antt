@@ -1,4 +1,4 @@
--- What the multiplicities of the polished places add up to; and the two steps, in order and polished, together. Assumes nothing.
+-- What the multiplicities of the polished places add up to; and the two steps, in order and polished, together.
 use mathlib.Core.Path.{_≡_, sym, ap, _∙_}
 use mathlib.Core.Bool.{Bool}
 use mathlib.Core.List.{List, map}

@@ -1,4 +1,4 @@
--- Demand 3 for each simple root of a list: where place k in the order has multiplicity 1, polishing has made it no worse beyond rounding. Assumes nothing.
+-- Demand 3 for each simple root of a list: where place k in the order has multiplicity 1, polishing has made it no worse beyond rounding.
 use mathlib.Core.Path.{_≡_}
 use mathlib.Core.Bool.{true}
 use mathlib.Core.List.{List}

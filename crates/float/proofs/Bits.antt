@@ -1,4 +1,4 @@
--- Which patterns are a NaN's, and what a double's pattern is. Assumes nothing.
+-- Which patterns are a NaN's, and what a double's pattern is.
 use mathlib.Core.Path.{_≡_, refl, sym, ap, subst, _∙_}
 use mathlib.Core.Bool.{Bool, true, not, false≢true}
 use Prim.Native.Nat.{ℕ, _%_, _^_, _<_, _≤_}

@@ -1,4 +1,4 @@
--- Writing eight bytes, and reading them back. Assumes nothing.
+-- Writing eight bytes, and reading them back.
 use mathlib.Core.Path.{_≡_, refl, sym, ap, _∙_}
 use mathlib.Core.List.{List, [], _∷_}
 use Prim.Native.Nat.{ℕ, zero, suc, _+_, _-_, _/_, _%_, _^_, _<_, _≤_}
@@ -14,7 +14,8 @@ use Rattle.float.proofs.Bits.{bits-below}
 
 -- ---- the loop that writes: what is left, done to the buffer as it is, is the whole
 
-pub put-turn : (l : List ℕ) (at i n : ℕ) → i < 8 → sets l (at + i) (lowBytes (8 - i) n) ≡ sets (set l (at + i) (n % 256)) (at + (i + 1)) (lowBytes (8 - (i + 1)) (n / 256))
+pub put-turn : (l : List ℕ) (at i n : ℕ) → i < 8 → sets l (at + i) (lowBytes (8 - i) n)
+    ≡ sets (set l (at + i) (n % 256)) (at + (i + 1)) (lowBytes (8 - (i + 1)) (n / 256))
 put-turn l at i n h =
     let e : 8 - i ≡ suc (8 - (i + 1)) = omega arith in
     let f : suc (at + i) ≡ at + (i + 1) = omega arith in
@@ -38,7 +39,9 @@ run-at l [] at i h g = absurd (none h)
   where
     none : i < 0 → ⊥
     none h = omega arith
-run-at l (v ∷ vs) at zero h g = ap (λ (j : ℕ). getD (sets (set l at v) (suc at) vs) j 0) (add-zero at) ∙ before-run (set l at v) vs (suc at) at (omega arith) ∙ getD-set-same l at v 0 (omega arith)
+run-at l (v ∷ vs) at zero h g =
+    ap (λ (j : ℕ). getD (sets (set l at v) (suc at) vs) j 0) (add-zero at) ∙ before-run (set l at v) vs (suc at) at (omega arith)
+    ∙ getD-set-same l at v 0 (omega arith)
 run-at l (v ∷ vs) at (suc i) h g =
     let e : at + suc i ≡ suc at + i = omega arith in
     ap (λ (j : ℕ). getD (sets (set l at v) (suc at) vs) j 0) e ∙ run-at (set l at v) vs (suc at) i (omega arith) (simp length-set (omega arith))
@@ -61,7 +64,8 @@ same-bytes s vs at h =
 
 -- what put_u64 wrote is what u64_at reads
 pub u64-back : (l : List ℕ) (at n : ℕ) → at + 8 ≤ length l → n < 2 ^ 64 → u64At (sets l at (bytesOf n)) at ≡ n
-u64-back l at n g h = same-bytes (sets l at (bytesOf n)) (bytesOf n) at (λ i k. run-at l (bytesOf n) at i (rw length-bytes k) (rw length-bytes g)) ∙ u64-of-bytes n h
+u64-back l at n g h =
+    same-bytes (sets l at (bytesOf n)) (bytesOf n) at (λ i k. run-at l (bytesOf n) at i (rw length-bytes k) (rw length-bytes g)) ∙ u64-of-bytes n h
 
 -- what put_f64 wrote is what f64_at reads
 pub f64-back : (l : List ℕ) (at : ℕ) (x : Float) → at + 8 ≤ length l → T (fits binary64 x) → f64At (sets l at (bytesOf (toBits binary64 x))) at ≡ x

@@ -1,4 +1,4 @@
--- Whether all numbers of a list are finite: at each place, of one number, and as a loop finds it. Assumes nothing.
+-- Whether all numbers of a list are finite: at each place, of one number, and as a loop finds it.
 use mathlib.Core.Path.{_≡_, sym, _∙_}
 use mathlib.Core.Bool.{Bool, true, _&&_, and-true, and-assoc, and-eq-true-iff}
 use mathlib.Core.List.{List, [], _∷_}

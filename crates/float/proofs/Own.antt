@@ -1,8 +1,9 @@
--- A number of the format is its own rounding, so 0 - x is exact, and abs may be computed by it. Assumes nothing.
+-- A number of the format is its own rounding, so 0 - x is exact, and abs may be computed by it.
 use mathlib.Core.Path.{_≡_, refl, sym, ap, subst, _∙_}
 use mathlib.Core.Bool.{Bool, true, false, _&&_, _||_, true≢false, false≢true}
 use Prim.Native.Nat.{ℕ, zero, suc, _+_, _*_, _%_, _^_, _<_, _≤_}
-use native.Mathlib.Nat.{mul-assoc, mul-left-comm, mul-one, one-mul, zero-mul, zero-add, pow-suc, pow-succ', lt-irrefl, zero-lt-suc, mul-pos, eq-of-mul-eq-mul-right, mul-lt-mul-of-pos-right, lt-of-mul-lt-mul-right, mul-right-comm}
+use native.Mathlib.Nat.{mul-assoc, mul-left-comm, mul-one, one-mul, zero-mul, zero-add, pow-suc, pow-succ'}
+use native.Mathlib.Nat.{lt-irrefl, zero-lt-suc, mul-pos, eq-of-mul-eq-mul-right, mul-lt-mul-of-pos-right, lt-of-mul-lt-mul-right, mul-right-comm}
 use native.Mathlib.Omega.{arith}
 use borrow.Author.Tests.{le-ltb, ne-eqb}
 use lib.IntN.{ℤ, pos, negsuc}
@@ -69,7 +70,8 @@ pub own-round : (s : Bool) (m : ℕ) (e : ℤ) → T (fits binary64 (fin s (suc 
 unfolding oneUnits
 own-round s m e t =
     let x = exponent e (fits-says s (suc m) e t .1) in
-    let at : suc m * up e * 2 ^ 1074 ≡ suc m * 2 ^ x .0 * down e = mul-assoc (suc m) (up e) (2 ^ 1074) ∙ ap (λ (z : ℕ). suc m * z) (x .1) ∙ sym (mul-assoc (suc m) (2 ^ x .0) (down e)) in
+    let at : suc m * up e * 2 ^ 1074 ≡ suc m * 2 ^ x .0 * down e = mul-assoc (suc m) (up e) (2 ^ 1074) ∙ ap (λ (z : ℕ). suc m * z) (x .1)
+    ∙ sym (mul-assoc (suc m) (2 ^ x .0) (down e)) in
     let most : suc m * 2 ^ x .0 * down e < 2 ^ (1074 + 1024) * down e =
     subst (λ (z : ℕ). z < 2 ^ (1074 + 1024) * down e) at (subst (λ (z : ℕ). suc m * up e * 2 ^ 1074 < z)
     (mul-right-comm (2 ^ 1024) (down e) (2 ^ 1074) ∙ ap (λ (z : ℕ). z * down e) (sym (pow-add 2 1024 1074)))
@@ -81,13 +83,15 @@ own-round s m e t =
     is nan f v = absurd v
     is (inf u) f v = absurd v
     is (fin u zero g) f v =
-        absurd (lt-irrefl 0 (subst (λ (z : ℕ). 0 < z) (sym (sym (zero-mul (down e)) ∙ sym (ap (λ (z : ℕ). z * down e) (zero-mul (up g))) ∙ v .1)) (mul-pos (mul-pos (zero-lt-suc m) (up-pos e)) (down-pos g))))
+        absurd (lt-irrefl 0 (subst (λ (z : ℕ). 0 < z) (sym (sym (zero-mul (down e)) ∙ sym (ap (λ (z : ℕ). z * down e) (zero-mul (up g)))
+        ∙ v .1)) (mul-pos (mul-pos (zero-lt-suc m) (up-pos e)) (down-pos g))))
     is (fin u (suc n) g) f v =
         ap (λ (b : Bool). fin b (suc n) g) (v .0) ∙ same-value s (suc n) (suc m) g e (odd-below u n g f .0) (odd-below s m e t .0) (v .1)
 
 zero-is : (s : Bool) (e : ℤ) → T (fits binary64 (fin s 0 e)) → fin s 0 e ≡ fin s 0 (pos 0)
 unfolding fits
-zero-is s e t = whole-unique binary64 (fin s 0 e) (fin s 0 (pos 0)) s 0 t tt (refl, ap (λ (z : ℕ). z * 1) (zero-mul (up e)) ∙ sym (zero-mul (down e))) (refl, refl)
+zero-is s e t =
+    whole-unique binary64 (fin s 0 e) (fin s 0 (pos 0)) s 0 t tt (refl, ap (λ (z : ℕ). z * 1) (zero-mul (up e)) ∙ sym (zero-mul (down e))) (refl, refl)
 
 -- at most 0: 0 - x is the size of x
 pub abs-less : (x : Float) → T (fits binary64 x) → le x zero64 ≡ true → sub binary64 zero64 x ≡ absOf x
@@ -101,7 +105,8 @@ abs-less (fin s zero e) t h = ap (sub binary64 zero64) (zero-is s e t) ∙ of s 
     of true = refl
     of false = refl
 abs-less (fin true (suc m) e) t h =
-    ap (λ (z : ℕ). round binary64 false z (1 * down e)) (ap (λ (z : ℕ). z + suc m * up e * 1) (zero-mul (down e)) ∙ zero-add (suc m * up e * 1) ∙ mul-one (suc m * up e))
+    ap (λ (z : ℕ). round binary64 false z (1 * down e)) (ap (λ (z : ℕ). z + suc m * up e * 1) (zero-mul (down e))
+    ∙ zero-add (suc m * up e * 1) ∙ mul-one (suc m * up e))
     ∙ ap (round binary64 false (suc m * up e)) (one-mul (down e))
     ∙ own-round false m e t
 abs-less (fin false (suc m) e) t h =

@@ -1,9 +1,10 @@
--- A whole number is at most x exactly where it is at most x rounded down. Assumes nothing.
+-- A whole number is at most x exactly where it is at most x rounded down.
 use mathlib.Core.Path.{_≡_, refl, sym, ap, subst, _∙_}
 use mathlib.Core.Bool.{Bool, true, false, cond, _&&_, _||_, and-false}
 use mathlib.Core.Logic.{_↔_}
 use Prim.Native.Nat.{ℕ, zero, suc, _+_, _-_, _*_, _/_, _<_, _≤_, min, zero-le}
-use native.Mathlib.Nat.{mul-one, mul-right-comm, suc-mul, zero-mul, mul-pos, zero-lt-suc, le-of-lt, le-of-eq, lt-of-not-le, mul-le-mul-right, le-of-mul-le-mul-right, le-div-iff-mul-le, div-lt-iff-lt-mul}
+use native.Mathlib.Nat.{mul-one, mul-right-comm, suc-mul, zero-mul, mul-pos, zero-lt-suc, le-of-lt}
+use native.Mathlib.Nat.{le-of-eq, lt-of-not-le, mul-le-mul-right, le-of-mul-le-mul-right, le-div-iff-mul-le, div-lt-iff-lt-mul}
 use native.Mathlib.Omega.{arith}
 use borrow.Author.Tests.{ltb-true, ltb-false, leb-true, leb-false, eqb-true, eqb-false, lt-ltb, le-ltb, ne-eqb, le-leb, lt-leb}
 use lib.Dec.{ltb, leb}
@@ -91,13 +92,15 @@ cut-up b d n D l =
 -- ---- n, and -n, against x
 
 -- +0 against a number with the sign set is as -0 against it, and nothing above 0 is at most such a number
-up-down : (p : ℕ) (g : ℤ) (n : ℕ) (v : p * up g * 1 ≡ n * down g) (m : ℕ) (e : ℤ) → le (fin false p g) (fin true m e) ≡ leb (8192 + n) (8192 - (m * up e + (down e - 1)) / down e)
+up-down : (p : ℕ) (g : ℤ) (n : ℕ) (v : p * up g * 1 ≡ n * down g) (m : ℕ) (e : ℤ)
+    → le (fin false p g) (fin true m e) ≡ leb (8192 + n) (8192 - (m * up e + (down e - 1)) / down e)
 unfolding le lt eq
 up-down p g zero v m e =
     let none : p * up g * down e ≡ 0 = crossed p g 0 v m e ∙ simp zero-mul in
     let turned : le (fin false p g) (fin true m e) ≡ le (fin true p g) (fin true m e) = simp (none, le-ltb (m * up e * down g) 0 zero-le) in
     turned ∙ down-down p g 0 v m e ∙ cut-up (m * up e) (down e) 0 (down-pos e) (omega arith)
-up-down p g (suc k) v m e = simp (ne-eqb (p * up g * down e) 0 (no (some p g (suc k) v m e (zero-lt-suc k))), and-false) (sym (lt-leb (8192 + suc k) _ (omega arith)))
+up-down p g (suc k) v m e =
+    simp (ne-eqb (p * up g * down e) 0 (no (some p g (suc k) v m e (zero-lt-suc k))), and-false) (sym (lt-leb (8192 + suc k) _ (omega arith)))
   where
     no : 0 < p * up g * down e → p * up g * down e ≡ 0 → ⊥
     no h z = omega arith
@@ -116,7 +119,8 @@ module _ (p : ℕ) (g : ℤ) (n : ℕ) (v : p * up g * 1 ≡ n * down g) (l : n 
   down-is o nan = sym (lt-leb (8192 - n) 0 (omega arith))
   down-is o (inf true) = sym (lt-leb (8192 - n) 0 (omega arith))
   down-is o (inf false) = sym (le-leb (8192 - n) 16383 (omega arith))
-  down-is o (fin false m e) = simp (lt-ltb 0 (p * up g * down e + m * up e * down g) (omega (arith, some p g n v m e o))) (sym (le-leb (8192 - n) _ (omega arith)))
+  down-is o (fin false m e) =
+      simp (lt-ltb 0 (p * up g * down e + m * up e * down g) (omega (arith, some p g n v m e o))) (sym (le-leb (8192 - n) _ (omega arith)))
   down-is o (fin true m e) = down-down p g n v m e ∙ cut-up (m * up e) (down e) n (down-pos e) l
 
 in-form : (z : Float) (s : Bool) (n : ℕ) (C : Float → Type 0) → HasValue z s n 1 → ((p : ℕ) (g : ℤ) → p * up g * 1 ≡ n * down g → C (fin s p g)) → C z
@@ -137,7 +141,8 @@ le-floor x t o l = go (leb 8192 t) refl
     go false q =
         let k : t < 8192 = leb-false 8192 t q in
         let e : 8192 - suc (8192 - suc t) ≡ t = omega arith in
-        in-form (round binary64 true (suc (8192 - suc t)) 1) true (suc (8192 - suc t)) (λ z. le z x ≡ leb t (floorOf x)) (round-whole binary64 true (suc (8192 - suc t)) (omega arith))
+        in-form (round binary64 true (suc (8192 - suc t)) 1) true (suc (8192 - suc t)) (λ z. le z x ≡ leb t (floorOf x))
+        (round-whole binary64 true (suc (8192 - suc t)) (omega arith))
         (λ p g v. down-is p g (suc (8192 - suc t)) v (omega arith) (omega arith) x ∙ ap (λ (y : ℕ). leb y (floorOf x)) e)
 
 -- the same of a d that has this value, as code has it

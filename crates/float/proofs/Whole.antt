@@ -1,4 +1,4 @@
--- Whole numbers as doubles: (p - q) as f64. Assumes nothing.
+-- Whole numbers as doubles: (p - q) as f64.
 use mathlib.Core.Path.{_≡_, sym, ap, subst}
 use mathlib.Core.Bool.{true, false, not}
 use Prim.Native.Nat.{ℕ, suc, _-_, _^_, _<_, _≤_}

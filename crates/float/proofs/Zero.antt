@@ -1,4 +1,4 @@
--- What comparisons with 0, with the infinities and with itself say of a float. Assumes nothing.
+-- What comparisons with 0, with the infinities and with itself say of a float.
 use mathlib.Core.Path.{_≡_, refl, sym, ap, subst, _∙_}
 use mathlib.Core.Bool.{Bool, true, false, Bool·beq, _&&_, _||_, true≢false, false≢true}
 use Prim.Native.Nat.{_+_, _*_, _<_, _≤_}

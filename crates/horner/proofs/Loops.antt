@@ -1,4 +1,4 @@
--- One turn and the end of a downward loop, with the count as code has it; and that a small number is exact as a float. Assumes nothing.
+-- One turn and the end of a downward loop, with the count as code has it; and that a small number is exact as a float.
 use mathlib.Core.Path.{_≡_, ap, _∙_}
 use Prim.Native.Nat.{ℕ, suc, _+_, _-_, _^_, _≤_, _<_}
 use native.Mathlib.Omega.{arith}

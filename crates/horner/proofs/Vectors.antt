@@ -1,4 +1,4 @@
--- Worked values: what the functions of poly.rs give, compiled without fma, computed from the definitions. Assumes nothing.
+-- Worked values: what the functions of poly.rs give, compiled without fma, computed from the definitions.
 use mathlib.Core.Path.{_≡_, refl}
 use mathlib.Core.List.{List, [], _∷_}
 use Prim.Native.Nat.{ℕ}
@@ -11,7 +11,8 @@ use Rattle.horner.specs.Taylor.{derivsStep, derivs12Of, taylorStep, swee
 
 -- what has to unfold for the definitions to compute: a fact says `unfolding computes`
 unfoldable pub computes : ℕ
-unfolding add sub mul ofBits ofInt countUp countDown downTo splitHigh productError twoProdOf discriminantOf hornerStep valueSlopeOf sumError compensatedStep compensatedOf valueSlopeCompensatedOf derivsStep derivs12Of taylorStep sweepOf taylorOf
+unfolding add sub mul ofBits ofInt countUp countDown downTo splitHigh productError twoProdOf discriminantOf hornerStep valueSlopeOf sumError
+    compensatedStep compensatedOf valueSlopeCompensatedOf derivsStep derivs12Of taylorStep sweepOf taylorOf
 computes = 0
 
 abbrev bits : ℕ → Float
@@ -40,7 +41,8 @@ quadratic-plain : valueSlopeOf quadratic 2 (bits 0x3ff0_28f5_c28f_5c29) ≡ reco
 unfolding computes
 quadratic-plain = refl
 
-quadratic-compensated : valueSlopeCompensatedOf quadratic 2 (bits 0x3ff0_28f5_c28f_5c29) ≡ record { value = bits 0xbf84_4673_81d7_dbfa; slope = bits 0xbfef_5c28_f5c2_8f5c }
+quadratic-compensated : valueSlopeCompensatedOf quadratic 2 (bits 0x3ff0_28f5_c28f_5c29)
+    ≡ record { value = bits 0xbf84_4673_81d7_dbfa; slope = bits 0xbfef_5c28_f5c2_8f5c }
 unfolding computes
 quadratic-compensated = refl
 
@@ -52,7 +54,8 @@ quartic-plain : valueSlopeOf quartic 4 (bits 0x3ff0_0418_9374_bc6a) ≡ record {
 unfolding computes
 quartic-plain = refl
 
-quartic-compensated : valueSlopeCompensatedOf quartic 4 (bits 0x3ff0_0418_9374_bc6a) ≡ record { value = bits 0x3d71_9799_812d_e18c; slope = bits 0x3e31_2e0b_f000_0000 }
+quartic-compensated : valueSlopeCompensatedOf quartic 4 (bits 0x3ff0_0418_9374_bc6a)
+    ≡ record { value = bits 0x3d71_9799_812d_e18c; slope = bits 0x3e31_2e0b_f000_0000 }
 unfolding computes
 quartic-compensated = refl
 
@@ -60,6 +63,7 @@ quartic-derivs : derivs12Of quartic 4 (bits 0x3ff0_0418_9374_bc6a) ≡ record { 
 unfolding computes
 quartic-derivs = refl
 
-quartic-taylor : taylorOf quartic 4 (bits 0x3ff0_0418_9374_bc6a) ≡ bits 0x3d71_9780_0000_0000 ∷ bits 0x3e31_2e0b_f000_0000 ∷ bits 0x3ed9_2a73_7114_0000 ∷ bits 0x3f70_624d_d2f1_a800 ∷ bits 0x3ff0_0000_0000_0000 ∷ []
+quartic-taylor : taylorOf quartic 4 (bits 0x3ff0_0418_9374_bc6a) ≡ bits 0x3d71_9780_0000_0000 ∷ bits 0x3e31_2e0b_f000_0000
+    ∷ bits 0x3ed9_2a73_7114_0000 ∷ bits 0x3f70_624d_d2f1_a800 ∷ bits 0x3ff0_0000_0000_0000 ∷ []
 unfolding computes
 quartic-taylor = refl

@@ -1,4 +1,4 @@
--- A walk over the pairs and then over the items, from what each came to: to a question, or to the list that an inquiry shows. Assumes nothing.
+-- A walk over the pairs and then over the items, from what each came to: to a question, or to the list that an inquiry shows.
 use mathlib.Core.Path.{_≡_, sym, ap, _∙_}
 use mathlib.Core.Bool.{Bool, true, false}
 use mathlib.Core.List.{List, [], _∷_}

@@ -1,4 +1,4 @@
--- What `start` makes is sound, and asks what real_roots_touching asks. Assumes nothing.
+-- What `start` makes is sound, and asks what real_roots_touching asks.
 use mathlib.Core.Path.{_≡_, refl, ap, _∙_, subst}
 use mathlib.Core.Bool.{Bool, true, false, cond}
 use mathlib.Core.List.{List, []}
@@ -40,9 +40,11 @@ module _ (coeffs : List Float) (tol : Float) where
   unfolding finishedOf
   solved-four = go (eqb (refusalOf coeffs) 0) refl
     where
-      go : (b : Bool) → eqb (refusalOf coeffs) 0 ≡ b → (solveOf coeffs tol .poly .d ≤ 4) × (multiplicities (listOf (solveOf coeffs tol .roots)) + 2 * solveOf coeffs tol .pairs .len ≤ 4)
+      go : (b : Bool) → eqb (refusalOf coeffs) 0 ≡ b → (solveOf coeffs tol .poly .d ≤ 4)
+          × (multiplicities (listOf (solveOf coeffs tol .roots)) + 2 * solveOf coeffs tol .pairs .len ≤ 4)
       go true h =
-          let degree : solveOf coeffs tol .poly .d ≡ polyOf coeffs .d = ap (λ (s : Solved). s .poly .d) (answered-is coeffs tol (solved-number coeffs tol ∙ eqb-true (refusalOf coeffs) 0 h)) in
+          let degree : solveOf coeffs tol .poly .d ≡ polyOf coeffs .d = ap (λ (s : Solved). s .poly .d)
+          (answered-is coeffs tol (solved-number coeffs tol ∙ eqb-true (refusalOf coeffs) 0 h)) in
           let most = solved-shared coeffs tol .sum in
           let pairs = length-pairList (solveOf coeffs tol .pairs) (solved-fits coeffs tol .1) in
           (omega (arith, degree, poly-degree coeffs, five h), omega (arith, most, pairs, five h))
@@ -54,7 +56,14 @@ module _ (coeffs : List Float) (tol : Float) where
       let s = solveOf coeffs tol in
       let fits = solved-fits coeffs tol in
       let shared = solved-shared coeffs tol in
-      sound-holds (freshBy s) (record { degree = solved-four .0; replies = omega arith; roots = fits .0 .1; pairs = fits .1 .1; counted = counted (listOf (s .roots)) (shared .listed); total = solved-four .1 })
+      sound-holds (freshBy s) (record {
+        degree = solved-four .0;
+        replies = omega arith;
+        roots = fits .0 .1;
+        pairs = fits .1 .1;
+        counted = counted (listOf (s .roots)) (shared .listed);
+        total = solved-four .1;
+      })
 
   pub start-number : startOf coeffs tol .number ≡ refusalOf coeffs
   unfolding startOf

@@ -1,4 +1,4 @@
--- What an inquiry shows, for every list of replies: while it asks there is room for one reply more; and a reply is taken or refused. Assumes nothing.
+-- What an inquiry shows, for every list of replies: while it asks there is room for one reply more; and a reply is taken or refused.
 use mathlib.Core.Path.{_≡_, refl}
 use mathlib.Core.Bool.{Bool, true, false, cond, false≢true}
 use mathlib.Core.List.{List}
@@ -37,7 +37,8 @@ at-question n m P (asks x) e h = h
 at-question n m P (ended l rs) e h = absurd (false≢true e)
 
 -- while it asks, fewer than three replies are there (the lengths are those of the arrays)
-pub asking-room : (q : Inquiry) → length (q .replies .reply) ≡ 4 → length (q .roots .root) ≡ 4 → length (q .pairs .pair) ≡ 2 → askedOf q .asking ≡ true → q .replies .count < 3
+pub asking-room : (q : Inquiry) → length (q .replies .reply) ≡ 4 → length (q .roots .root) ≡ 4 → length (q .pairs .pair) ≡ 2
+    → askedOf q .asking ≡ true → q .replies .count < 3
 asking-room q l m n e =
     let on = asks-sound q e in
     let s = sound-is q (on .0) in
@@ -46,7 +47,8 @@ asking-room q l m n e =
     let pairs = pairListOf (q .pairs) in
     let most = (length roots + 2 * length pairs) - 1 in
     let P = ListedIn (multiplicities roots + 2 * length pairs) in
-    let few = at-question (length rs) most P (walked rs (asking q)) (on .1) (walked-within P rs most (asking q) (touching-within (q .poly) (q .tol) roots pairs)) in
+    let few = at-question (length rs) most P (walked rs (asking q)) (on .1)
+    (walked-within P rs most (asking q) (touching-within (q .poly) (q .tol) roots pairs)) in
     let replies : length rs ≡ q .replies .count = length-take-le (q .replies .count) (q .replies .reply) (omega (arith, l, s .replies)) in
     omega (arith, few, replies, length-pairList (q .pairs) (n, s .pairs), length-counted roots (s .counted), s .total)
 

@@ -1,4 +1,4 @@
--- An inquiry about a short list starts as the one about the whole list does. Assumes nothing.
+-- An inquiry about a short list starts as the one about the whole list does.
 use mathlib.Core.Path.{_≡_, ap}
 use mathlib.Core.List.{List}
 use lib.Ieee.{Float}

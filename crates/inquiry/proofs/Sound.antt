@@ -1,4 +1,4 @@
--- Which values are sound: what the test says of their sizes, and the laws of its loop. Assumes nothing.
+-- Which values are sound: what the test says of their sizes, and the laws of its loop.
 use mathlib.Core.Path.{_≡_, refl, sym, ap, _∙_, subst}
 use mathlib.Core.Bool.{Bool, true, false, _&&_}
 use mathlib.Core.List.{List, [], _∷_}
@@ -113,5 +113,6 @@ pub sound-held : (q : Inquiry) → soundOf q ≡ true → length (q .replies .re
 sound-held q e l m n =
     let s = sound-is q e in
     let fits : Fits (q .roots) = (m, s .roots) in
-    let each : q .roots .len ≤ multiplicities (listOf (q .roots)) = subst (λ (k : ℕ). k ≤ multiplicities (listOf (q .roots))) (length-list (q .roots) fits) (length-counted (listOf (q .roots)) (s .counted)) in
+    let each : q .roots .len ≤ multiplicities (listOf (q .roots)) = subst (λ (k : ℕ). k ≤ multiplicities (listOf (q .roots)))
+    (length-list (q .roots) fits) (length-counted (listOf (q .roots)) (s .counted)) in
     (s .degree, (l, s .replies), fits, (n, s .pairs), omega (arith, each, s .total), s .total)

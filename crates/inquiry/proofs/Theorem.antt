@@ -1,5 +1,5 @@
--- Every claim about inquiries. An inquiry that was fed n replies has what it began with and those replies, and so shows the place number n of the Rust, or its list.
--- Assumes nothing.
+-- Every claim about inquiries. An inquiry that was fed n replies has what it began with and those replies, and so shows the place number n of the Rust, or its
+-- list.
 use mathlib.Core.Path.{_≡_, refl, sym, ap, _∙_, subst}
 use mathlib.Core.Bool.{Bool, true}
 use mathlib.Core.List.{List, [], _∷_, _++_, map}
@@ -67,7 +67,15 @@ has-more t p rs r room h =
           ∙ ap (λ (l : List Bool). l ++ r ∷ []) (h .has);
       array = length-set (p .replies .reply) (p .replies .count) r ∙ h .array;
       count = ap (λ (k : ℕ). k + 1) n ∙ sym (length-snoc rs r);
-      sound = sound-holds (withReply p r) (record { degree = s .degree; replies = omega (arith, n, room); roots = s .roots; pairs = s .pairs; counted = s .counted; total = s .total });
+      sound =
+          sound-holds (withReply p r) (record {
+            degree = s .degree;
+            replies = omega (arith, n, room);
+            roots = s .roots;
+            pairs = s .pairs;
+            counted = s .counted;
+            total = s .total;
+          });
     }
 
 has-reply : (t : Asking (List RealRoot)) (p : Inquiry) (rs : List Bool) (x : Float) (touches : Float → Bool) → length rs < 4 → Has t rs p → walked rs t ≡ asks x
@@ -101,7 +109,8 @@ module _ (touches : Float → Bool) (t : Asking (List RealRoot)) (q : Inquiry) (
   has-fed (suc n) h =
       let l = length-map-take touches xs n (omega arith) in
       rw (map-take touches xs n (omega arith))
-      (has-reply t (fed touches n q) (map touches (take n xs)) (getD xs n nan) touches (omega (arith, l, few, h)) (has-fed n (omega arith)) (question touches t n (omega arith)))
+      (has-reply t (fed touches n q) (map touches (take n xs)) (getD xs n nan) touches (omega (arith, l, few, h)) (has-fed n (omega arith))
+      (question touches t n (omega arith)))
 
   asks-at : (n : ℕ) → n < length xs → askedOf (fed touches n q) ≡ shown (asks (getD xs n nan))
   asks-at n h = has-asked t (fed touches n q) (map touches (take n xs)) (has-fed n (omega arith)) ∙ ap shown (question touches t n h)

@@ -1,4 +1,5 @@
--- What it means that an inquiry is fed the replies of a yes-or-no function: document 01, 'Contacts that only brush'. A statement; proofs/Theorem.antt has the proof.
+-- What it means that an inquiry is fed the replies of a yes-or-no function: document 01, 'Contacts that only brush'. A statement; proofs/Theorem.antt has the
+-- proof.
 use mathlib.Core.Path.{_≡_}
 use mathlib.Core.Bool.{Bool, true, false}
 use mathlib.Core.List.{List}
@@ -11,8 +12,9 @@ use Rattle.inquiry.specs.declared.Inquiry.{Inquiry}
 use Rattle.inquiry.specs.Inquiry.{askedOf, repliedOf}
 use Rattle.inquiry.specs.Start.{realRootsTouchingOf, placesTouchingOf, fed}
 
--- 'For every yes-or-no function of x, feeding its replies gives the Rust's list and asks at the Rust's places in its order.' After n replies the question is about
--- the place number n; after as many as there are places the list is shown, and nothing is asked any more: a further reply is refused with 4, the inquiry unaltered.
+-- 'For every yes-or-no function of x, feeding its replies gives the Rust's list and asks at the Rust's places in its order.' After n replies the question is
+-- about the place number n; after as many as there are places the list is shown, and nothing is asked any more: a further reply is refused with 4, the inquiry
+-- unaltered.
 pub record Fed (touches : Float → Bool) (q : Inquiry) (coeffs : List Float) (tol : Float) : Type 0 where
   pub question : (n : ℕ) → n < length (placesTouchingOf touches coeffs tol)
       → askedOf (fed touches n q) ≡ record { asking = true; place = getD (placesTouchingOf touches coeffs tol) n nan; list = noRoots }

@@ -1,4 +1,4 @@
--- Four roots judged one after the other, and the roots of a quadratic by the root of its discriminant's size. Assumes nothing.
+-- Four roots judged one after the other, and the roots of a quadratic by the root of its discriminant's size.
 use mathlib.Core.Path.{_≡_, sym, ap, _∙_}
 use mathlib.Core.Bool.{true, false, cond}
 use lib.Ieee.{Float, binary64, mul, neg, le}
@@ -26,7 +26,8 @@ abbrev judgedBy : Best → Float → Float → Float → Float → Float → Flo
 judgedBy best re im a b c ab ac bc = judgedOf best re im (leastOf a b c) (greatestOf ab ac bc)
 
 module _ (quads : QuarticFactor) (z y : RootPair) (d01 d02 d03 d12 d13 d23 : Float) (b0 b1 b2 b3 : Best) (ez : z ≡ rootPairOf (quads .al) (quads .be))
-    (ey : y ≡ rootPairOf (quads .ga) (quads .de)) (e01 : d01 ≡ distOf (z .re0) (z .im0) (z .re1) (z .im1)) (e02 : d02 ≡ distOf (z .re0) (z .im0) (y .re0) (y .im0))
+    (ey : y ≡ rootPairOf (quads .ga) (quads .de)) (e01 : d01 ≡ distOf (z .re0) (z .im0) (z .re1) (z .im1))
+    (e02 : d02 ≡ distOf (z .re0) (z .im0) (y .re0) (y .im0))
     (e03 : d03 ≡ distOf (z .re0) (z .im0) (y .re1) (y .im1)) (e12 : d12 ≡ distOf (z .re1) (z .im1) (y .re0) (y .im0))
     (e13 : d13 ≡ distOf (z .re1) (z .im1) (y .re1) (y .im1)) (e23 : d23 ≡ distOf (y .re0) (y .im0) (y .re1) (y .im1))
     (f0 : b0 ≡ judgedBy NoRoot (z .re0) (z .im0) d01 d02 d03 d12 d13 d23)
@@ -58,11 +59,17 @@ module _ (al be : Float) {s : Disc} (is : s ≡ discOf al be) where
   real-pair h is-q is-o = if-taken _ _ (rw the-disc at h) (rw (is-o, far-by h is-q))
 
   pub complex-pair : le zero64 (s .disc) ≡ false
-      → record { re0 = mul binary64 (neg half64) al; im0 = mul binary64 half64 (s .root); re1 = mul binary64 (neg half64) al; im1 = neg (mul binary64 half64 (s .root)) } ≡ rootPairOf al be
+      → record {
+        re0 = mul binary64 (neg half64) al;
+        im0 = mul binary64 half64 (s .root);
+        re1 = mul binary64 (neg half64) al;
+        im1 = neg (mul binary64 half64 (s .root));
+      } ≡ rootPairOf al be
   unfolding rootPairOf
   complex-pair h = if-left _ _ (rw the-disc at h) (rw (the-root, below-root (discriminantOf al be) (rw the-disc at h)))
 
-module _ (quads : QuarticFactor) {first second : Disc} {best : Best} (is-first : first ≡ discOf (quads .al) (quads .be)) (is-second : second ≡ discOf (quads .ga) (quads .de))
+module _ (quads : QuarticFactor) {first second : Disc} {best : Best} (is-first : first ≡ discOf (quads .al) (quads .be))
+    (is-second : second ≡ discOf (quads .ga) (quads .de))
     (is-best : best ≡ bestRootOf quads) where
   pub is-lone : {far : LoneRoot} → far ≡ loneOf best → record { far = far; first = first; second = second } ≡ isolatedOf quads
   unfolding isolatedOf isolatedRootOf

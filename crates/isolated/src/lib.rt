@@ -1,5 +1,5 @@
-// The roots of two quadratics, `isolated_root` of poly.rs, on all bits: their discriminants, and a real root that is far from the others; and `peel_root`, a quartic
-// divided by such a root. It rests on the leaves, `horner`, `refine`, `cubic` and `quartic`; `large_factors`, `factorize` and `push` rest on it.
+// The roots of two quadratics, `isolated_root` of poly.rs, on all bits: their discriminants, and a real root that is far from the others; and `peel_root`, a
+// quartic divided by such a root. It rests on the leaves, `horner`, `refine`, `cubic` and `quartic`; `large_factors`, `factorize` and `push` rest on it.
 ghost use mathlib.Core.Path.{_≡_};
 ghost use Rattle.isolated.specs.Isolated.{discOf, farBy, farRootOf, rootPairOf, distOf, leastOf, greatestOf, isBetterOf, judgedOf};
 ghost use Rattle.isolated.specs.Isolated.{bestRootOf, loneOf, isolatedOf, isolatedRootOf, peelRootOf};

@@ -1,4 +1,4 @@
--- The units of factors, put into the array one after the other: what one more factor adds, and how many there are. Assumes nothing.
+-- The units of factors, put into the array one after the other: what one more factor adds, and how many there are.
 use mathlib.Core.Path.{_≡_, refl, sym, ap, _∙_, subst}
 use mathlib.Core.Bool.{Bool, true, false, cond}
 use mathlib.Core.List.{List, [], _∷_, _++_, map, flatMap, append-nil, append-assoc, map-append}
@@ -24,11 +24,13 @@ use Rattle.large_factors.specs.Large.{unitOf, realUnit, quadUnitsOf, fac
 
 -- ---- the units of one quadratic factor
 module _ (u : Units) (al be disc : Float) (D : disc ≡ discriminantOf al be) where
-  pub quad-split : (q : Float) (v w : Units) → lt zero64 disc ≡ true → q ≡ farRootOf al disc → v ≡ addedOf u (realUnit q) → w ≡ addedOf v (realUnit (div binary64 be q)) → w ≡ allAdded u (quadUnitsOf (quadOf al be))
+  pub quad-split : (q : Float) (v w : Units) → lt zero64 disc ≡ true → q ≡ farRootOf al disc → v ≡ addedOf u (realUnit q)
+      → w ≡ addedOf v (realUnit (div binary64 be q)) → w ≡ allAdded u (quadUnitsOf (quadOf al be))
   unfolding quadUnitsOf allAdded
   quad-split q v w t Q E F = rw (rw D at t) (rw (F, E, Q, D))
 
-  pub quad-whole : (a m : Float) (w : Units) → lt zero64 disc ≡ false → a ≡ absOf be → m ≡ sqrtOf a → w ≡ addedOf u (unitOf m al be) → w ≡ allAdded u (quadUnitsOf (quadOf al be))
+  pub quad-whole : (a m : Float) (w : Units) → lt zero64 disc ≡ false → a ≡ absOf be → m ≡ sqrtOf a → w ≡ addedOf u (unitOf m al be)
+      → w ≡ allAdded u (quadUnitsOf (quadOf al be))
   unfolding quadUnitsOf allAdded
   quad-whole a m w t A M F = rw (rw D at t) (rw (F, M, A))
 
@@ -97,7 +99,8 @@ splits quad k = flatMap quadUnitsOf (take k quad)
 split-append : (l : List Quad) (q : Quad) → flatMap quadUnitsOf (l ++ q ∷ []) ≡ flatMap quadUnitsOf l ++ quadUnitsOf q
 unfolding flatMap
 split-append [] q = append-nil (quadUnitsOf q)
-split-append (p ∷ l) q = ap (λ (m : List Unit). quadUnitsOf p ++ m) (split-append l q) ∙ sym (append-assoc (quadUnitsOf p) (flatMap quadUnitsOf l) (quadUnitsOf q))
+split-append (p ∷ l) q =
+    ap (λ (m : List Unit). quadUnitsOf p ++ m) (split-append l q) ∙ sym (append-assoc (quadUnitsOf p) (flatMap quadUnitsOf l) (quadUnitsOf q))
 
 splits-more : (quad : List Quad) (k : ℕ) (d : Quad) → k < length quad → splits quad (k + 1) ≡ splits quad k ++ quadUnitsOf (getD quad k d)
 unfolding splits
@@ -133,17 +136,21 @@ module _ (lin : List Float) (i : ℕ) (u : Units) (E : u ≡ allAdded noUnits (r
 
   pub real-added : (v : Units) (n : ℕ) → length lin ≡ n → i < n → v ≡ addedOf u (realUnit (getD lin i nan)) → v ≡ allAdded noUnits (reals lin (i + 1))
   unfolding allAdded
-  real-added v n L h F = F ∙ ap (λ (x : Units). addedOf x (realUnit (getD lin i nan))) E ∙ added-append noUnits (reals lin i) (realUnit (getD lin i nan) ∷ []) ∙ ap (allAdded noUnits) (sym (reals-more lin i (omega arith)))
+  real-added v n L h F =
+      F ∙ ap (λ (x : Units). addedOf x (realUnit (getD lin i nan))) E ∙ added-append noUnits (reals lin i) (realUnit (getD lin i nan) ∷ [])
+      ∙ ap (allAdded noUnits) (sym (reals-more lin i (omega arith)))
 
   pub reals-all : (n : ℕ) (quad : List Quad) → i ≤ n → n ≤ i → u ≡ allAdded noUnits (reals lin n ++ splits quad 0)
   unfolding flatMap splits
-  reals-all n quad h g = E ∙ ap (λ (k : ℕ). allAdded noUnits (reals lin k)) (let e : i ≡ n = omega arith in e) ∙ ap (allAdded noUnits) (sym (append-nil (reals lin n)))
+  reals-all n quad h g =
+      E ∙ ap (λ (k : ℕ). allAdded noUnits (reals lin k)) (let e : i ≡ n = omega arith in e) ∙ ap (allAdded noUnits) (sym (append-nil (reals lin n)))
 
 module _ (lin : List Float) (n : ℕ) (quad : List Quad) (k : ℕ) (u : Units) (E : u ≡ allAdded noUnits (reals lin n ++ splits quad k)) where
   pub splits-room : u .n ≤ n + 2 * k
   splits-room = omega (arith, added-room (reals lin n ++ splits quad k) u E, both-degrees lin n quad k)
 
-  pub quad-added : (d : Quad) (v : Units) (m : ℕ) → length quad ≡ m → k < m → v ≡ allAdded u (quadUnitsOf (getD quad k d)) → v ≡ allAdded noUnits (reals lin n ++ splits quad (k + 1))
+  pub quad-added : (d : Quad) (v : Units) (m : ℕ) → length quad ≡ m → k < m → v ≡ allAdded u (quadUnitsOf (getD quad k d))
+      → v ≡ allAdded noUnits (reals lin n ++ splits quad (k + 1))
   quad-added d v m L h F =
       F
       ∙ ap (λ (x : Units). allAdded x (quadUnitsOf (getD quad k d))) E

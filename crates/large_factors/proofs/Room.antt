@@ -1,4 +1,4 @@
--- No push meets a full array: each unit finds room among the large factors, since the degrees add to 4 at most. Assumes nothing.
+-- No push meets a full array: each unit finds room among the large factors, since the degrees add to 4 at most.
 use mathlib.Core.Path.{_≡_, refl}
 use mathlib.Core.Bool.{Bool, true, false, cond, true≢false}
 use mathlib.Core.List.{List, [], _∷_}
@@ -26,7 +26,8 @@ with-degree : (f : Factors) (x : RootUnit) → degreeOf f + unitDegree x ≤ 4 �
 unfolding withUnit
 with-degree f x h = go (isNan (x .be)) h
   where
-    go : (b : Bool) → degreeOf f + cond b 1 2 ≤ 4 → ((b ≡ true → f .nlin < 4) × (b ≡ false → f .nquad < 2)) × (degreeOf (cond b (pushLinOf f (x .al)) (pushQuadOf f (x .al) (x .be))) ≡ degreeOf f + cond b 1 2)
+    go : (b : Bool) → degreeOf f + cond b 1 2 ≤ 4 → ((b ≡ true → f .nlin < 4) × (b ≡ false → f .nquad < 2))
+        × (degreeOf (cond b (pushLinOf f (x .al)) (pushQuadOf f (x .al) (x .be))) ≡ degreeOf f + cond b 1 2)
     go true h =
         let C = lin-counted f (x .al) (f .nlin) (f .nquad) (record { nlin = refl; nquad = refl }) (omega arith) in
         ((λ t. omega arith, λ t. absurd (true≢false t)), omega (arith, C .nlin, C .nquad))
@@ -40,4 +41,5 @@ all-room f (x ∷ l) h = let w = with-degree f x (omega arith) in (w .0, all-roo
 
 -- the loop over the sorted units, which may end before the last
 pub large-room : (out : Factors) → degreeOf out ≤ 4 → RoomForAll noFactors (sortedBy noSmaller (factorUnitsOf out))
-large-room out D = all-room noFactors (sortedBy noSmaller (factorUnitsOf out)) (omega (arith, sum-sorted noSmaller unitDegree (factorUnitsOf out), units-degrees out))
+large-room out D =
+    all-room noFactors (sortedBy noSmaller (factorUnitsOf out)) (omega (arith, sum-sorted noSmaller unitDegree (factorUnitsOf out), units-degrees out))

@@ -1,4 +1,4 @@
--- The counts of the large factors: no more than the arrays hold. Assumes nothing.
+-- The counts of the large factors: no more than the arrays hold.
 use mathlib.Core.Path.{_≡_, refl, sym, subst}
 use mathlib.Core.Bool.{Bool, true, false, cond}
 use mathlib.Core.List.{List, [], _∷_}
@@ -20,7 +20,8 @@ lin-sized : (f : Factors) (r : Float) → Sized f → Sized (pushLinOf f r)
 unfolding pushLinOf
 lin-sized f r S = go (ltb (f .nlin) 4) (ltb-true (f .nlin) 4)
   where
-    go : (b : Bool) → (b ≡ true → f .nlin < 4) → Sized (cond b (record { lin = set (f .lin) (f .nlin) r; nlin = f .nlin + 1; quad = f .quad; nquad = f .nquad }) f)
+    go : (b : Bool) → (b ≡ true → f .nlin < 4) → Sized (cond b
+        (record { lin = set (f .lin) (f .nlin) r; nlin = f .nlin + 1; quad = f .quad; nquad = f .nquad }) f)
     go true h = (omega (arith, h refl), S .1)
     go false h = S
 
@@ -28,7 +29,8 @@ quad-sized : (f : Factors) (al be : Float) → Sized f → Sized (pushQuadOf f a
 unfolding pushQuadOf
 quad-sized f al be S = go (ltb (f .nquad) 2) (ltb-true (f .nquad) 2)
   where
-    go : (b : Bool) → (b ≡ true → f .nquad < 2) → Sized (cond b (record { lin = f .lin; nlin = f .nlin; quad = set (f .quad) (f .nquad) (quadOf al be); nquad = f .nquad + 1 }) f)
+    go : (b : Bool) → (b ≡ true → f .nquad < 2) → Sized (cond b
+        (record { lin = f .lin; nlin = f .nlin; quad = set (f .quad) (f .nquad) (quadOf al be); nquad = f .nquad + 1 }) f)
     go true h = (S .0, omega (arith, h refl))
     go false h = S
 

@@ -1,4 +1,4 @@
--- The large factors, taken from the units in the order of their sizes: each is taken, or ends the search. Assumes nothing.
+-- The large factors, taken from the units in the order of their sizes: each is taken, or ends the search.
 use mathlib.Core.Path.{_≡_, refl, sym, ap, _∙_}
 use mathlib.Core.Bool.{Bool, true, false}
 use mathlib.Core.List.{List, [], _∷_, map}
@@ -43,7 +43,8 @@ module _ (f : Factors) (D : degreeOf f ≤ 4) (u : Units) (E : u ≡ allAdded no
   sorted : length (u .at) ≡ 4 → inOrder (u .at) (fallingOf (sizesOf (u .at)) (u .n)) (u .n) ≡ sortedBy noSmaller (factorUnitsOf f)
   unfolding inOrder fallingOf
   sorted L =
-      read-sorted (λ a b. totalLeOf b a) (λ (x : Unit). x .m) (sizesOf (u .at)) (u .at) (unitOf nan nan nan) (u .n) (omega (arith, L, units-fit)) (λ i h. size-at (u .at) i (omega (arith, units-fit)))
+      read-sorted (λ a b. totalLeOf b a) (λ (x : Unit). x .m) (sizesOf (u .at)) (u .at) (unitOf nan nan nan) (u .n)
+      (omega (arith, L, units-fit)) (λ i h. size-at (u .at) i (omega (arith, units-fit)))
       ∙ ap (sortedBy noSmaller) listed
 
   pub large-is : (order : List ℕ) (want : ℕ) (threshold : Float) (r : Factors) → length (u .at) ≡ 4 → order ≡ fallingOf (sizesOf (u .at)) (u .n)
@@ -53,10 +54,12 @@ module _ (f : Factors) (D : degreeOf f ≤ 4) (u : Units) (E : u ≡ allAdded no
       R ∙ ap (largeFrom want (mul binary64 threshold epsilon64) noFactors) (ap (λ (l : List ℕ). inOrder (u .at) l (u .n)) O ∙ sorted L)
 
 -- ---- the search, from no factors on
-pub take-none : (want : ℕ) (least : Float) (l : List Unit) (large : Factors) → large ≡ noFactors → largeFrom want least large l ≡ largeFrom want least noFactors l
+pub take-none : (want : ℕ) (least : Float) (l : List Unit) (large : Factors) → large ≡ noFactors
+    → largeFrom want least large l ≡ largeFrom want least noFactors l
 take-none want least l large e = ap (λ (f : Factors). largeFrom want least f l) e
 
-module _ (at : List Unit) (order : List ℕ) (n : ℕ) (N : n ≤ 4) (i : ℕ) (want : ℕ) (least : Float) (large : Factors) (degree : ℕ) (D : degree ≡ degreeOf large) (t : Bool)
+module _ (at : List Unit) (order : List ℕ) (n : ℕ) (N : n ≤ 4) (i : ℕ) (want : ℕ) (least : Float) (large : Factors) (degree : ℕ)
+    (D : degree ≡ degreeOf large) (t : Bool)
     (X : t ≡ endsOf (unitAt at (getD order i 0)) degree want least) (L : length order ≡ 4) (h : i < n) where
   abbrev next : Unit
   next = unitAt at (getD order i 0)
@@ -72,11 +75,13 @@ module _ (at : List Unit) (order : List ℕ) (n : ℕ) (N : n ≤ 4) (i : ℕ) (
   unfolding largeFrom
   take-ends T = sym (ap (largeFrom want least large) head ∙ rw (test ∙ T))
 
-  pub take-more : (more : Factors) → t ≡ false → more ≡ withUnit large next → largeFrom want least more (drop (i + 1) (inOrder at order n)) ≡ largeFrom want least large (drop i (inOrder at order n))
+  pub take-more : (more : Factors) → t ≡ false → more ≡ withUnit large next
+      → largeFrom want least more (drop (i + 1) (inOrder at order n)) ≡ largeFrom want least large (drop i (inOrder at order n))
   unfolding largeFrom
   take-more more T M = sym (ap (largeFrom want least large) head ∙ rw (test ∙ T, M))
 
-pub take-all : (at : List Unit) (order : List ℕ) (n i want : ℕ) (least : Float) (large : Factors) → n ≤ i → large ≡ largeFrom want least large (drop i (inOrder at order n))
+pub take-all : (at : List Unit) (order : List ℕ) (n i want : ℕ) (least : Float) (large : Factors) → n ≤ i
+    → large ≡ largeFrom want least large (drop i (inOrder at order n))
 unfolding largeFrom inOrder
 take-all at order n i want least large h =
     let few = length-map (take n order) (unitAt at) ∙ length-take n order in

@@ -5,7 +5,8 @@ ghost use Prim.Native.Nat.{_+_, _≤_, _<_};
 ghost use lib.Ieee.{nan};
 ghost use Rattle.order.specs.Order.{Places};
 ghost use Rattle.factors.specs.Factors.{quadOf, noFactors, degreeOf};
-ghost use Rattle.large_factors.specs.Large.{unitOf, realUnit, quadUnitsOf, factorUnitsOf, endsOf, withUnit, largeFrom, largeOf, noUnits, addedOf, allAdded, inOrder};
+ghost use Rattle.large_factors.specs.Large.{unitOf, realUnit, quadUnitsOf, factorUnitsOf, endsOf, withUnit};
+ghost use Rattle.large_factors.specs.Large.{largeFrom, largeOf, noUnits, addedOf, allAdded, inOrder};
 use factors::Factors;
 
 // f64::EPSILON, 2^-52

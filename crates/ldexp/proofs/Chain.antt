@@ -1,4 +1,4 @@
--- The chain of products turn by turn, and that a product with a power of two leaves a zero, an infinity and a NaN as they are. Assumes nothing.
+-- The chain of products turn by turn, and that a product with a power of two leaves a zero, an infinity and a NaN as they are.
 use mathlib.Core.Path.{_≡_, refl, sym, ap, _∙_, subst}
 use mathlib.Core.Bool.{Bool, true, false, true≢false}
 use Prim.Native.Nat.{ℕ, zero, suc, _-_, _*_, _≤_, _<_}
@@ -51,7 +51,8 @@ chain-steady (suc j) x k h = ap (λ (y : Float). chain j (pow2Of k) y) (h k) ∙
 
 pub all-steady : (s : Bool) (n : ℕ) (x : Float) → Steady x → timesPowerOf s n x ≡ x
 unfolding timesPowerOf
-all-steady s n x h = ap (λ (y : Float). mul binary64 y (pow2Of (signed s (n - steps n * 1000)))) (chain-steady (steps n) x (signed s 1000) h) ∙ h (signed s (n - steps n * 1000))
+all-steady s n x h =
+    ap (λ (y : Float). mul binary64 y (pow2Of (signed s (n - steps n * 1000)))) (chain-steady (steps n) x (signed s 1000) h) ∙ h (signed s (n - steps n * 1000))
 
 pub all-last : (s : Bool) (n : ℕ) (x : Float) → n ≤ 1000 → timesPowerOf s n x ≡ mul binary64 x (pow2Of (signed s n))
 unfolding timesPowerOf chain

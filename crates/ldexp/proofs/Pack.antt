@@ -1,5 +1,4 @@
 -- A bit pattern made of a significand and an exponent's field: it stands for w * 2 ^ k times the smallest positive value, 2 ^ -1074.
--- Assumes nothing.
 use mathlib.Core.Path.{_≡_, refl, sym, ap, _∙_, subst}
 use mathlib.Core.Bool.{true, false, not}
 use Prim.Native.Nat.{ℕ, zero, suc, _+_, _-_, _*_, _/_, _%_, _^_, _≤_, _<_}
@@ -60,4 +59,5 @@ power-down n h =
   where
     go : (n : ℕ) → n ≤ 1022 → minus (1022 - n + 52) 1074 ≡ signed true n
     go zero h = refl
-    go (suc n) h = sym (minus-down (1022 - suc n + 52) 1074 (omega arith)) ∙ (let e : 1074 - (1022 - suc n + 52) ≡ suc n = omega arith in ap (λ (m : ℕ). signed true m) e)
+    go (suc n) h =
+        sym (minus-down (1022 - suc n + 52) 1074 (omega arith)) ∙ (let e : 1074 - (1022 - suc n + 52) ≡ suc n = omega arith in ap (λ (m : ℕ). signed true m) e)

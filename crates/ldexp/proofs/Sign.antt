@@ -1,4 +1,4 @@
--- A signed number by its sign: what the machine computes of it. Assumes nothing.
+-- A signed number by its sign: what the machine computes of it.
 use mathlib.Core.Path.{_≡_, refl, sym, ap, _∙_, subst}
 use mathlib.Core.Bool.{Bool, true, false, false≢true}
 use Prim.Native.Nat.{ℕ, zero, suc, _-_, _^_, _<_, _≤_}

@@ -1,5 +1,4 @@
 -- The line of each leaf's letter, from the letter and the leaf's answer.
--- Assumes nothing.
 use mathlib.Core.Path.{_≡_}
 use Prim.Native.Nat.{ℕ}
 use lib.IntN.{ℤ}

@@ -1,5 +1,4 @@
 -- A file's lines, written one after another.
--- Assumes nothing.
 use mathlib.Core.Path.{_≡_, refl, sym, ap, subst, _∙_}
 use mathlib.Core.List.{List, [], _∷_, _++_, append-nil, append-assoc}
 use Prim.Native.Nat.{ℕ, zero, suc, _+_, _-_, _<_, _≤_}
@@ -48,7 +47,8 @@ sofar-none l s = record { fuel = length s; text = []; written = written-none l 0
 module _ {l s o : List ℕ} {w at : ℕ} (sofar : Sofar l s o w at) where
   pub sofar-end : length s ≤ at → Written l 0 (linesOf s) o w
   sofar-end h =
-      let e : sofar .text ≡ linesOf s = sym (append-nil (sofar .text)) ∙ ap (λ (t : List ℕ). sofar .text ++ t) (sym (lines-end (sofar .fuel) s at h)) ∙ sofar .rest in
+      let e : sofar .text ≡ linesOf s = sym (append-nil (sofar .text))
+      ∙ ap (λ (t : List ℕ). sofar .text ++ t) (sym (lines-end (sofar .fuel) s at h)) ∙ sofar .rest in
       written-as e (sofar .written)
 
   module _ (h : at < length s) where
@@ -71,6 +71,8 @@ module _ {l s o : List ℕ} {w at : ℕ} (sofar : Sofar l s o w at) where
           fuel = sofar .fuel - 1;
           text = sofar .text ++ leafRecordOf s at;
           written = written-then (sofar .written) r;
-          rest = append-assoc (sofar .text) (leafRecordOf s at) more ∙ ap (λ (t : List ℕ). sofar .text ++ t) (sym (step ∙ then-some (leafRecordOf s at) more some)) ∙ sofar .rest;
+          rest =
+              append-assoc (sofar .text) (leafRecordOf s at) more
+              ∙ ap (λ (t : List ℕ). sofar .text ++ t) (sym (step ∙ then-some (leafRecordOf s at) more some)) ∙ sofar .rest;
           enough = omega (arith, sofar .enough);
         }

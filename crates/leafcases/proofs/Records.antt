@@ -1,5 +1,4 @@
 -- A record's line, by the tests that it passes.
--- Assumes nothing.
 use mathlib.Core.Path.{_≡_}
 use mathlib.Core.Bool.{true, false}
 use mathlib.Core.List.{List, []}

@@ -1,5 +1,4 @@
 -- How many doubles are read; one more behind them, in an array with zeros after it; and those read, of the array.
--- Assumes nothing.
 use mathlib.Core.Path.{_≡_, refl, sym, ap, _∙_}
 use mathlib.Core.List.{List, [], _∷_, _++_}
 use Prim.Native.Nat.{ℕ, zero, suc, _+_, _-_, _*_, _<_}

@@ -1,5 +1,4 @@
 -- An answer up to a most, and NaN beyond it.
--- Assumes nothing.
 use mathlib.Core.Path.{_≡_}
 use Prim.Native.Nat.{ℕ, _<_, _≤_}
 use lib.Ieee.{Float, nan}

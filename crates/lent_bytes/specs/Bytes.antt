@@ -38,8 +38,8 @@ doublesBytes xs = flatMap doubleBytes xs
 unfoldable pub whole : List ℕ → ℕ → List ℕ
 whole t n = cond (ltb n (length t)) [] t
 
--- Of an answer xs, refused under n where n is not 0: what is said, r, and what stands, m, where the bytes l were lent. All of xs is stored and r is how many bytes that
--- are, or nothing is and r is 0 where l has no room for all; on a refusal nothing is stored, and r is n.
+-- Of an answer xs, refused under n where n is not 0: what is said, r, and what stands, m, where the bytes l were lent. All of xs is stored and r is how many
+-- bytes that are, or nothing is and r is 0 where l has no room for all; on a refusal nothing is stored, and r is n.
 pub record Answered (n : ℕ) (xs : List Float) (l : List ℕ) (r : ℕ) (m : List ℕ) : Type 0 where
   pub said : r ≡ cond (eqb n 0) (length (whole (doublesBytes xs) (length l))) n
   pub bytes : m ≡ sets l 0 (cond (eqb n 0) (whole (doublesBytes xs) (length l)) [])

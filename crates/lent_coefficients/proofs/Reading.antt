@@ -1,5 +1,4 @@
 -- Coefficients read from lent bytes: the one at a place, those behind the fifth one after another, and the six numbers.
--- Assumes nothing.
 use mathlib.Core.Path.{_≡_, refl, sym, ap, _∙_}
 use mathlib.Core.List.{List, [], _∷_, foldl}
 use Prim.Native.Nat.{ℕ, zero, suc, _+_, _*_, _/_, _≤_, _<_}

@@ -1,5 +1,5 @@
--- Two quotients of differences, and the difference of the two: each operation moves its result by no more than 2 ^ -31, so that a bound on the exact numbers with
--- something to spare is one on the rounded ones. All in units of 2 ^ g, of which 1 has 2 ^ 30.
+-- Two quotients of differences, and the difference of the two: each operation moves its result by no more than 2 ^ -31, so that a bound on the exact numbers
+-- with something to spare is one on the rounded ones. All in units of 2 ^ g, of which 1 has 2 ^ 30.
 use mathlib.Core.Path.{_≡_, refl, sym, ap, subst}
 use mathlib.Core.Bool.{false}
 use Prim.Native.Nat.{ℕ, zero, suc, _+_, _*_, _^_, _≤_, _<_}
@@ -29,7 +29,8 @@ four-is : ofInt binary64 (pos 4) ≡ fin false 1 (pos 2)
 unfolding ofInt
 four-is = refl
 
-by-width : {x : Float} {p n : ℕ} (w : ℕ) → 0 < w → w ≤ 4 → Val x p n → p ≤ n + limit * w → n ≤ p + limit * w → Result (div binary64 x (ofInt binary64 (pos w))) p n w
+by-width : {x : Float} {p n : ℕ} (w : ℕ) → 0 < w → w ≤ 4 → Val x p n → p ≤ n + limit * w → n ≤ p + limit * w
+    → Result (div binary64 x (ofInt binary64 (pos w))) p n w
 by-width zero W F X h l = absurd (omega arith)
 by-width (suc zero) W F X h l = rw one-is (div-near 0 1 (pos 0) refl W X h l)
 by-width (suc (suc zero)) W F X h l = rw two-is (div-near 0 2 (pos 1) refl W X h l)
@@ -50,18 +51,21 @@ abbrev pub Small : ℕ → ℕ → ℕ → Type 0
 Small g p n = (p ≤ n + 2 ^ 50 * 2 ^ g) × (n ≤ p + 2 ^ 50 * 2 ^ g)
 
 -- a bound A - B on the exact quotient, with 2 ^ 21 units to spare, is one on the moved one with a unit to spare
-cancel : (w P N a b A B q : ℕ) → 0 < w → w ≤ 4 → 2 * (P * w) + 2 * b ≤ 2 * a + 2 * (N * w) + (w + 1) * q → a + w * B + 2 ^ 21 * q ≤ b + w * A → P + B + q ≤ N + A
+cancel : (w P N a b A B q : ℕ) → 0 < w → w ≤ 4 → 2 * (P * w) + 2 * b ≤ 2 * a + 2 * (N * w) + (w + 1) * q
+    → a + w * B + 2 ^ 21 * q ≤ b + w * A → P + B + q ≤ N + A
 cancel w P N a b A B q W F h l = le-of-mul-le-mul-right (let m = mul-le-mul-right q F in omega (arith, h, l, m)) W
 
 module _ (g : ℕ) (one : oneUnits ≡ 2 ^ 30 * 2 ^ g) (room : 2 ^ 53 * 2 ^ g ≤ limit) where
-  pub sub-close : {x y : Float} {p n r m : ℕ} → Val x p n → Val y r m → p + m ≤ n + r + 2 ^ 53 * 2 ^ g → n + r ≤ p + m + 2 ^ 53 * 2 ^ g → Close g (sub binary64 x y) (p + m) (n + r) 1 1
+  pub sub-close : {x y : Float} {p n r m : ℕ} → Val x p n → Val y r m → p + m ≤ n + r + 2 ^ 53 * 2 ^ g → n + r ≤ p + m + 2 ^ 53 * 2 ^ g
+      → Close g (sub binary64 x y) (p + m) (n + r) 1 1
   unfolding sub
   sub-close X Y h l =
       let R = add-near X (neg-val Y) (omega arith) (omega arith) in
       let b = half-unit (zero-lt-suc 0) (R .near) g (omega arith) (omega arith) in
       record { p = R .p; n = R .n; is = R .is; lo = b .0; hi = b .1 }
 
-  module _ {x y : Float} {p n r m : ℕ} (w : ℕ) (W : 0 < w) (F : w ≤ 4) (X : Val x p n) (Y : Val y r m) (P : p + m ≤ n + r + 2 ^ 51 * 2 ^ g) (N : n + r ≤ p + m + 2 ^ 51 * 2 ^ g) where
+  module _ {x y : Float} {p n r m : ℕ} (w : ℕ) (W : 0 < w) (F : w ≤ 4) (X : Val x p n) (Y : Val y r m) (P : p + m ≤ n + r + 2 ^ 51 * 2 ^ g)
+      (N : n + r ≤ p + m + 2 ^ 51 * 2 ^ g) where
     quotient : Close g (div binary64 (sub binary64 x y) (ofInt binary64 (pos w))) (p + m) (n + r) w (w + 1)
     quotient = let s = sub-close X Y (omega arith) (omega arith) in go s (omega (arith, s .lo)) (omega (arith, s .hi))
       where
@@ -93,7 +97,8 @@ module _ (g : ℕ) (one : oneUnits ≡ 2 ^ 30 * 2 ^ g) (room : 2 ^ 53 * 2 ^ g �
   at-most-eight : {z : Float} {p n : ℕ} → Val z p n → p ≤ n + 8 * oneUnits → lt eight64 z ≡ false
   unfolding lt ofBits
   at-most-eight (minus-sign v) k = refl
-  at-most-eight (plus-sign {m = m} {p = p} {e = e} v) k = le-ltb _ _ (le-of-mul-le-mul-right (pick (m * up e) p (down e) oneUnits v (mul-le-mul-right (down e) k)) one-pos)
+  at-most-eight (plus-sign {m = m} {p = p} {e = e} v) k = le-ltb _ _
+      (le-of-mul-le-mul-right (pick (m * up e) p (down e) oneUnits v (mul-le-mul-right (down e) k)) one-pos)
     where
       pick : (x p y o : ℕ) → x * o ≡ p * y → p * y ≤ (0 + 8 * o) * y → x * 1 * o ≤ 1 * 8 * y * o
       pick x p y o e l = omega (arith, e, l)
@@ -103,16 +108,20 @@ module _ (g : ℕ) (one : oneUnits ≡ 2 ^ 30 * 2 ^ g) (room : 2 ^ 53 * 2 ^ g �
       (S : Small g p n) (S' : Small g p' n') (S'' : Small g p'' n'')
       (w w' : ℕ) (W : 0 < w) (F : w ≤ 4) (W' : 0 < w') (F' : w' ≤ 4) (A B A' B' : ℕ) where
     pub no-gap : n + p' + w * B + 2 ^ 21 * 2 ^ g ≤ p + n' + w * A → p' + n'' + w' * B' + 2 ^ 21 * 2 ^ g ≤ n' + p'' + w' * A' → A + A' ≤ B + B' + 8 * oneUnits
-        → lt eight64 (sub binary64 (div binary64 (sub binary64 y z) (ofInt binary64 (pos w'))) (div binary64 (sub binary64 x y) (ofInt binary64 (pos w)))) ≡ false
+        → lt eight64 (sub binary64 (div binary64 (sub binary64 y z) (ofInt binary64 (pos w')))
+        (div binary64 (sub binary64 x y) (ofInt binary64 (pos w)))) ≡ false
     no-gap rise drop e = go (omega arith) (omega arith) (omega arith) (omega arith)
       where
         apart : {u v : Float} {a b c d i j : ℕ} (h : Close g u a b w' i) (l : Close g v c d w j)
             → (h .p ≤ h .n + 2 ^ 52 * 2 ^ g) × (h .n ≤ h .p + 2 ^ 52 * 2 ^ g) → (l .p ≤ l .n + 2 ^ 52 * 2 ^ g) × (l .n ≤ l .p + 2 ^ 52 * 2 ^ g)
             → h .p + B' + 2 ^ g ≤ h .n + A' → l .n + B + 2 ^ g ≤ l .p + A → lt eight64 (sub binary64 u v) ≡ false
-        apart h l H L a b = let s = sub-close (h .is) (l .is) (omega (arith, H, L)) (omega (arith, H, L)) in at-most-eight (s .is) (omega (arith, s .lo, a, b, e))
+        apart h l H L a b =
+            let s = sub-close (h .is) (l .is) (omega (arith, H, L)) (omega (arith, H, L)) in
+            at-most-eight (s .is) (omega (arith, s .lo, a, b, e))
 
         go : p' + n'' ≤ n' + p'' + 2 ^ 51 * 2 ^ g → n' + p'' ≤ p' + n'' + 2 ^ 51 * 2 ^ g → p + n' ≤ n + p' + 2 ^ 51 * 2 ^ g → n + p' ≤ p + n' + 2 ^ 51 * 2 ^ g
-            → lt eight64 (sub binary64 (div binary64 (sub binary64 y z) (ofInt binary64 (pos w'))) (div binary64 (sub binary64 x y) (ofInt binary64 (pos w)))) ≡ false
+            → lt eight64 (sub binary64 (div binary64 (sub binary64 y z) (ofInt binary64 (pos w')))
+            (div binary64 (sub binary64 x y) (ofInt binary64 (pos w)))) ≡ false
         go P N P' N' =
             apart (quotient w' W' F' Y Z P N) (quotient w W F X Y P' N') (small w' W' F' Y Z P N) (small w W F X Y P' N')
             (most-of w' W' F' Y Z P N A' B' drop) (least-of w W F X Y P' N' A B rise)

@@ -1,10 +1,12 @@
--- The scaled logarithm of a coefficient by its exponent k and its shift: from k + shift on, and 1/256 below the next whole number at least, both moved by 2 ^ -31 at most.
+-- The scaled logarithm of a coefficient by its exponent k and its shift: from k + shift on, and 1/256 below the next whole number at least, both moved by 2 ^
+-- -31 at most.
 use mathlib.Core.Path.{_≡_, refl, sym, ap, _∙_, subst}
 use mathlib.Core.Bool.{Bool, true, false, not, cond, false≢true, true≢false}
 use mathlib.Core.Logic.{⊎-elim}
 use Prim.Native.Nat.{ℕ, zero, suc, _+_, _-_, _*_, _^_, _≤_, _<_}
 use native.Mathlib.Omega.{arith}
-use native.Mathlib.Nat.{le-trans, le-of-eq, le-of-lt, lt-of-le-of-lt, lt-of-lt-of-le, mul-le-mul-right, pow-le-pow-left, pow-lt-pow-left, zero-lt-suc, lt-irrefl}
+use native.Mathlib.Nat.{le-trans, le-of-eq, le-of-lt, lt-of-le-of-lt, lt-of-lt-of-le}
+use native.Mathlib.Nat.{mul-le-mul-right, pow-le-pow-left, pow-lt-pow-left, zero-lt-suc, lt-irrefl}
 use lib.Dec.{T, ltb, ltb→lt, nltb→le}
 use lib.Pow.{pow-pos, pow-mono}
 use lib.IntN.{ℤ, pos, negsuc, natAbs, negℤ, subℕ, _+ℤ_, _*ℤ_}
@@ -119,7 +121,8 @@ pub record Log (g : ℕ) (x : Float) (k u l : ℕ) : Type 0 where
   pub high : p + (1074 + l) * (2 ^ 30 * 2 ^ g) + 2 ^ 22 * 2 ^ g ≤ n + (k + 1 + u) * (2 ^ 30 * 2 ^ g) + 2 ^ g
 
 -- from L, a place in 1/256, and the shift, both exact, to their sum, moved by half a unit
-module _ (p' n' p'' n'' p n place k u l q : ℕ) (L : p' + 274944 * (2 ^ 22 * q) ≡ n' + place * (2 ^ 22 * q)) (S : p'' + l * (2 ^ 30 * q) ≡ n'' + u * (2 ^ 30 * q))
+module _ (p' n' p'' n'' p n place k u l q : ℕ) (L : p' + 274944 * (2 ^ 22 * q) ≡ n' + place * (2 ^ 22 * q))
+    (S : p'' + l * (2 ^ 30 * q) ≡ n'' + u * (2 ^ 30 * q))
     (lo : 2 * (p * 1) + 2 * (n' + n'') ≤ 2 * (p' + p'') + 2 * (n * 1) + 1 * q) (hi : 2 * (p' + p'') + 2 * (n * 1) ≤ 2 * (p * 1) + 2 * (n' + n'') + 1 * q) where
   sum-low : 256 * k ≤ place → n + (k + u) * (2 ^ 30 * q) ≤ p + (1074 + l) * (2 ^ 30 * q) + q
   sum-low h = let a = mul-le-mul-right q h in omega arith
@@ -137,8 +140,10 @@ module _ (g : ℕ) (one : oneUnits ≡ 2 ^ 30 * 2 ^ g) (room : 2 ^ 53 * 2 ^ g �
   placed : (place : ℕ) × Is grid place 274944 × (256 * k ≤ place) × (place < 256 * suc k)
   placed =
       let f = grid-floor (unitsOf x) (lt-of-lt-of-le (pow-pos k) (B .low)) in
-      let l : k * 256 < suc (f .place) = exponents-order _ _ (lt-of-le-of-lt (le-trans (le-of-eq (pow-mul 2 k 256)) (pow-le-pow-left (B .low) 256)) (f .high)) in
-      let h : f .place < suc k * 256 = exponents-order _ _ (lt-of-le-of-lt (f .low) (lt-of-lt-of-le (pow-lt-pow-left (B .high) (λ (e : _≡_ {A = ℕ} 256 0). omega arith)) (le-of-eq (sym (pow-mul 2 (suc k) 256))))) in
+      let l : k * 256 < suc (f .place) = exponents-order _ _ (lt-of-le-of-lt
+      (le-trans (le-of-eq (pow-mul 2 k 256)) (pow-le-pow-left (B .low) 256)) (f .high)) in
+      let h : f .place < suc k * 256 = exponents-order _ _ (lt-of-le-of-lt (f .low)
+      (lt-of-lt-of-le (pow-lt-pow-left (B .high) (λ (e : _≡_ {A = ℕ} 256 0). omega arith)) (le-of-eq (sym (pow-mul 2 (suc k) 256))))) in
       (f .place, place-is grid (f .place) (f .is), omega (arith, l), omega (arith, h))
 
   pub log-of : (z : ℤ) → natAbs z ≤ 2 ^ 18 → (u l : ℕ) → Is z u l → Log g (add binary64 (log2GridOf (absOf x)) (ofInt binary64 z)) k u l
@@ -153,7 +158,8 @@ module _ (g : ℕ) (one : oneUnits ≡ 2 ^ 30 * 2 ^ g) (room : 2 ^ 53 * 2 ^ g �
       few-of (pos n) place e h = omega arith
       few-of (negsuc n) place e h = omega arith
 
-      go : (L : Value (over256 grid) grid (2 ^ 22 * 2 ^ g)) (S : Value (ofInt binary64 z) z (2 ^ 30 * 2 ^ g)) → natAbs grid < 2 ^ 20 → Log g (add binary64 (over256 grid) (ofInt binary64 z)) k u l
+      go : (L : Value (over256 grid) grid (2 ^ 22 * 2 ^ g)) (S : Value (ofInt binary64 z) z (2 ^ 30 * 2 ^ g)) → natAbs grid < 2 ^ 20
+          → Log g (add binary64 (over256 grid) (ofInt binary64 z)) k u l
       go L S few =
           let P = placed in
           let a : L .p + L .n ≤ 2 ^ 42 * 2 ^ g = omega (arith, L .size, mul-le-mul-right (2 ^ 22 * 2 ^ g) (le-of-lt few)) in

@@ -36,7 +36,8 @@ use Rattle.level.proofs.Logs.{Is, is-sum, is-neg, is-times, Log, log-of
 -- ---- where no three logarithms give a gap, none is found: the indices of a hull rise
 abbrev Flat : List Float → ℕ → Type 0
 Flat lg d = (i j l : ℕ) → i < j → j < l → l ≤ d
-    → lt eight64 (sub binary64 (div binary64 (sub binary64 (getD lg j nan) (getD lg l nan)) (widthOf j l)) (div binary64 (sub binary64 (getD lg i nan) (getD lg j nan)) (widthOf i j))) ≡ false
+    → lt eight64 (sub binary64 (div binary64 (sub binary64 (getD lg j nan) (getD lg l nan)) (widthOf j l))
+    (div binary64 (sub binary64 (getD lg i nan) (getD lg j nan)) (widthOf i j))) ≡ false
 
 module _ (lg : List Float) (d : ℕ) (D : d ≤ 4) (N : Flat lg d) where
   abbrev s : Hull
@@ -112,7 +113,8 @@ module _ (g : ℕ) (one : oneUnits ≡ 2 ^ 30 * 2 ^ g) (room : 2 ^ 53 * 2 ^ g �
 
   shift-is : (i : ℕ) → Is (shiftOf e top i) (E .up * i + t .down) (E .down * i + t .up)
   unfolding shiftOf
-  shift-is i = is-sum (e *ℤ pos i) (negℤ top) (E .up * i) (E .down * i) (t .down) (t .up) (is-times e i (E .up) (E .down) (E .is)) (is-neg top (t .up) (t .down) (t .is))
+  shift-is i =
+      is-sum (e *ℤ pos i) (negℤ top) (E .up * i) (E .down * i) (t .down) (t .up) (is-times e i (E .up) (E .down) (E .is)) (is-neg top (t .up) (t .down) (t .is))
 
   abbrev lg : List Float
   lg = logSizesOf a d e top
@@ -136,12 +138,14 @@ module _ (g : ℕ) (one : oneUnits ≡ 2 ^ 30 * 2 ^ g) (room : 2 ^ 53 * 2 ^ g �
 
   abbrev FlatAt : ℕ → ℕ → ℕ → ℕ → ℕ → Type 0
   FlatAt i j l w w' =
-      lt eight64 (sub binary64 (div binary64 (sub binary64 (getD lg j nan) (getD lg l nan)) (ofInt binary64 (pos w'))) (div binary64 (sub binary64 (getD lg i nan) (getD lg j nan)) (ofInt binary64 (pos w)))) ≡ false
+      lt eight64 (sub binary64 (div binary64 (sub binary64 (getD lg j nan) (getD lg l nan)) (ofInt binary64 (pos w')))
+      (div binary64 (sub binary64 (getD lg i nan) (getD lg j nan)) (ofInt binary64 (pos w)))) ≡ false
 
   flat-at : (i w w' : ℕ) → 0 < w → 0 < w' → i + w + w' ≤ d → FlatAt i (i + w) (i + w + w') w w'
   flat-at i w w' W W' F = go (omega arith) (omega arith)
     where
-      eight : (e e' q o : ℕ) → o ≡ 2 ^ 30 * q → (4 + (e + 2100)) * (2 ^ 30 * q) + (4 + (e' + s)) * (2 ^ 30 * q) ≤ (e' + s) * (2 ^ 30 * q) + (e + 2100) * (2 ^ 30 * q) + 8 * o
+      eight : (e e' q o : ℕ) → o ≡ 2 ^ 30 * q → (4 + (e + 2100)) * (2 ^ 30 * q) + (4 + (e' + s)) * (2 ^ 30 * q)
+          ≤ (e' + s) * (2 ^ 30 * q) + (e + 2100) * (2 ^ 30 * q) + 8 * o
       eight e e' q o is = omega (arith, is)
 
       go : (x : i ≤ d) (y : i + w ≤ d) → FlatAt i (i + w) (i + w + w') w w'
@@ -151,9 +155,12 @@ module _ (g : ℕ) (one : oneUnits ≡ 2 ^ 30 * 2 ^ g) (room : 2 ^ 53 * 2 ^ g �
           let C = log (i + w + w') F in
           let H = R (i + w) y .high (omega arith) (omega arith) in
           let u = 2 ^ 30 * 2 ^ g in
-          no-gap g one room (A .is) (B .is) (C .is) (A .small) (B .small) (C .small) w w' W (omega arith) W' (omega arith) ((4 + (E .up + 2100)) * u) ((E .down + s) * u) ((4 + (E .down + s)) * u) ((E .up + 2100) * u)
-          (rise i w (R i x .k) (R (i + w) y .k) (E .up) (E .down) (t .up) (t .down) s lo (2 ^ g) (A .p) (A .n) (B .p) (B .n) W H (B .high) (R i x .low) (A .low))
-          (drop (i + w) w' (R (i + w + w') F .k) (R (i + w) y .k) (E .up) (E .down) (t .up) (t .down) s lo (2 ^ g) (C .p) (C .n) (B .p) (B .n) W' H (B .high) (R (i + w + w') F .low) (C .low))
+          no-gap g one room (A .is) (B .is) (C .is) (A .small) (B .small) (C .small) w w' W (omega arith) W' (omega arith)
+          ((4 + (E .up + 2100)) * u) ((E .down + s) * u) ((4 + (E .down + s)) * u) ((E .up + 2100) * u)
+          (rise i w (R i x .k) (R (i + w) y .k) (E .up) (E .down) (t .up) (t .down) s lo (2 ^ g) (A .p) (A .n) (B .p) (B .n) W H (B .high)
+          (R i x .low) (A .low))
+          (drop (i + w) w' (R (i + w + w') F .k) (R (i + w) y .k) (E .up) (E .down) (t .up) (t .down) s lo (2 ^ g) (C .p) (C .n) (B .p)
+          (B .n) W' H (B .high) (R (i + w + w') F .low) (C .low))
           (eight (E .up) (E .down) (2 ^ g) oneUnits one)
 
   flat : Flat lg d

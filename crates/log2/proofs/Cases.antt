@@ -47,9 +47,12 @@ module _ (x : Float) (w k : ℕ) (d : Decoded x w k) where
 
     positive-is : lt x (fin false 0 (pos 0)) ≡ false → log2GridOf x ≡ over256 (gridOf (unitsOf x))
     unfolding log2GridOf
-    positive-is a = let v = positive-view x a (decoded-regular x w k d z) in ap log2GridOf (v .2) ∙ ap (λ (y : Float). over256 (gridOf (unitsOf y))) (sym (v .2))
+    positive-is a =
+        let v = positive-view x a (decoded-regular x w k d z) in
+        ap log2GridOf (v .2) ∙ ap (λ (y : Float). over256 (gridOf (unitsOf y))) (sym (v .2))
 
-    pub log-positive : lt x (fin false 0 (pos 0)) ≡ false → div binary64 (ofInt binary64 (toZ w32 (ofZ w32 (toZ w32 (k * 256 + f) -ℤ pos 274944)))) (fin false 1 (pos 8)) ≡ log2GridOf x
+    pub log-positive : lt x (fin false 0 (pos 0)) ≡ false → div binary64
+        (ofInt binary64 (toZ w32 (ofZ w32 (toZ w32 (k * 256 + f) -ℤ pos 274944)))) (fin false 1 (pos 8)) ≡ log2GridOf x
     log-positive a =
         let s : k * 256 + f < 2 ^ 31 = omega (arith, place) in
         ap (λ (y : ℤ). div binary64 (ofInt binary64 y) (fin false 1 (pos 8))) (machine-is 274943 (k * 256 + f) (omega arith) s)

@@ -68,7 +68,8 @@ abs-minus a b = go (leb b a) refl
 abs-grid : (n : ℕ) → n < 2 ^ 2099 → natAbs (gridOf n) < 2 ^ 53
 unfolding gridOf
 abs-grid n u =
-    let s : size (n ^ 256) ≤ 2099 * 256 = size-le (n ^ 256) (2099 * 256) (subst (λ (x : ℕ). n ^ 256 < x) (sym (pow-mul 2 2099 256)) (pow-lt-pow-left u not-zero)) in
+    let s : size (n ^ 256) ≤ 2099 * 256 = size-le (n ^ 256) (2099 * 256)
+    (subst (λ (x : ℕ). n ^ 256 < x) (sym (pow-mul 2 2099 256)) (pow-lt-pow-left u not-zero)) in
     few (size (n ^ 256)) s (abs-minus (size (n ^ 256)) 274945)
   where
     not-zero : _≡_ {A = ℕ} 256 0 → ⊥
@@ -87,7 +88,8 @@ log2-floor (fin false zero e) f p = absurd p
 log2-floor (fin false (suc m) e) f p =
     let h = shape false (suc m) e f in
     let n = unitsOf (fin false (suc m) e) in
-    let u : n < 2 ^ 2099 = subst (λ (x : ℕ). x < 2 ^ 2099) (h .whole .value) (lt-of-lt-of-le (shl-lt 53 (h .k) (h .whole .short)) (pow-mono (reach (h .k) (h .whole .reach)))) in
+    let u : n < 2 ^ 2099 = subst (λ (x : ℕ). x < 2 ^ 2099) (h .whole .value)
+    (lt-of-lt-of-le (shl-lt 53 (h .k) (h .whole .short)) (pow-mono (reach (h .k) (h .whole .reach)))) in
     (grid-floor n (units-pos false (suc m) e f (zero-lt-suc m)), over256-exact (gridOf n) (abs-grid n u))
   where
     reach : (k : ℕ) → k < 2046 → 53 + k ≤ 2099

@@ -17,7 +17,9 @@ mul-pow a b (suc e) =
 -- n is w * 2 ^ k / 2 ^ p, so n ^ e lies between the powers of two k * e above those around w ^ e, p * e left out
 module _ (n w k p e r : ℕ) (v : w * 2 ^ k ≡ n * 2 ^ p) where
   powers : w ^ e * 2 ^ (k * e) ≡ n ^ e * 2 ^ (p * e)
-  powers = ap (λ (x : ℕ). w ^ e * x) (pow-mul 2 k e) ∙ sym (mul-pow w (2 ^ k) e) ∙ ap (λ (x : ℕ). x ^ e) v ∙ mul-pow n (2 ^ p) e ∙ ap (λ (x : ℕ). n ^ e * x) (sym (pow-mul 2 p e))
+  powers =
+      ap (λ (x : ℕ). w ^ e * x) (pow-mul 2 k e) ∙ sym (mul-pow w (2 ^ k) e) ∙ ap (λ (x : ℕ). x ^ e) v ∙ mul-pow n (2 ^ p) e
+      ∙ ap (λ (x : ℕ). n ^ e * x) (sym (pow-mul 2 p e))
 
   joined : (r : ℕ) → 2 ^ (r + p * e) * 2 ^ (k * e) ≡ 2 ^ (k * e + r) * 2 ^ (p * e)
   joined r = sym (pow-add 2 (r + p * e) (k * e)) ∙ ap (λ (x : ℕ). 2 ^ x) (turned r (p * e) (k * e)) ∙ pow-add 2 (k * e + r) (p * e)
@@ -34,7 +36,8 @@ module _ (n w k p e r : ℕ) (v : w * 2 ^ k ≡ n * 2 ^ p) where
   power-high : w ^ e < 2 ^ (suc r + p * e) → n ^ e < 2 ^ (k * e + suc r)
   power-high h =
       lt-of-mul-lt-mul-right (2 ^ (p * e))
-      (subst (λ (x : ℕ). x < 2 ^ (k * e + suc r) * 2 ^ (p * e)) powers (subst (λ (x : ℕ). w ^ e * 2 ^ (k * e) < x) (joined (suc r)) (mul-lt-mul-of-pos-right h (pow-pos (k * e)))))
+      (subst (λ (x : ℕ). x < 2 ^ (k * e + suc r) * 2 ^ (p * e)) powers
+      (subst (λ (x : ℕ). w ^ e * 2 ^ (k * e) < x) (joined (suc r)) (mul-lt-mul-of-pos-right h (pow-pos (k * e)))))
 
   pub power-size : 2 ^ (r + p * e) ≤ w ^ e → w ^ e < 2 ^ (suc r + p * e) → size (n ^ e) ≡ suc (k * e + r)
   power-size lo hi = size-exact (n ^ e) (k * e + r) (power-low lo) (subst (λ (x : ℕ). n ^ e < 2 ^ x) (next (k * e) r) (power-high hi))

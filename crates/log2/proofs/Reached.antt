@@ -8,7 +8,9 @@ use Rattle.log2.specs.Parts.{Threshold, Fraction}
 
 -- every w reaches the first threshold
 pub not-first : (n w t : ℕ) → Threshold n t → 2 ^ 52 ≤ w → w < t → 0 < n
-not-first n w t q a l = ⊎-elim (λ z. absurd (lt-irrefl (2 ^ 13312) (lt-of-le-of-lt (pow-le-pow-left (le-trans a (under w t l)) 256) (subst (λ (m : ℕ). (t - 1) ^ 256 < 2 ^ (m + 13312)) z (q .least))))) (λ p. p) (eq-zero-or-pos n)
+not-first n w t q a l =
+    ⊎-elim (λ z. absurd (lt-irrefl (2 ^ 13312) (lt-of-le-of-lt (pow-le-pow-left (le-trans a (under w t l)) 256)
+    (subst (λ (m : ℕ). (t - 1) ^ 256 < 2 ^ (m + 13312)) z (q .least))))) (λ p. p) (eq-zero-or-pos n)
   where
     under : (w t : ℕ) → w < t → w ≤ t - 1
     under w t l = omega arith
@@ -22,7 +24,9 @@ pub next-above : (n w t : ℕ) → n < 255 → 2 ^ (n + 13312) ≤ w ^ 256 → T
 next-above n w t s a q l = record {
   small = omega arith;
   low = a;
-  high = lt-of-le-of-lt (pow-le-pow-left (let e : w ≤ t - 1 = omega arith in e) 256) (subst (λ (m : ℕ). (t - 1) ^ 256 < 2 ^ (m + 13312)) (let e : n + 1 ≡ suc n = omega arith in e) (q .least));
+  high =
+      lt-of-le-of-lt (pow-le-pow-left (let e : w ≤ t - 1 = omega arith in e) 256)
+      (subst (λ (m : ℕ). (t - 1) ^ 256 < 2 ^ (m + 13312)) (let e : n + 1 ≡ suc n = omega arith in e) (q .least));
 }
 
 -- above the last one is 2 ^ 53

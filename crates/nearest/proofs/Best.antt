@@ -1,11 +1,12 @@
 -- No double is nearer than `nearestOf`. Let `under h` say that h half units are at most a number, and `over h` that they are at least it. Then the middle
--- of r = `nearestOf` and any smaller double is `under`, and the middle of r and any larger one is `over`. Assumes nothing.
+-- of r = `nearestOf` and any smaller double is `under`, and the middle of r and any larger one is `over`.
 use mathlib.Core.Path.{_≡_, refl, sym, ap, _∙_, subst}
 use mathlib.Core.Logic.{⊎-elim}
 use mathlib.Core.Bool.{Bool, true, false, cond, true≢false}
 use Prim.Native.Nat.{ℕ, zero, suc, _+_, _-_, _*_, _/_, _^_, _≤_, _<_}
 use native.Mathlib.Omega.{arith}
-use native.Mathlib.Nat.{le-trans, le-of-lt, lt-of-le-of-lt, lt-of-mul-lt-mul-right, add-mul, suc-mul, mul-assoc, mul-left-comm, mul-le-mul-left, mul-le-mul-right, mul-div-cancel, zero-lt-suc, pow-succ'}
+use native.Mathlib.Nat.{le-trans, le-of-lt, lt-of-le-of-lt, lt-of-mul-lt-mul-right, add-mul, suc-mul, mul-assoc}
+use native.Mathlib.Nat.{mul-left-comm, mul-le-mul-left, mul-le-mul-right, mul-div-cancel, zero-lt-suc, pow-succ'}
 use lib.Dec.{T, lit<}
 use lib.Pow.{pow-pos}
 use lib.Ieee.{Float, nan, inf, fin, binary64, fits, down}
@@ -39,9 +40,12 @@ abbrev Beside : ℕ → Bool → ℕ → ℕ → Type 0
 Beside t exact r u = (u < r → r + u ≤ 2 * t) × (r < u → 2 * (t + part exact) ≤ r + u)
 
 -- where a part is left K is even, so a bound of c * K by an odd number is one by the even number next to it
-sharp : (exact : Bool) (t K c : ℕ) → (exact ≡ false → (H : ℕ) × (K ≡ 2 * H)) → (c * K ≤ 2 * t + part exact → c * K ≤ 2 * t) × (2 * t + part exact ≤ c * K → 2 * (t + part exact) ≤ c * K)
+sharp : (exact : Bool) (t K c : ℕ) → (exact ≡ false → (H : ℕ) × (K ≡ 2 * H)) → (c * K ≤ 2 * t + part exact → c * K ≤ 2 * t)
+    × (2 * t + part exact ≤ c * K → 2 * (t + part exact) ≤ c * K)
 sharp true t K c even = (λ h. omega arith, λ h. omega arith)
-sharp false t K c even = let e : c * K ≡ 2 * (c * even refl .0) = ap (λ (y : ℕ). c * y) (even refl .1) ∙ mul-left-comm c 2 (even refl .0) in (λ h. omega arith, λ h. omega arith)
+sharp false t K c even =
+    let e : c * K ≡ 2 * (c * even refl .0) = ap (λ (y : ℕ). c * y) (even refl .1) ∙ mul-left-comm c 2 (even refl .0) in
+    (λ h. omega arith, λ h. omega arith)
 
 step : (a b K : ℕ) → a * K < b * K → a * K + K ≤ b * K
 step a b K h = subst (λ (y : ℕ). y ≤ b * K) (suc-mul a K) (mul-le-mul-right K (lt-of-mul-lt-mul-right K h))
@@ -86,18 +90,21 @@ module _ (t r : ℕ) (exact : Bool) (R : Rounded (2 * t + part exact) 2 r) (big 
 below-top : (t r : ℕ) (exact : Bool) → t < 2 ^ 2000 → Rounded (2 * t + part exact) 2 r → r < 2 ^ 2098
 below-top t r exact h R =
     let o = part-le exact in
-    let s : 2 ^ R .k ≤ 2 * t + part exact + 1 = ⊎-elim (λ z. subst (λ (k : ℕ). 2 ^ k ≤ 2 * t + part exact + 1) (sym z) (omega arith)) (λ g. omega arith) (R .least) in
+    let s : 2 ^ R .k ≤ 2 * t + part exact + 1 = ⊎-elim (λ z. subst (λ (k : ℕ). 2 ^ k ≤ 2 * t + part exact + 1) (sym z) (omega arith))
+    (λ g. omega arith) (R .least) in
     let l : r ≤ 2 * suc t = omega (arith, R .lo) in
     lt-of-le-of-lt (le-trans l (mul-le-mul-left 2 h)) (lit< tt)
 
-rounds : (t : ℕ) (exact : Bool) → t < 2 ^ 2000 → let r = unitsOf (nearestOf t exact) in HasValue (nearestOf t exact) false r (2 ^ 1074) × Rounded (2 * t + part exact) 2 r
+rounds : (t : ℕ) (exact : Bool) → t < 2 ^ 2000 → let r = unitsOf (nearestOf t exact) in HasValue (nearestOf t exact) false r (2 ^ 1074)
+    × Rounded (2 * t + part exact) 2 r
 unfolding nearestOf
 rounds t exact h =
     let x = 2 * t + part exact in
     let q = kept 53 (x * 2 ^ 1074) (2 ^ 1075) in
     let k = drop 53 (x * 2 ^ 1074) (2 ^ 1075) in
     let R = same-fraction x 2 (pow-pos 1075) (zero-lt-suc 1) (mul-assoc x (2 ^ 1074) 2) (rounded (x * 2 ^ 1074) (2 ^ 1075) (pow-pos 1075)) in
-    let v : HasValue (nearestOf t exact) false (q * 2 ^ k) (2 ^ 1074) = rw (round-is binary64 false x (2 ^ 1075)) (units-val binary64 false q k (below-top t (q * 2 ^ k) exact h R)) in
+    let v : HasValue (nearestOf t exact) false (q * 2 ^ k) (2 ^ 1074) = rw (round-is binary64 false x (2 ^ 1075))
+    (units-val binary64 false q k (below-top t (q * 2 ^ k) exact h R)) in
     rw (units-of (nearestOf t exact) false (q * 2 ^ k) v) (v, R)
 
 -- ---- the theorem, of a number that is t units and a part of one more, or t where it is exact
@@ -110,7 +117,8 @@ module _ (t : ℕ) (exact : Bool) (small : t < 2 ^ 2000) where
   nearest-fits = is-true _ (round-fits binary64 false (2 * t + part exact) (2 ^ 1075))
 
   -- it asks for 2 ^ 53 units where a part is left: below, a middle of two doubles may lie inside a unit
-  module _ (big : exact ≡ false → 2 ^ 53 ≤ t) (under over : ℕ → Type 0) (down : (a b : ℕ) → a ≤ b → under b → under a) (up : (a b : ℕ) → a ≤ b → over a → over b) (lo : under (2 * t)) (hi : over (2 * (t + part exact))) where
+  module _ (big : exact ≡ false → 2 ^ 53 ≤ t) (under over : ℕ → Type 0) (down : (a b : ℕ) → a ≤ b → under b → under a)
+      (up : (a b : ℕ) → a ≤ b → over a → over b) (lo : under (2 * t)) (hi : over (2 * (t + part exact))) where
     pub nearest-best : (d : Float) → fits binary64 d ≡ true → isFiniteOf d ≡ true
         → let r = unitsOf (nearestOf t exact) in (unitsOf d < r → under (r + unitsOf d)) × (r < unitsOf d → over (r + unitsOf d))
     unfolding isFiniteOf

@@ -1,9 +1,10 @@
--- The double nearest to a root, of any degree: what the square root and the cube root share. Assumes nothing.
+-- The double nearest to a root, of any degree: what the square root and the cube root share.
 use mathlib.Core.Path.{_≡_, refl, sym, ap, ap₂, _∙_, subst}
 use mathlib.Core.Bool.{Bool, true, false}
 use Prim.Native.Nat.{ℕ, zero, suc, _+_, _-_, _*_, _/_, _%_, _^_, _≤_, _<_}
 use native.Mathlib.Omega.{arith}
-use native.Mathlib.Nat.{le-trans, lt-of-lt-of-le, mul-assoc, mul-comm, mul-right-comm, mul-add, mul-one, mul-le-mul-left, mul-le-mul-right, mul-lt-mul-of-pos-right, eq-of-mul-eq-mul-right, div-add-mod', mod-lt, pow-succ'}
+use native.Mathlib.Nat.{le-trans, lt-of-lt-of-le, mul-assoc, mul-comm, mul-right-comm, mul-add, mul-one}
+use native.Mathlib.Nat.{mul-le-mul-left, mul-le-mul-right, mul-lt-mul-of-pos-right, eq-of-mul-eq-mul-right, div-add-mod', mod-lt, pow-succ'}
 use borrow.Author.Tests.{le-leb, lt-leb, leb-true, leb-false, eqb-true}
 use lib.Dec.{leb, eqb, leb→le, le→leb}
 use lib.Pow.{pow-add, pow-pos, pow-mono}
@@ -12,7 +13,7 @@ use lib.Ieee.Digits.{size-lt}
 use Rattle.algebra.specs.NatOrder.{pow2-join}
 use Rattle.decode.specs.Shape.{Normal}
 use Rattle.nearest.specs.Greatest.{greatest, nearestOf, Floor, NearestHalf}
-use Rattle.nearest.proofs.ByTest.{Monotone, Sized, by-test, floor-bounds, half-of-floor, half-bounds}
+use Rattle.nearest.proofs.ByTest.{Monotone, Sized, odd-middle, by-test, floor-bounds, half-of-floor, half-bounds}
 
 -- f t is t to the power e
 pub record Power (e : ℕ) (f : ℕ → ℕ) : Type 0 where
@@ -39,7 +40,8 @@ odd-mul a b p q = let h : a * b ≡ (a / 2 * 2 + 1) * (b / 2 * 2 + 1) = ap₂ (�
 
 even-power : (a q : ℕ) → 0 < q → a * 2 ^ q % 2 ≡ 0
 even-power a zero h = omega arith
-even-power a (suc q) h = subst (λ (x : ℕ). x % 2 ≡ 0) (mul-assoc a (2 ^ q) 2 ∙ ap (λ (x : ℕ). a * x) (mul-comm (2 ^ q) 2 ∙ sym (pow-succ' 2 q))) (twice (a * 2 ^ q))
+even-power a (suc q) h =
+    subst (λ (x : ℕ). x % 2 ≡ 0) (mul-assoc a (2 ^ q) 2 ∙ ap (λ (x : ℕ). a * x) (mul-comm (2 ^ q) 2 ∙ sym (pow-succ' 2 q))) (twice (a * 2 ^ q))
   where
     twice : (y : ℕ) → y * 2 % 2 ≡ 0
     twice y = omega arith
@@ -89,15 +91,12 @@ module _ (e : ℕ) (f : ℕ → ℕ) (P : Power e f) where
       (record { least = at (2 ^ 53) ∙ long .least; most = at (2 ^ 54) ∙ long .most })
       (record { some = h .some; low = at (2 * m - 1) ∙ h .low; high = at (2 * m + 1) ∙ h .high })
       (λ g x.
-      no-tie (2 * m - 1) N (odd-one m (h .some)) even
+      no-tie (2 * m - 1) N (odd-middle m (h .some)) even
       (eq-of-mul-eq-mul-right (f (2 ^ j)) (power-pos j) (f (2 * m - 1)) N (sym (P .product (2 * m - 1) (2 ^ j)) ∙ ap f g ∙ eqb-true (f t) n x ∙ is)))
       J
     where
       at : (b : ℕ) → atRoot f n (b * 2 ^ j) ≡ atRoot f N b
       at b = ap (λ (x : ℕ). atRoot f x (b * 2 ^ j)) is ∙ grid N j b
-
-      odd-one : (m : ℕ) → 0 < m → (2 * m - 1) % 2 ≡ 1
-      odd-one m h = omega arith
 
   -- ---- w has 53 digits, d is what is left of an exponent divided by e, and q digits more make 53 or 54 of the root
 
@@ -105,16 +104,19 @@ module _ (e : ℕ) (f : ℕ → ℕ) (P : Power e f) where
     pub sized : (w d : ℕ) → 2 ^ 52 ≤ w → w < 2 ^ 53 → d < e → Sized (atRoot f (w * 2 ^ d * 2 ^ q))
     sized w d lo hi l = record {
       least = le-leb (f (2 ^ 53)) (w * 2 ^ d * 2 ^ q)
-          (subst (λ (x : ℕ). x ≤ w * 2 ^ d * 2 ^ q) (sym (pow-add 2 52 q) ∙ ap (λ (x : ℕ). 2 ^ x) (let z : 52 + q ≡ e * 53 = omega arith in z) ∙ sym (P .twos 53))
+          (subst (λ (x : ℕ). x ≤ w * 2 ^ d * 2 ^ q) (sym (pow-add 2 52 q)
+          ∙ ap (λ (x : ℕ). 2 ^ x) (let z : 52 + q ≡ e * 53 = omega arith in z) ∙ sym (P .twos 53))
           (mul-le-mul-right (2 ^ q) (le-trans lo (subst (λ (x : ℕ). x ≤ w * 2 ^ d) (mul-one w) (mul-le-mul-left w (pow-pos d))))));
       most = lt-leb (f (2 ^ 54)) (w * 2 ^ d * 2 ^ q)
           (subst (λ (x : ℕ). w * 2 ^ d * 2 ^ q < x) (sym (P .twos 54))
           (lt-of-lt-of-le (mul-lt-mul-of-pos-right (mul-lt-mul-of-pos-right hi (pow-pos d)) (pow-pos q))
-          (subst (λ (x : ℕ). x ≤ 2 ^ (e * 54)) (pow-add 2 (53 + d) q ∙ ap (λ (x : ℕ). x * 2 ^ q) (pow-add 2 53 d)) (pow-mono (let z : 53 + d + q ≤ e * 54 = omega arith in z)))));
+          (subst (λ (x : ℕ). x ≤ 2 ^ (e * 54)) (pow-add 2 (53 + d) q ∙ ap (λ (x : ℕ). x * 2 ^ q) (pow-add 2 53 d))
+          (pow-mono (let z : 53 + d + q ≤ e * 54 = omega arith in z)))));
     }
 
     -- from the whole part that the search finds, to the whole number nearest to half the root
-    pub from-floor : (w d t : ℕ) → 2 ^ 52 ≤ w → w < 2 ^ 53 → d < e → Floor (atRoot f (w * 2 ^ d * 2 ^ q)) t → (t < 2 ^ 54) × NearestHalf (atRoot f (w * 2 ^ d * 2 ^ q)) ((t + 1) / 2)
+    pub from-floor : (w d t : ℕ) → 2 ^ 52 ≤ w → w < 2 ^ 53 → d < e → Floor (atRoot f (w * 2 ^ d * 2 ^ q)) t → (t < 2 ^ 54)
+        × NearestHalf (atRoot f (w * 2 ^ d * 2 ^ q)) ((t + 1) / 2)
     from-floor w d t lo hi l g =
         let long = sized w d lo hi l in
         (floor-bounds _ (monotone _) long t g .1, half-of-floor _ (monotone _) long t g)
@@ -140,5 +142,6 @@ module _ (e : ℕ) (f : ℕ → ℕ) (P : Power e f) where
             let a = div-add-mod' k e in
             let b = mul-add e (k / e) (c - 1) in
             let d = mul-comm e (k / e) in
-            let u : e * c ≡ e * (c - 1) + e = ap (λ (x : ℕ). e * x) (let z : c ≡ c - 1 + 1 = omega arith in z) ∙ mul-add e (c - 1) 1 ∙ ap (λ (x : ℕ). e * (c - 1) + x) (mul-one e) in
+            let u : e * c ≡ e * (c - 1) + e = ap (λ (x : ℕ). e * x) (let z : c ≡ c - 1 + 1 = omega arith in z) ∙ mul-add e (c - 1) 1
+            ∙ ap (λ (x : ℕ). e * (c - 1) + x) (mul-one e) in
             omega arith

@@ -1,4 +1,4 @@
--- The order of at most four keys: how it is made, one number after the other, and what is read through it: the sort of what is there. Assumes nothing.
+-- The order of at most four keys: how it is made, one number after the other, and what is read through it: the sort of what is there.
 use mathlib.Core.Path.{_≡_, refl, sym, ap, _∙_}
 use mathlib.Core.Bool.{Bool, true, false, cond}
 use mathlib.Core.List.{List, [], _∷_, _++_, map}

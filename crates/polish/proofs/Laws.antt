@@ -1,4 +1,4 @@
--- One turn of `polish` by what its tests found, and the place after the turns. Assumes nothing.
+-- One turn of `polish` by what its tests found, and the place after the turns.
 use mathlib.Core.Path.{_≡_, ap, sym, _∙_}
 use mathlib.Core.Bool.{true, false}
 use mathlib.Core.List.{List}
@@ -57,5 +57,6 @@ module _ (f : List Float) (d : ℕ) (gap y : Float) {v : ValueSlope} (here : v �
           unfolding polishNext
           ends-small n h t = ap (λ (s : Place). s .y) (goes n h ∙ turns-stop (polishNext f d gap) (n - (k + 1)) (arrived step (sub binary64 y step)) (rw t))
 
-          pub goes-on : (n : ℕ) → k < n → isSmallOf step (sub binary64 y step) ≡ false → turnsFrom f d gap (n - k) y ≡ turnsFrom f d gap (n - (k + 1)) (sub binary64 y step)
+          pub goes-on : (n : ℕ) → k < n → isSmallOf step (sub binary64 y step) ≡ false
+              → turnsFrom f d gap (n - k) y ≡ turnsFrom f d gap (n - (k + 1)) (sub binary64 y step)
           goes-on n h t = ap (λ (s : Place). s .y) (rw t at (goes n h))

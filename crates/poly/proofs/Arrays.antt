@@ -1,4 +1,4 @@
--- The candidates in their arrays are those of the lists: the factors one by one, and the roots in x. Assumes nothing.
+-- The candidates in their arrays are those of the lists: the factors one by one, and the roots in x.
 use mathlib.Core.Path.{_≡_, refl, sym, ap, _∙_}
 use mathlib.Core.Bool.{Bool, true, false, cond}
 use mathlib.Core.List.{List, [], _∷_, _++_, append-nil}
@@ -55,14 +55,17 @@ module _ (poly : Scaled) (f : Factors) (tol : Float) where
   lin-found i l = kept-roots l _
 
   -- the loops, one after the other
-  pub candidates-found : (zeros : ℕ) (start lins : Roots) (r : Found) → start ≡ rootsOf (zeroRootsOf zeros) → lins ≡ countUp (f .nlin) (withLinIn f) (f .nlin) start
+  pub candidates-found : (zeros : ℕ) (start lins : Roots) (r : Found) → start ≡ rootsOf (zeroRootsOf zeros)
+      → lins ≡ countUp (f .nlin) (withLinIn f) (f .nlin) start
       → r ≡ countUp (f .nquad) (withQuadIn poly f tol) (f .nquad) (record { roots = lins; pairs = noPairs })
       → r ≡ foundOf (candidatesOf poly zeros f tol)
   unfolding candidatesOf
   candidates-found zeros start lins r a b c =
-      let l = b ∙ ap (countUp (f .nlin) (withLinIn f) (f .nlin)) a ∙ up-same rootsOf (withLin f) (withLinIn f) lin-found (f .nlin) (f .nlin) (zeroRootsOf zeros) in
+      let l = b ∙ ap (countUp (f .nlin) (withLinIn f) (f .nlin)) a
+      ∙ up-same rootsOf (withLin f) (withLinIn f) lin-found (f .nlin) (f .nlin) (zeroRootsOf zeros) in
       c ∙ ap (λ (s : Roots). countUp (f .nquad) (withQuadIn poly f tol) (f .nquad) (record { roots = s; pairs = noPairs })) l
-      ∙ up-same foundOf (withQuad poly f tol) (withQuadIn poly f tol) quad-found (f .nquad) (f .nquad) (countUp (f .nlin) (withLin f) (f .nlin) (zeroRootsOf zeros), [])
+      ∙ up-same foundOf (withQuad poly f tol) (withQuadIn poly f tol) quad-found (f .nquad) (f .nquad)
+      (countUp (f .nlin) (withLin f) (f .nlin) (zeroRootsOf zeros), [])
 
 -- ---- the roots in x
 module _ (e : ℤ) where
@@ -71,7 +74,8 @@ module _ (e : ℤ) where
   unscaled-length [] = omega arith
   unscaled-length (r ∷ l) = go (isFiniteOf (unscaledOf e (r .value))) (unscaled-length l)
     where
-      go : (b : Bool) → length (unscaledAll e l) ≤ length l → length (cond b (root (unscaledOf e (r .value)) (r .multiplicity) ∷ unscaledAll e l) (unscaledAll e l)) ≤ suc (length l)
+      go : (b : Bool) → length (unscaledAll e l) ≤ length l → length
+          (cond b (root (unscaledOf e (r .value)) (r .multiplicity) ∷ unscaledAll e l) (unscaledAll e l)) ≤ suc (length l)
       go true h = omega arith
       go false h = omega arith
 
@@ -101,7 +105,8 @@ module _ (e : ℤ) where
       go false = sym (append-nil l)
 
   pub unscaled-turn : (s : Roots) (k : ℕ) → Fits s → k < s .len → (let r = getD (s .root) k blank in
-      keptIn (rootsOf (unscaledAll e (take k (listOf s)))) (root (unscaledOf e (r .value)) (r .multiplicity)) ≡ rootsOf (unscaledAll e (take (k + 1) (listOf s))))
+      keptIn (rootsOf (unscaledAll e (take k (listOf s)))) (root (unscaledOf e (r .value)) (r .multiplicity))
+      ≡ rootsOf (unscaledAll e (take (k + 1) (listOf s))))
   unscaled-turn s k f h =
       let n = length-list s f in
       let b = f .1 in

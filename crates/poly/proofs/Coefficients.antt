@@ -1,4 +1,4 @@
--- The coefficients that count, one place of each recursion as a loop has it; and of those left at least one is no zero. Assumes nothing.
+-- The coefficients that count, one place of each recursion as a loop has it; and of those left at least one is no zero.
 use mathlib.Core.Path.{_≡_, refl, sym, ap, _∙_, subst}
 use mathlib.Core.Bool.{Bool, true, false, cond}
 use mathlib.Core.List.{List, [], _∷_}

@@ -1,5 +1,5 @@
 -- Finishing keeps the sum of the multiplicities: ordered and polished places have those of the candidates, a run's are added, and a push drops at most a root.
--- And the factors add up to the degree. Assumes nothing.
+-- And the factors add up to the degree.
 use mathlib.Core.Bool.{Bool, true, false, cond}
 use mathlib.Core.List.{List, [], _∷_, map}
 use Prim.Native.Nat.{ℕ, zero, suc, _+_, _≤_}
@@ -23,7 +23,8 @@ use Rattle.finish.specs.Finish.{byValue, orderedAt, orderedOf, polishedAt, poli
 use Rattle.finish.proofs.Laws.{sum-polished}
 
 -- ---- each place counts
-counted-placed : (n : ℕ) (poly : Scaled) (l : List RealRoot) → Counted l → (i k : ℕ) → i + k ≤ length l → Counted (map (polishedAt n poly) (fillFrom i k (orderedAt l)))
+counted-placed : (n : ℕ) (poly : Scaled) (l : List RealRoot) → Counted l → (i k : ℕ) → i + k ≤ length l
+    → Counted (map (polishedAt n poly) (fillFrom i k (orderedAt l)))
 unfolding polishedAt orderedAt
 counted-placed n poly l h i zero t = tt
 counted-placed n poly l h i (suc k) t =
@@ -47,7 +48,8 @@ module _ (poly : Scaled) (tol : Float) where
     where
       go : (near : Bool) → Within (d + (a .multiplicity + b .multiplicity + multiplicities l)) (joinedFrom poly tol out (joinOf a b) l)
           → Within (d + a .multiplicity + (b .multiplicity + multiplicities l)) (joinedFrom poly tol (kept out a) b l)
-          → Within (d + (a .multiplicity + (b .multiplicity + multiplicities l))) (joinedFrom poly tol (cond near out (kept out a)) (cond near (joinOf a b) b) l)
+          → Within (d + (a .multiplicity + (b .multiplicity + multiplicities l)))
+          (joinedFrom poly tol (cond near out (kept out a)) (cond near (joinOf a b) b) l)
       go true u v = within-more (d + (a .multiplicity + b .multiplicity + multiplicities l)) _ _ (omega arith) u
       go false u v = within-more (d + a .multiplicity + (b .multiplicity + multiplicities l)) _ _ (omega arith) v
 
@@ -61,7 +63,8 @@ module _ (poly : Scaled) (tol : Float) where
   unfolding finishOf
   finish-within c h =
       let l = polishedOf 4 poly (orderedOf c) in
-      within-more (multiplicities l) (multiplicities c) (joinedOf poly tol l) (omega (arith, sum-polished 4 poly c)) (joined-within l (counted-polished 4 poly c h))
+      within-more (multiplicities l) (multiplicities c) (joinedOf poly tol l) (omega (arith, sum-polished 4 poly c))
+      (joined-within l (counted-polished 4 poly c h))
 
 pub degree-fits : (poly : Scaled) → poly .d ≤ 4 → degreeOf (factorizeOf poly 0) ≤ poly .d
 unfolding factorizeOf

@@ -1,4 +1,4 @@
--- What is left of a list, and what each number stands for: it is answered under its condition and nowhere else. Assumes nothing.
+-- What is left of a list, and what each number stands for: it is answered under its condition and nowhere else.
 use mathlib.Core.Path.{_≡_, refl, sym, _∙_, subst}
 use mathlib.Core.Logic.{⊎-elim}
 use mathlib.Core.Bool.{Bool, true, false, cond, _&&_, true≢false}
@@ -50,7 +50,8 @@ unfolding trimmedFrom
 dropped s zero i a b = absurd (omega (arith, b))
 dropped s (suc k) i a b = go (eq (getD s k nan) zero64) refl a (dropped s k i)
   where
-    go : (z : Bool) → eq (getD s k nan) zero64 ≡ z → cond z (trimmedFrom s k) (suc k) ≤ i → (trimmedFrom s k ≤ i → i < k → eq (getD s i nan) zero64 ≡ true) → eq (getD s i nan) zero64 ≡ true
+    go : (z : Bool) → eq (getD s k nan) zero64 ≡ z → cond z (trimmedFrom s k) (suc k) ≤ i
+        → (trimmedFrom s k ≤ i → i < k → eq (getD s i nan) zero64 ≡ true) → eq (getD s i nan) zero64 ≡ true
     go true t h rest = ⊎-elim (λ e. rw e t) (λ l. rest h l) (eq-or-lt-of-le (let l : i ≤ k = omega arith in l))
     go false t h rest = absurd (omega (arith, h, b))
 
@@ -88,7 +89,8 @@ number-of s (suc (suc (suc (suc k)))) h t = absurd (omega (arith, h))
 pub refusal-most : (finite : Bool) (n : ℕ) → refusalBy finite n ≤ 3
 unfolding refusalBy
 refusal-most finite n =
-    either-way (λ (k : ℕ). k ≤ 3) finite (either-way (λ (k : ℕ). k ≤ 3) (leb n 1) (omega arith) (either-way (λ (k : ℕ). k ≤ 3) (leb n 5) (omega arith) (omega arith))) (omega arith)
+    either-way (λ (k : ℕ). k ≤ 3) finite (either-way (λ (k : ℕ). k ≤ 3) (leb n 1) (omega arith)
+    (either-way (λ (k : ℕ). k ≤ 3) (leb n 5) (omega arith) (omega arith))) (omega arith)
 
 module _ (s : List Float) (tol : Float) where
   pub solved-number : solveOf s tol .number ≡ refusalOf s

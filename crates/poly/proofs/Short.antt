@@ -1,5 +1,5 @@
 -- A short list is solved as the whole one: all are finite in both or in neither, as many are left of both, counted up to six, and what is left of
--- at most five is the same. Assumes nothing.
+-- at most five is the same.
 use mathlib.Core.Path.{_≡_, refl, sym, ap, _∙_, subst}
 use mathlib.Core.Bool.{Bool, true, false, cond, _&&_, and-true, and-false, and-assoc, true≢false}
 use mathlib.Core.List.{List, [], _∷_, foldl}

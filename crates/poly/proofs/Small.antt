@@ -1,4 +1,4 @@
--- The scaled polynomial of a list that is not refused: its coefficients are of size 2 at most, by the scaling theorem. Assumes nothing.
+-- The scaled polynomial of a list that is not refused: its coefficients are of size 2 at most, by the scaling theorem.
 use mathlib.Core.Path.{_≡_, refl, sym, _∙_, subst}
 use mathlib.Core.Bool.{false}
 use mathlib.Core.List.{List}
@@ -78,4 +78,5 @@ pub solved-small : (s : List Float) (tol : Float) → AllDoubles s → solveOf s
     → let poly = solveOf s tol .poly in (poly .d ≤ 4) × AllAtMost two64 (poly .f) (poly .d)
 unfolding finishedOf
 solved-small s tol H e =
-    subst (λ (r : Solved). (r .poly .d ≤ 4) × AllAtMost two64 (r .poly .f) (r .poly .d)) (sym (answered-is s tol e)) (poly-small s H (sym (solved-number s tol) ∙ e))
+    subst (λ (r : Solved). (r .poly .d ≤ 4) × AllAtMost two64 (r .poly .f) (r .poly .d)) (sym (answered-is s tol e))
+    (poly-small s H (sym (solved-number s tol) ∙ e))

@@ -1,4 +1,4 @@
--- The ways out of `finished`, `solve` and `real_roots`, over plain values. Assumes nothing.
+-- The ways out of `finished`, `solve` and `real_roots`, over plain values.
 use mathlib.Core.Path.{_≡_, refl, sym, ap, _∙_, subst}
 use mathlib.Core.Bool.{Bool, true}
 use mathlib.Core.List.{List}
@@ -30,14 +30,16 @@ pub finished-is : (poly : Scaled) (zeros : ℕ) (tol : Float) (c : Found) (roots
 unfolding finishedOf
 finished-is poly zeros tol c roots e f =
     let l = candidatesOf poly zeros (factorizeOf poly 0) tol .0 in
-    let g : roots ≡ rootsOf (finishOf poly l tol) = f ∙ ap (λ (s : Found). rootsOf (finishOf poly (listOf (s .roots)) tol)) e ∙ ap (λ (m : List RealRoot). rootsOf (finishOf poly m tol)) (list-roots l) in
+    let g : roots ≡ rootsOf (finishOf poly l tol) =
+    f ∙ ap (λ (s : Found). rootsOf (finishOf poly (listOf (s .roots)) tol)) e ∙ ap (λ (m : List RealRoot). rootsOf (finishOf poly m tol)) (list-roots l) in
     λ i. record { number = 0; poly = poly; tol = tol; roots = g i; pairs = e i .pairs }
 
 pub new-degree : (a : List Float) (d l : ℕ) (poly : Scaled) → poly ≡ withLogsOf a d l → poly .d ≡ d
 unfolding scaledOf withLogsOf
 new-degree a d l poly e = ap (λ (s : Scaled). s .d) e
 
-module _ (coeffs : List Float) (tol : Float) (finite : Bool) (n number : ℕ) (F : finite ≡ allFiniteOf coeffs) (N : n ≡ trimmedOf coeffs) (R : number ≡ refusalBy finite n) where
+module _ (coeffs : List Float) (tol : Float) (finite : Bool) (n number : ℕ) (F : finite ≡ allFiniteOf coeffs) (N : n ≡ trimmedOf coeffs)
+    (R : number ≡ refusalBy finite n) where
   refusal-is : number ≡ refusalBy (allFiniteOf coeffs) (trimmedOf coeffs)
   refusal-is = R ∙ rw (F, N)
 
@@ -48,7 +50,8 @@ module _ (coeffs : List Float) (tol : Float) (finite : Bool) (n number : ℕ) (F
       let x : r ≡ solveOf coeffs tol = e ∙ rw (sym refusal-is, ne-eqb number 0 h) in
       (λ b. x, subst (ButLogs r) x (r .poly .lg, refl))
 
-  module _ (a : List Float) (zeros : ℕ) (t : Float) (h : number ≡ 0) (Z : zeros ≡ zerosOf coeffs) (A : a ≡ middleOf coeffs zeros n) (T : t ≡ maxOf tol zero64) where
+  module _ (a : List Float) (zeros : ℕ) (t : Float) (h : number ≡ 0) (Z : zeros ≡ zerosOf coeffs) (A : a ≡ middleOf coeffs zeros n)
+      (T : t ≡ maxOf tol zero64) where
     abbrev d : ℕ
     d = n - zeros - 1
 
@@ -60,7 +63,8 @@ module _ (coeffs : List Float) (tol : Float) (finite : Bool) (n number : ℕ) (F
     unfolding withLogsOf scaledOf
     all-logs = refl
 
-    pub solve-answered : (all : Bool) (l : ℕ) (poly : Scaled) (r : Solved) → d ≤ 4 → (all ≡ true → l ≡ d) → Enough a d l → poly ≡ withLogsOf a d l → r ≡ finishedOf poly zeros t
+    pub solve-answered : (all : Bool) (l : ℕ) (poly : Scaled) (r : Solved) → d ≤ 4 → (all ≡ true → l ≡ d) → Enough a d l
+        → poly ≡ withLogsOf a d l → r ≡ finishedOf poly zeros t
         → (all ≡ true → r ≡ solveOf coeffs tol) × ButLogs r (solveOf coeffs tol)
     solve-answered all l poly r D L E P e =
         let p : r ≡ finishedOf (withLogsOf a d l) zeros t = rw (e, P) in (

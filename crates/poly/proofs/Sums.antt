@@ -1,4 +1,4 @@
--- What is found counts at most the degree: zeros, linear factors and, two for each, quadratic factors; finishing and the way back to x add nothing. Assumes nothing.
+-- What is found counts at most the degree: zeros, linear factors and, two for each, quadratic factors; finishing and the way back to x add nothing.
 use mathlib.Core.Path.{_≡_, refl, sym, subst}
 use mathlib.Core.Bool.{Bool, true, false, cond}
 use mathlib.Core.List.{List, [], _∷_}
@@ -43,7 +43,8 @@ up-counts : {A : Type 0} (P : ℕ → A → Type 0) (f : ℕ → A → A) → ((
 unfolding countUp
 up-counts P f step n zero j a p = subst (λ (m : ℕ). P m a) (let e : j ≡ j + 0 = omega arith in e) p
 up-counts P f step n (suc k) j a p =
-    subst (λ (m : ℕ). P m (countUp n f k (f (n - suc k) a))) (let e : suc j + k ≡ j + suc k = omega arith in e) (up-counts P f step n k (suc j) (f (n - suc k) a) (step (n - suc k) j a p))
+    subst (λ (m : ℕ). P m (countUp n f k (f (n - suc k) a))) (let e : suc j + k ≡ j + suc k = omega arith in e)
+    (up-counts P f step n k (suc j) (f (n - suc k) a) (step (n - suc k) j a p))
 
 zeros-within : (zeros : ℕ) → Within zeros (zeroRootsOf zeros)
 unfolding zeroRootsOf
@@ -68,14 +69,16 @@ module _ (poly : Scaled) (zeros : ℕ) (f : Factors) (tol : Float) where
       let c = candidatesOf poly zeros f tol in
       shared-more (d + 2 * (0 + f .nquad)) (zeros + degreeOf f) (c .0) (c .1) (omega arith)
       (up-counts (λ (j : ℕ) (s : List RealRoot × List Pair). Shared (d + 2 * j) (s .0) (s .1)) (withQuad poly f tol)
-      (λ i j s w. shared-more (d + 2 * j + 2) (d + 2 * suc j) _ _ (omega arith) (quadratic-adds poly (quadAt f i .al) (quadAt f i .be) tol (d + 2 * j) (s .0) (s .1) w))
+      (λ i j s w. shared-more (d + 2 * j + 2) (d + 2 * suc j) _ _ (omega arith)
+      (quadratic-adds poly (quadAt f i .al) (quadAt f i .be) tol (d + 2 * j) (s .0) (s .1) w))
       (f .nquad) (f .nquad) 0 (lins, []) (shared-more d (d + 2 * 0) lins [] (omega arith) (shared-none d lins lins-within)))
 
 -- ---- what the functions need
 pub counts-fit : (poly : Scaled) (f : Factors) → f ≡ factorizeOf poly 0 → poly .d ≤ 4 → (f .nlin ≤ 4) × (f .nquad ≤ 2)
 counts-fit poly f e h = let d = subst (λ (g : Factors). degreeOf g ≤ poly .d) (sym e) (degree-fits poly h) in (omega arith, omega arith)
 
-pub candidates-fit : (poly : Scaled) (zeros : ℕ) (tol : Float) (r : Found) → r ≡ foundOf (candidatesOf poly zeros (factorizeOf poly 0) tol) → poly .d + zeros ≤ 4
+pub candidates-fit : (poly : Scaled) (zeros : ℕ) (tol : Float) (r : Found) → r ≡ foundOf (candidatesOf poly zeros (factorizeOf poly 0) tol)
+    → poly .d + zeros ≤ 4
     → (r .roots .len ≤ 4) × (multiplicities (listOf (r .roots)) < 2 ^ 32)
 candidates-fit poly zeros tol r e h =
     let c = candidatesOf poly zeros (factorizeOf poly 0) tol in
@@ -103,14 +106,16 @@ unfolding polyOf scaledOf
 poly-degree coeffs = refl
 
 -- ---- solved: the roots, and two for each pair
-pub solved-shared : (coeffs : List Float) (tol : Float) → Shared (degreeLeft coeffs) (listOf (solveOf coeffs tol .roots)) (pairListOf (solveOf coeffs tol .pairs))
+pub solved-shared : (coeffs : List Float) (tol : Float) → Shared (degreeLeft coeffs) (listOf (solveOf coeffs tol .roots))
+    (pairListOf (solveOf coeffs tol .pairs))
 unfolding solveOf
 solved-shared coeffs tol = go (eqb (refusalOf coeffs) 0) refl
   where
     within : Solved → Type 0
     within s = Shared (degreeLeft coeffs) (listOf (s .roots)) (pairListOf (s .pairs))
 
-    go : (b : Bool) → eqb (refusalOf coeffs) 0 ≡ b → within (cond b (finishedOf (polyOf coeffs) (zerosOf coeffs) (maxOf tol zero64)) (refusedBy (refusalOf coeffs)))
+    go : (b : Bool) → eqb (refusalOf coeffs) 0 ≡ b → within (cond b (finishedOf (polyOf coeffs) (zerosOf coeffs) (maxOf tol zero64))
+        (refusedBy (refusalOf coeffs)))
     go true t =
         let r = room coeffs (allFiniteOf coeffs) (trimmedOf coeffs) (zerosOf coeffs) (refusalOf coeffs) refl refl refl (eqb-true (refusalOf coeffs) 0 t) in
         let z = r .0 in

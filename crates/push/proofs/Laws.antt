@@ -1,4 +1,4 @@
--- What a quadratic factor is by what `push_quadratic` found. Assumes nothing.
+-- What a quadratic factor is by what `push_quadratic` found.
 use mathlib.Core.Path.{_≡_, refl, sym, _∙_}
 use mathlib.Core.Bool.{Bool, true, false}
 use lib.Ieee.{Float, binary64, mul, div, neg, lt, le}
@@ -22,7 +22,8 @@ unfolding bandOf noiseOf criticalPointOf
 same-double poly mid tol = refl
 
 -- ---- what a quadratic factor is
-module _ (poly : Scaled) (al be tol : Float) (s : Disc) {near : Bool} (w : near ≡ withinBandOf (barely poly) (mul binary64 half64 (s .root)) (mul binary64 (neg half64) al) tol) where
+module _ (poly : Scaled) (al be tol : Float) (s : Disc) {near : Bool}
+    (w : near ≡ withinBandOf (barely poly) (mul binary64 half64 (s .root)) (mul binary64 (neg half64) al) tol) where
   abbrev mid : Float
   mid = mul binary64 (neg half64) al
 
@@ -50,6 +51,7 @@ same-quadratic poly al be tol = by-sign (lt zero64 (discriminantOf al be)) refl
     by-sign true h = rw (h, sym (far-by al be refl (rw h refl) refl))
     by-sign false h = rw h
 
-pub same-push : (poly : Scaled) (al be tol : Float) (out : Roots) (pairs : Pairs) {s : Disc} → s ≡ discOf al be → pushRootedIn poly al be s tol out pairs ≡ pushQuadraticIn poly al be tol out pairs
+pub same-push : (poly : Scaled) (al be tol : Float) (out : Roots) (pairs : Pairs) {s : Disc} → s ≡ discOf al be
+    → pushRootedIn poly al be s tol out pairs ≡ pushQuadraticIn poly al be tol out pairs
 unfolding pushRootedIn pushQuadraticIn
 same-push poly al be tol out pairs is = rw (is, same-quadratic poly al be tol)

@@ -1,4 +1,4 @@
--- `push_quadratic` on lists in arrays: what the arrays hold is what the definition on lists gives; and a quadratic factor adds at most 2. Assumes nothing.
+-- `push_quadratic` on lists in arrays: what the arrays hold is what the definition on lists gives; and a quadratic factor adds at most 2.
 use mathlib.Core.Path.{_≡_, ap, _∙_}
 use mathlib.Core.List.{List}
 use Prim.Native.Nat.{ℕ, _+_}
@@ -29,7 +29,8 @@ unfolding pushQuadraticIn pushQuadraticOf
 push-lists poly al be tol out pairs = push-factor out pairs (quadraticRootsOf poly al be tol)
 
 -- the multiplicities, with two for each pair
-factor-adds : (d : ℕ) (out : List RealRoot) (pairs : List Pair) (f : Factor) → Shared d out pairs → Shared (d + 2) (pushFactor (out, pairs) f .0) (pushFactor (out, pairs) f .1)
+factor-adds : (d : ℕ) (out : List RealRoot) (pairs : List Pair) (f : Factor) → Shared d out pairs
+    → Shared (d + 2) (pushFactor (out, pairs) f .0) (pushFactor (out, pairs) f .1)
 unfolding pushFactor
 factor-adds d out pairs (double y) h = shared-kept d out pairs (root y 2) h (omega arith)
 factor-adds d out pairs (apart y z) h =

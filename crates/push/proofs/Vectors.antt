@@ -1,4 +1,4 @@
--- Worked values: what the functions of poly.rs give in the reference build, computed from the definitions. Assumes nothing.
+-- Worked values: what the functions of poly.rs give in the reference build, computed from the definitions.
 use mathlib.Core.Path.{_≡_, refl}
 use mathlib.Core.Bool.{true, false}
 use mathlib.Core.List.{List, [], _∷_}
@@ -16,7 +16,8 @@ use Rattle.critical.specs.declared.TurningPoint.the-variants.{At, None}
 
 -- what has to unfold for the definitions to compute: a fact says `unfolding computes`
 unfoldable pub computes : ℕ
-unfolding factors magnitudeStep magnitudeOf budgetOf kthRootOf radiusStep radiusOf noiseWithin noiseOf baseOf bandOf withinBandOf isBetweenOf criticalNext criticalPointOf extremumOf held kept paired quadraticRootsOf pushFactor pushQuadraticOf
+unfolding factors magnitudeStep magnitudeOf budgetOf kthRootOf radiusStep radiusOf noiseWithin noiseOf baseOf bandOf withinBandOf
+    isBetweenOf criticalNext criticalPointOf extremumOf held kept paired quadraticRootsOf pushFactor pushQuadraticOf
 computes = 0
 
 abbrev bits : ℕ → Float
@@ -34,7 +35,9 @@ abbrev parabola : Scaled
 parabola = polynomial (one64 ∷ bits 0xbffe_6666_6666_6666 ∷ bits 0x3ff1_9999_9999_999a ∷ zero64 ∷ zero64 ∷ []) 2 one64
 
 abbrev quartic : Scaled
-quartic = polynomial (bits 0x3fd3_3333_3333_3333 ∷ bits 0xbff1_9999_9999_999a ∷ bits 0x3fe6_6666_6666_6666 ∷ bits 0x3fec_cccc_cccc_cccd ∷ bits 0x3ff4_cccc_cccc_cccd ∷ []) 4 half64
+quartic =
+    polynomial (bits 0x3fd3_3333_3333_3333 ∷ bits 0xbff1_9999_9999_999a ∷ bits 0x3fe6_6666_6666_6666 ∷ bits 0x3fec_cccc_cccc_cccd
+    ∷ bits 0x3ff4_cccc_cccc_cccd ∷ []) 4 half64
 
 -- a line has no noise: the radius is infinite
 noise-line : noiseOf line (bits 0x3fd3_3333_3333_3333) ≡ zero64
@@ -62,7 +65,8 @@ critical : criticalPointOf quartic (bits 0x3fd3_3333_3333_3333) (bits 0xbff0_000
 unfolding computes
 critical = refl
 
-extremum-there : extremumOf quartic (bits 0x3fd3_3333_3333_3333) (bits 0xbff0_0000_0000_0000) one64 (bits 0x3e11_2e0b_e826_d695) ≡ At (bits 0x3fd7_14d2_3795_1922)
+extremum-there : extremumOf quartic (bits 0x3fd3_3333_3333_3333) (bits 0xbff0_0000_0000_0000) one64 (bits 0x3e11_2e0b_e826_d695)
+    ≡ At (bits 0x3fd7_14d2_3795_1922)
 unfolding computes
 extremum-there = refl
 
@@ -71,20 +75,24 @@ unfolding computes
 extremum-outside = refl
 
 -- y^2 - 2y + 1 of 1 - 2.0000001y + y^2: a double root, at the critical point
-quadratic-double : quadraticRootsOf (polynomial (one64 ∷ bits 0xc000_0000_0d6b_f94d ∷ one64 ∷ zero64 ∷ zero64 ∷ []) 2 one64) (bits 0xc000_0000_0000_0000) one64 (bits 0x3eb0_c6f7_a0b5_ed8d) ≡ double (bits 0x3ff0_0000_0d6b_f94d)
+quadratic-double : quadraticRootsOf (polynomial (one64 ∷ bits 0xc000_0000_0d6b_f94d ∷ one64 ∷ zero64 ∷ zero64 ∷ []) 2 one64)
+    (bits 0xc000_0000_0000_0000) one64 (bits 0x3eb0_c6f7_a0b5_ed8d) ≡ double (bits 0x3ff0_0000_0d6b_f94d)
 unfolding computes
 quadratic-double = refl
 
-quadratic-apart : pushQuadraticOf parabola (bits 0xc000_0000_0000_0000) half64 (bits 0x3e11_2e0b_e826_d695) [] [] ≡ (root (bits 0x3ffb_504f_333f_9de6) 1 ∷ root (bits 0x3fd2_bec3_3301_8867) 1 ∷ [], [])
+quadratic-apart : pushQuadraticOf parabola (bits 0xc000_0000_0000_0000) half64 (bits 0x3e11_2e0b_e826_d695) [] []
+    ≡ (root (bits 0x3ffb_504f_333f_9de6) 1 ∷ root (bits 0x3fd2_bec3_3301_8867) 1 ∷ [], [])
 unfolding computes
 quadratic-apart = refl
 
-quadratic-complex : pushQuadraticOf parabola (bits 0xc000_0000_0000_0000) (bits 0x3ff8_0000_0000_0000) (bits 0x3e11_2e0b_e826_d695) [] [] ≡ ([], pair one64 (bits 0x3fe6_a09e_667f_3bcd) ∷ [])
+quadratic-complex : pushQuadraticOf parabola (bits 0xc000_0000_0000_0000) (bits 0x3ff8_0000_0000_0000) (bits 0x3e11_2e0b_e826_d695) [] []
+    ≡ ([], pair one64 (bits 0x3fe6_a09e_667f_3bcd) ∷ [])
 unfolding computes
 quadratic-complex = refl
 
 -- 1e200 and 1e-200: a discriminant that is a NaN
-quadratic-nan : pushQuadraticOf parabola (bits 0x6974_e718_d7d7_625a) (bits 0x1668_7e92_154e_f7ac) (bits 0x3e11_2e0b_e826_d695) [] [] ≡ ([], pair (bits 0xe964_e718_d7d7_625a) nan ∷ [])
+quadratic-nan : pushQuadraticOf parabola (bits 0x6974_e718_d7d7_625a) (bits 0x1668_7e92_154e_f7ac) (bits 0x3e11_2e0b_e826_d695) [] []
+    ≡ ([], pair (bits 0xe964_e718_d7d7_625a) nan ∷ [])
 unfolding computes
 quadratic-nan = refl
 

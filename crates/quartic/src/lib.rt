@@ -1,5 +1,5 @@
-// Monic quartics, `quartic_factor` of poly.rs, on all bits: a root of the resolvent, a cubic, splits the quartic into two quadratics, and Newton's method on their
-// coefficients refines them. It rests on the leaves, `refine` and `cubic`; `isolated` and `factorize` rest on it.
+// Monic quartics, `quartic_factor` of poly.rs, on all bits: a root of the resolvent, a cubic, splits the quartic into two quadratics, and Newton's method on
+// their coefficients refines them. It rests on the leaves, `refine` and `cubic`; `isolated` and `factorize` rest on it.
 ghost use mathlib.Core.Path.{_≡_};
 ghost use Rattle.cubic.specs.Cubic.{OneOrThree};
 ghost use Rattle.quartic.specs.Quartic.{largestOf, resolventOf, isClearOf, ferrariOf, quarticFactorOf};

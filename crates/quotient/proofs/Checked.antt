@@ -1,4 +1,4 @@
--- What `usable` says of a quotient: s[0] to s[small] are finite doubles, and s[small] is not zero. Assumes nothing.
+-- What `usable` says of a quotient: s[0] to s[small] are finite doubles, and s[small] is not zero.
 use mathlib.Core.Path.{_≡_, refl, sym, ap, _∙_}
 use mathlib.Core.Bool.{true, _&&_}
 use mathlib.Core.List.{List, [], _∷_}
@@ -39,7 +39,8 @@ quotient-doubles g p small = go (small + 1) (replicate 5 zero64) (zeros 5) refl
     zeros zero = tt
     zeros (suc n) = (ofBits-fits binary64 0, zeros n)
 
-    go : (k : ℕ) (s : List Float) → Doubles s → length s ≡ 5 → Doubles (countUp (small + 1) (quotientStep g p) k s) × (length (countUp (small + 1) (quotientStep g p) k s) ≡ 5)
+    go : (k : ℕ) (s : List Float) → Doubles s → length s ≡ 5 → Doubles (countUp (small + 1) (quotientStep g p) k s)
+        × (length (countUp (small + 1) (quotientStep g p) k s) ≡ 5)
     go zero s h l = (h, l)
     go (suc k) s h l =
         let i = small + 1 - suc k in
@@ -66,4 +67,5 @@ module _ (g : List Float) (p : Monic) (small : ℕ) (D : small ≤ 4) (U : usabl
   unfolding usableOf
   usable-last =
       some-units (getD s small nan) (usable-finite small (omega arith))
-      (second-holds (ne (getD s 0 nan) zero64) (ne (getD s small nan) zero64) (second-holds (allFiniteOf (take (small + 1) s)) (ne (getD s 0 nan) zero64 && ne (getD s small nan) zero64) U))
+      (second-holds (ne (getD s 0 nan) zero64) (ne (getD s small nan) zero64)
+      (second-holds (allFiniteOf (take (small + 1) s)) (ne (getD s 0 nan) zero64 && ne (getD s small nan) zero64) U))

@@ -1,4 +1,4 @@
--- The counts where factors are merged: the sum of both, and no push meets a full array, since the degrees add to 4 at most. Assumes nothing.
+-- The counts where factors are merged: the sum of both, and no push meets a full array, since the degrees add to 4 at most.
 use mathlib.Core.Path.{_≡_, refl, _∙_, subst}
 use Prim.Native.Nat.{ℕ, zero, suc, _+_, _-_, _≤_, _<_}
 use native.Mathlib.Omega.{arith}
@@ -51,4 +51,8 @@ module _ (large inner : Factors) (e : ℤ) (R : degreeOf large + degreeOf inner 
   pub quads-room : (i : ℕ) → i < inner .nquad → countUp i (backQuad inner e) i (countUp (inner .nlin) (backLin inner e) (inner .nlin) large) .nquad < 2
   quads-room i h =
       let C = lins-counted inner e (inner .nlin) (inner .nlin) large (large .nlin) (large .nquad) start (omega arith) in
-      omega (arith, quads-counted inner e i i (countUp (inner .nlin) (backLin inner e) (inner .nlin) large) (large .nlin + inner .nlin) (large .nquad) C (omega arith) .nquad)
+      omega (
+        arith,
+        quads-counted inner e i i (countUp (inner .nlin) (backLin inner e) (inner .nlin) large) (large .nlin + inner .nlin)
+            (large .nquad) C (omega arith) .nquad,
+      )

@@ -1,4 +1,4 @@
--- Twice an exponent, as the machine computes it, and the two loops of `merged` one after the other. Assumes nothing.
+-- Twice an exponent, as the machine computes it, and the two loops of `merged` one after the other.
 use mathlib.Core.Path.{_≡_, sym, ap, _∙_, subst}
 use Prim.Native.Nat.{_^_, _≤_}
 use native.Mathlib.Omega.{arith}
@@ -16,6 +16,7 @@ pub doubled-fits : (e : ℤ) → SFits w32 e → natAbs e ≤ 2 ^ 13 → SFits w
 doubled-fits e f h = subst (λ (z : ℤ). SFits w32 (pos 2 *ℤ z)) (sym (toZ-ofZ f)) (small-fits (pos 2 *ℤ e) (omega (arith, natAbs-mul (pos 2) e)))
 
 module _ (large inner : Factors) (e z : ℤ) (Z : z ≡ e) (l m : Factors) where
-  pub merged-is : l ≡ countUp (inner .nlin) (backLin inner z) (inner .nlin) large → m ≡ countUp (inner .nquad) (backQuad inner z) (inner .nquad) l → m ≡ mergedOf large inner e
+  pub merged-is : l ≡ countUp (inner .nlin) (backLin inner z) (inner .nlin) large
+      → m ≡ countUp (inner .nquad) (backQuad inner z) (inner .nquad) l → m ≡ mergedOf large inner e
   unfolding mergedOf
   merged-is L M = rw (sym Z) (M ∙ ap (countUp (inner .nquad) (backQuad inner z) (inner .nquad)) L)

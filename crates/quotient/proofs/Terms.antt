@@ -1,4 +1,4 @@
--- A term of a product's coefficient is there, or is not: it would stand before l's first coefficient, or after its last. And the product's degree. Assumes nothing.
+-- A term of a product's coefficient is there, or is not: it would stand before l's first coefficient, or after its last. And the product's degree.
 use mathlib.Core.Path.{_≡_, ap}
 use mathlib.Core.List.{List}
 use Prim.Native.Nat.{ℕ, _+_, _-_, _≤_, _<_}

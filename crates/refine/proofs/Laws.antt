@@ -1,4 +1,4 @@
--- One turn of `refine` and of `newton_cubic` by what its tests found: the shared facts of the sizes and the systems. Assumes nothing.
+-- One turn of `refine` and of `newton_cubic` by what its tests found: the shared facts of the sizes and the systems.
 use mathlib.Core.Path.{_≡_, refl, ap, sym, _∙_}
 use mathlib.Core.Bool.{Bool, true, false, cond, not}
 use mathlib.Core.List.{List}
@@ -87,7 +87,8 @@ module _ {n : ℕ} {sys : System} {answer x w mag : List Float} {current : Float
       unfolding keptOf
       stop-stuck e = stop (behind ∙ ap (keptOf n sys current) e)
 
-      module _ {y v m : List Float} {next : Float} {held : Bool} (tries : trialOf n x w mag j ≡ some y) (there : Known n sys y v m next) (compares : held ≡ noLessOf current next) where
+      module _ {y v m : List Float} {next : Float} {held : Bool} (tries : trialOf n x w mag j ≡ some y) (there : Known n sys y v m next)
+          (compares : held ≡ noLessOf current next) where
         compared : nextOf n sys x ≡ cond held none (some y)
         unfolding keptOf
         compared = behind ∙ ap (keptOf n sys current) tries ∙ rw (sym (there .sized), sym compares)
@@ -104,7 +105,8 @@ module _ (p : List Float) (y : Float) {v : ValueSlope} (here : v ≡ valueSlopeO
   unfolding newtonNext
   newton-flat t = simp (rw here at t)
 
-  module _ {u : ValueSlope} (steep : flatOf (v .value) (v .slope) ≡ false) (there : u ≡ valueSlopeOf p 3 (sub binary64 y (div binary64 (v .value) (v .slope)))) where
+  module _ {u : ValueSlope} (steep : flatOf (v .value) (v .slope) ≡ false)
+      (there : u ≡ valueSlopeOf p 3 (sub binary64 y (div binary64 (v .value) (v .slope)))) where
     pub newton-held : noGainOf (v .value) (u .value) ≡ true → newtonNext p y ≡ none
     unfolding newtonNext
     newton-held t = simp (sym here, steep, sym there, t)

@@ -1,5 +1,4 @@
 -- Roots and pairs in arrays with a count stand for lists: a push on the one side is a push on the other, and a loop over the array reads the list.
--- Assumes nothing.
 use mathlib.Core.Path.{_≡_, refl, sym, ap, _∙_}
 use mathlib.Core.Bool.{Bool, true, false, cond, _&&_}
 use mathlib.Core.List.{List, [], _∷_, _++_}

@@ -1,4 +1,4 @@
--- What a push adds to a list of roots: at most its multiplicity; and the list stays one of at most four finite places that count. Assumes nothing.
+-- What a push adds to a list of roots: at most its multiplicity; and the list stays one of at most four finite places that count.
 use mathlib.Core.Path.{_≡_, refl}
 use mathlib.Core.Bool.{Bool, true, false, cond, _&&_}
 use mathlib.Core.List.{List, [], _∷_, _++_}

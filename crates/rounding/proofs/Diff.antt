@@ -1,4 +1,4 @@
--- Bounds, distances and products of differences: how they go with sums, multiples and products. Assumes nothing.
+-- Bounds, distances and products of differences: how they go with sums, multiples and products.
 use mathlib.Core.Path.{_≡_, ap, subst}
 use mathlib.Core.Logic.{inl, inr}
 use Prim.Native.Nat.{ℕ, _+_, _*_, _≤_, _<_}
@@ -56,7 +56,10 @@ apart-times x y b k h = (omega (arith, mul-le-mul-right k (h .0)), omega (arith,
 product-bound : (x1 x2 y1 y2 X Y : ℕ) → x1 ≤ x2 + X → x2 ≤ x1 + X → y1 ≤ y2 + Y → y2 ≤ y1 + Y → x1 * y1 + x2 * y2 ≤ x1 * y2 + x2 * y1 + X * Y
 product-bound x1 x2 y1 y2 X Y h h' g g' = elim (le-or-lt x1 x2) [
   | inl l ↦ elim (le-or-lt y1 y2) [ inl m ↦ omega (arith, same-signs x2 x1 y2 y1 h' g' l m) | inr m ↦ other-signs x2 x1 y1 y2 l (le-of-lt m) ]
-  | inr l ↦ elim (le-or-lt y1 y2) [ inl m ↦ omega (arith, other-signs x1 x2 y2 y1 (le-of-lt l) m) | inr m ↦ same-signs x1 x2 y1 y2 h g (le-of-lt l) (le-of-lt m) ]
+  | inr l ↦ elim (le-or-lt y1 y2) [
+    | inl m ↦ omega (arith, other-signs x1 x2 y2 y1 (le-of-lt l) m)
+    | inr m ↦ same-signs x1 x2 y1 y2 h g (le-of-lt l) (le-of-lt m)
+  ]
 ]
   where
     -- of the two differences

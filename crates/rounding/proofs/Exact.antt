@@ -1,9 +1,10 @@
 -- What a rounded number is, from what the exact number is: where rounding changes nothing (`exact`), how far it goes (`half-unit`, `relative`),
--- and of what it gives a multiple (`coarse`). The exact number is (P - N) / d, and p - n is that, rounded at the unit 2 ^ k (`Near P N d p n`). Assumes nothing.
+-- and of what it gives a multiple (`coarse`). The exact number is (P - N) / d, and p - n is that, rounded at the unit 2 ^ k (`Near P N d p n`).
 use mathlib.Core.Path.{_≡_, sym, ap, _∙_, subst}
 use mathlib.Core.Logic.{_⊎_, inl, inr}
 use Prim.Native.Nat.{ℕ, suc, _+_, _-_, _*_, _^_, _≤_, _<_, zero-le}
-use native.Mathlib.Nat.{le-trans, le-of-eq, le-of-suc-le-suc, lt-of-le-of-lt, lt-irrefl, mul-assoc, mul-comm, mul-one, mul-pos, mul-le-mul-left, le-of-mul-le-mul-right, lt-of-mul-lt-mul-right, le-antisymm}
+use native.Mathlib.Nat.{le-trans, le-of-eq, le-of-suc-le-suc, lt-of-le-of-lt, lt-irrefl, mul-assoc, mul-comm}
+use native.Mathlib.Nat.{mul-one, mul-pos, mul-le-mul-left, le-of-mul-le-mul-right, lt-of-mul-lt-mul-right, le-antisymm}
 use native.Mathlib.Omega.{arith}
 use lib.Pow.{pow-pos, pow-mono}
 use Rattle.algebra.specs.NatOrder.{le-or-lt, pow2-split, pow2-twice}

@@ -1,4 +1,4 @@
--- How far rounding moves a signed number, and where it does not move it: the bounds of `Exact`, on differences. Assumes nothing.
+-- How far rounding moves a signed number, and where it does not move it: the bounds of `Exact`, on differences.
 use Prim.Native.Nat.{ℕ, _+_, _*_, _^_, _≤_, _<_}
 use native.Mathlib.Nat.{add-comm}
 use native.Mathlib.Omega.{arith}

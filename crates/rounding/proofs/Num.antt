@@ -1,6 +1,6 @@
--- An operation on finite values with bounded sizes does not overflow: it gives the exact result, rounded once, with a bound on its size (`add-num`, `sub-num`, `mul-num`).
--- `Num x k`: x is a value of binary64, and at most k in size. Where the bounds of the operands are numerals, so is the result's,
--- and that nothing overflows is a comparison of numerals. Assumes nothing.
+-- An operation on finite values with bounded sizes does not overflow: it gives the exact result, rounded once, with a bound on its size (`add-num`, `sub-num`,
+-- `mul-num`). `Num x k`: x is a value of binary64, and at most k in size. Where the bounds of the operands are numerals, so is the result's,
+-- and that nothing overflows is a comparison of numerals.
 use mathlib.Core.Path.{_≡_, sym, ap, _∙_}
 use mathlib.Core.Logic.{inl, inr}
 use Prim.Native.Nat.{ℕ, _+_, _*_, _^_, _≤_, _<_}
@@ -71,7 +71,9 @@ module _ {x y : Float} {k l : ℕ} (X : Num x k) (Y : Num y l) where
           v = record { p = r .p; n = r .n };
           is = r .is;
           held = add-fits binary64 x y;
-          bound = le-trans (sum-size (X .v .p + Y .v .p) (X .v .n + Y .v .n) (r .p) (r .n) B (r .near) (s .0) (s .1)) (le-of-eq (sym (mul-assoc 2 (k + l) oneUnits)));
+          bound =
+              le-trans (sum-size (X .v .p + Y .v .p) (X .v .n + Y .v .n) (r .p) (r .n) B (r .near) (s .0) (s .1))
+              (le-of-eq (sym (mul-assoc 2 (k + l) oneUnits)));
         };
         rounds = r .near;
       }
@@ -87,7 +89,8 @@ module _ {x y : Float} {k l : ℕ} (X : Num x k) (Y : Num y l) where
       let a = (X .v ⊠ Y .v) .p in
       let b = (X .v ⊠ Y .v) .n in
       let B = k * l * oneUnits in
-      let w : a + b ≤ B * oneUnits = le-trans (le-of-eq (factored (X .v) (Y .v))) (le-trans (mul-le-mul (X .bound) (Y .bound)) (le-of-eq (regrouped k l oneUnits))) in
+      let w : a + b ≤ B * oneUnits = le-trans (le-of-eq (factored (X .v) (Y .v)))
+      (le-trans (mul-le-mul (X .bound) (Y .bound)) (le-of-eq (regrouped k l oneUnits))) in
       let c : B * oneUnits ≤ limit * oneUnits = mul-le-mul-right oneUnits (le-trans (mul-le-mul-right oneUnits (le-trans h (lit≤ tt))) limit-room) in
       let r = mul-near (X .is) (Y .is) (le-trans w c) in
       record {
@@ -96,7 +99,8 @@ module _ {x y : Float} {k l : ℕ} (X : Num x k) (Y : Num y l) where
           is = r .is;
           held = mul-fits binary64 x y;
           bound = le-trans
-              (product-size a b oneUnits (r .p) (r .n) B one-pos (r .near) (side a b (B * oneUnits) w) (side b a (B * oneUnits) (le-trans (le-of-eq (add-comm b a)) w)))
+              (product-size a b oneUnits (r .p) (r .n) B one-pos (r .near) (side a b (B * oneUnits) w)
+              (side b a (B * oneUnits) (le-trans (le-of-eq (add-comm b a)) w)))
               (spare (k * l) oneUnits one-pos);
         };
         rounds = r .near;

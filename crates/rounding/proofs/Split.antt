@@ -1,11 +1,11 @@
 -- Veltkamp's splitting: with c = (2 ^ 27 + 1) x, w = c - x, hi = c - w and lo = x - hi, each rounded, hi + lo is x, and neither part is large.
--- Where x has all of its 53 digits in use, x = X U with U = 2 ^ i and 2 ^ 52 ≤ |X| < 2 ^ 53 (`Full`), hi is a multiple of 2 ^ 27 U, and |lo| ≤ 2 ^ 26 U (`halves`).
--- Where x is below 2 ^ 52 units, neither part is above 3 |x| (`small-high`, `small-low`). The argument for a full x:
+-- Where x has all of its 53 digits in use, x = X U with U = 2 ^ i and 2 ^ 52 ≤ |X| < 2 ^ 53 (`Full`), hi is a multiple of 2 ^ 27 U, and |lo| ≤ 2 ^ 26 U
+-- (`halves`). Where x is below 2 ^ 52 units, neither part is above 3 |x| (`small-high`, `small-low`). The argument for a full x:
 --   |c - (2 ^ 27 + 1) x| ≤ 2 ^ 27 U, and c is a multiple of 2 ^ 27 U
 --   |c - x| ≥ 2 ^ 79 U: for |X| > 2 ^ 52 by that bound, for |X| = 2 ^ 52 since c is then exact. And |c - x| ≤ 2 ^ 80 U
 --   so w is a multiple of 2 ^ 27 U within 2 ^ 26 U of c - x
 --   so c - w is a multiple of 2 ^ 27 U by few, hi is exact, and so is x - hi, which is 2 ^ 26 U at most
--- A number x is the difference x1 - x2. 134217729 is 2 ^ 27 + 1. Assumes nothing.
+-- A number x is the difference x1 - x2. 134217729 is 2 ^ 27 + 1.
 use mathlib.Core.Path.{_≡_, sym, ap, _∙_, subst}
 use mathlib.Core.Logic.{_⊎_, inl, inr}
 use Prim.Native.Nat.{ℕ, _+_, _-_, _*_, _^_, _≤_, _<_}

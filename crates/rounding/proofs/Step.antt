@@ -1,21 +1,23 @@
--- One step of the compensated Horner rule, in numbers: how the bounds on the value, on its correction and on their distance from the exact value grow (`stepped`).
--- v and r are the value and its correction so far, y the place, c the next coefficient; p and π are the product v y and its error, s and σ the sum p + c and its error,
--- g = r y, f = π + σ, and e = g + f the next correction, each rounded.
+-- One step of the compensated Horner rule, in numbers: how the bounds on the value, on its correction and on their distance from the exact value grow
+-- (`stepped`). v and r are the value and its correction so far, y the place, c the next coefficient; p and π are the product v y and its error, s and σ the sum
+-- p + c and its error, g = r y, f = π + σ, and e = g + f the next correction, each rounded.
 -- 2 ^ 53 h units bound the sum of the sizes of the terms so far, and 2 ^ 53 k units the next such sum.
 -- From |v| ≤ 2 ^ 53 h + α h + β and |r| ≤ ρ h + τ, with |y| ≤ 4:
 --   |s| ≤ 2 ^ 53 k + (α + 4) k + (4 β + 3)
 --   |e| ≤ (ρ + 8) k + (6 τ + 2 ^ 66)
 --   2 ^ 53 |(s + e) - ((v + r) y + c)| ≤ (2 ρ + 26) k + (9 τ + 2 ^ 118)
 -- The 26 is 14 of the sum's error (7 * 2 k), 5 of rounding π + σ and 7 of rounding e; 2 ρ is of rounding r y and e;
--- and 2 ^ 117 of 2 ^ 118 is of the product's error, 2 ^ 64 units. Assumes nothing.
+-- and 2 ^ 117 of 2 ^ 118 is of the product's error, 2 ^ 64 units.
 use mathlib.Core.Path.{_≡_, refl, sym, ap, _∙_, subst}
 use mathlib.Core.Logic.{inl, inr}
 use Prim.Native.Nat.{ℕ, _+_, _*_, _^_, _≤_, _<_}
-use native.Mathlib.Nat.{le-refl, le-trans, le-of-eq, le-add-right, add-comm, zero-mul, le-of-mul-le-mul-right, le-of-mul-le-mul-left, mul-le-mul-right, mul-le-mul-left, mul-assoc}
+use native.Mathlib.Nat.{le-refl, le-trans, le-of-eq, le-add-right, add-comm, zero-mul}
+use native.Mathlib.Nat.{le-of-mul-le-mul-right, le-of-mul-le-mul-left, mul-le-mul-right, mul-le-mul-left, mul-assoc}
 use native.Mathlib.Omega.{arith}
 use lib.Dec.{lit<}
 use Rattle.rounding.specs.Diff.{Diff, _⊞_, _⊟_, _⊠_, _⊡_, Apart, SizeAtMost, OneSided, magnitude}
-use Rattle.rounding.proofs.Diff.{within-le, within-sum, within-near, within-cancel, within-magnitude, magnitude-le, apart-le, apart-times, product-within}
+use Rattle.rounding.proofs.Diff.{within-le, within-sum, within-near, within-cancel, within-magnitude}
+use Rattle.rounding.proofs.Diff.{magnitude-le, apart-le, apart-times, product-within}
 use Rattle.rounding.proofs.Moved.{Rounds, sum-relative, product-relative, sum-moved, product-moved}
 
 -- ---- how the bounds grow with the place

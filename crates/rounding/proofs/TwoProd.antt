@@ -1,9 +1,9 @@
 -- Dekker's product, exact: p = a b and e = (((ah bh - p) + ah bl) + al bh) + al bl, each operation rounded, and yet p + e is a b (`error-exact`).
 -- That is where a and b have all their 53 digits in use and al bl is a whole number of units. With a = A U, b = B W, A = 2 ^ 27 H + L and B = 2 ^ 27 I + M,
--- the four parts at most 2 ^ 26 in size, and Z = 2 ^ z the unit of a b: p is a multiple of 2 ^ 52 Z within 2 ^ 52 Z of a b, and none of the eight operations after it
--- is rounded, since each result is a multiple of 2 ^ 54 Z, 2 ^ 52 Z, 2 ^ 27 Z or Z by 2 ^ 53 at most.
+-- the four parts at most 2 ^ 26 in size, and Z = 2 ^ z the unit of a b: p is a multiple of 2 ^ 52 Z within 2 ^ 52 Z of a b, and none of the eight operations
+-- after it is rounded, since each result is a multiple of 2 ^ 54 Z, 2 ^ 52 Z, 2 ^ 27 Z or Z by 2 ^ 53 at most.
 -- Below, α, β, γ, λ' and π are the whole numbers H I, H M, L I, L M and A B:
--- ah bh is α times 2 ^ 54 Z, ah bl and al bh are β and γ times 2 ^ 27 Z, al bl is λ' times Z, and a b is π times Z. Assumes nothing.
+-- ah bh is α times 2 ^ 54 Z, ah bl and al bh are β and γ times 2 ^ 27 Z, al bl is λ' times Z, and a b is π times Z.
 use mathlib.Core.Path.{_≡_, sym, ap, _∙_, subst}
 use mathlib.Core.Logic.{_⊎_, inl, inr}
 use Prim.Native.Nat.{ℕ, _+_, _-_, _*_, _^_, _≤_}

@@ -1,6 +1,6 @@
 -- Dekker's product where it is not exact: p + e is within 2 ^ 64 units of a b, as long as no product is above 2 ^ 110 units (`error-close`).
 -- That is where al bl is no whole number of units, or a factor is subnormal. Each of the nine operations moves by its relative error:
--- the products by 2 ^ 57 + 1 units, the sums by 2 ^ 59, 2 ^ 60, 2 ^ 61 and 2 ^ 62. Assumes nothing.
+-- the products by 2 ^ 57 + 1 units, the sums by 2 ^ 59, 2 ^ 60, 2 ^ 61 and 2 ^ 62.
 use Prim.Native.Nat.{ℕ, _+_, _*_, _^_, _≤_, _<_}
 use native.Mathlib.Omega.{arith}
 use lib.Dec.{lit≤}

@@ -1,11 +1,11 @@
--- The error of a sum, worked out after it: with s = p + c, b = s - p, t = s - b and e = (p - t) + (c - b), each rounded, e is p + c - s within 7 h / 2 ^ 53 (`error-near`).
--- Here |p| + |c| ≤ 2 ^ 53 h, and a number p is the difference p1 - p2. Only t has to be exact (`rest-short`); the rest may round.
+-- The error of a sum, worked out after it: with s = p + c, b = s - p, t = s - b and e = (p - t) + (c - b), each rounded, e is p + c - s within 7 h / 2 ^ 53
+-- (`error-near`). Here |p| + |c| ≤ 2 ^ 53 h, and a number p is the difference p1 - p2. Only t has to be exact (`rest-short`); the rest may round.
 -- The sizes of p and c are not compared, only the units 2 ^ i of p, 2 ^ j of c, and 2 ^ k of the rounding of s:
 --   j ≤ i               s - p is a multiple of a power of two by at most 2 ^ 53 (`difference-short`), so b is s - p, and t is p
 --   i < j and k ≤ i     p + c is exact, so b is c, and t is p
 --   i < j and i < k     the same lemma at s and -p: s - b needs no rounding
 -- Then (p - t) + (c - b) is p + c - s, whatever b is. p - t and c - b are at most 2 h and 3 h, and their sum 2 h:
--- rounding moves each by 2 ^ -53 of that, 7 h / 2 ^ 53 in all. Assumes nothing.
+-- rounding moves each by 2 ^ -53 of that, 7 h / 2 ^ 53 in all.
 use mathlib.Core.Path.{_≡_, sym, ap, _∙_, subst}
 use mathlib.Core.Logic.{inl, inr}
 use Prim.Native.Nat.{ℕ, suc, _+_, _-_, _*_, _^_, _≤_, _<_, zero-le}
@@ -106,7 +106,8 @@ module _ {p1 p2 c1 c2 s1 s2 b1 b2 : ℕ} (P : Grid p1 p2) (C : Grid c1 c2) (S : 
       let y : C .a * 2 ^ j ≡ C .a * 2 ^ (j - k) * 2 ^ k = pow2-finer (C .a) (le-trans h (le-of-lt l)) in
       let y' : C .b * 2 ^ j ≡ C .b * 2 ^ (j - k) * 2 ^ k = pow2-finer (C .b) (le-trans h (le-of-lt l)) in
       let e : p1 + c1 + s2 * 1 ≡ p2 + c2 + s1 * 1 =
-      exact-at (pow-pos 0) S (P .a * 2 ^ (i - k) + C .a * 2 ^ (j - k)) (P .b * 2 ^ (i - k) + C .b * 2 ^ (j - k)) (omega (arith, P .p-is, P .n-is, C .p-is, C .n-is)) in
+      exact-at (pow-pos 0) S (P .a * 2 ^ (i - k) + C .a * 2 ^ (j - k)) (P .b * 2 ^ (i - k) + C .b * 2 ^ (j - k))
+      (omega (arith, P .p-is, P .n-is, C .p-is, C .n-is)) in
       let f : c1 + c2 ≤ 2 ^ 53 * 2 ^ j = omega (arith, mul-le-mul-right (2 ^ j) (C .few), C .p-is, C .n-is) in
       record { g = j; a = C .a; b = C .b; is = omega (arith, C .p-is, C .n-is); few = (omega arith, omega arith) }
 

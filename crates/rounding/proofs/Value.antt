@@ -1,9 +1,11 @@
--- The result of a sum, a product or a quotient of two finite values is the exact one, rounded once (`add-near`, `mul-near`, `div-near`), as long as it does not overflow.
--- A finite value is a whole number of units of 2 ^ -1074 with its sign: p units above zero or n units below it, one of them 0 (`Val`). Assumes nothing.
+-- The result of a sum, a product or a quotient of two finite values is the exact one, rounded once (`add-near`, `mul-near`, `div-near`), as long as it does not
+-- overflow. A finite value is a whole number of units of 2 ^ -1074 with its sign: p units above zero or n units below it, one of them 0 (`Val`).
 use mathlib.Core.Path.{_≡_, refl, sym, ap, _∙_, subst}
 use mathlib.Core.Logic.{_⊎_, inl, inr}
 use Prim.Native.Nat.{ℕ, zero, suc, _+_, _-_, _*_, _%_, _^_, _≤_, _<_, zero-le}
-use native.Mathlib.Nat.{le-trans, le-of-eq, le-of-lt, le-of-suc-le-suc, lt-of-le-of-lt, lt-of-not-le, not-le-of-lt, ne-of-lt, mul-one, one-mul, zero-mul, mul-zero, zero-add, add-zero, sub-zero, sub-add-cancel, mul-pos, mul-assoc, mul-le-mul-right, le-of-mul-le-mul-right, eq-of-mul-eq-mul-right}
+use native.Mathlib.Nat.{le-trans, le-of-eq, le-of-lt, le-of-suc-le-suc, lt-of-le-of-lt, lt-of-not-le, not-le-of-lt}
+use native.Mathlib.Nat.{ne-of-lt, mul-one, one-mul, zero-mul, mul-zero, zero-add, add-zero}
+use native.Mathlib.Nat.{sub-zero, sub-add-cancel, mul-pos, mul-assoc, mul-le-mul-right, le-of-mul-le-mul-right, eq-of-mul-eq-mul-right}
 use native.Mathlib.Omega.{arith}
 use mathlib.Core.Bool.{Bool, true, false, not, cond, _&&_, true≢false}
 use borrow.Author.Tests.{ne-eqb}
@@ -198,7 +200,8 @@ module _ (m j p q : ℕ) (e d : ℤ) (X : m * up e * oneUnits ≡ p * down e) (Y
   -- the product of p and q units is p q units over 2 ^ 1074
   product-over : m * up e * (j * up d) * oneUnits * oneUnits ≡ (p * q - 0) * (down e * down d)
   product-over =
-      let s : m * up e * oneUnits * (j * up d * oneUnits) ≡ p * down e * (q * down d) = ap (λ (z : ℕ). z * (j * up d * oneUnits)) X ∙ ap (λ (z : ℕ). p * down e * z) Y in
+      let s : m * up e * oneUnits * (j * up d * oneUnits) ≡ p * down e * (q * down d) = ap (λ (z : ℕ). z * (j * up d * oneUnits)) X
+      ∙ ap (λ (z : ℕ). p * down e * z) Y in
       let t : m * up e * (j * up d) * oneUnits * oneUnits ≡ p * q * (down e * down d) = omega arith in
       t ∙ ap (λ (z : ℕ). z * (down e * down d)) (sym (sub-zero (p * q)))
 

@@ -1,5 +1,6 @@
--- A whole number with a sign, as a difference of two natural numbers: p - n. Sums, products, equality and distance are those of the differences. Definitions only.
--- All but the record is `abbrev`, so that `omega` reads an equation or a bound of such numbers as one of natural numbers. (It reads none of the library's ℤ.)
+-- A whole number with a sign, as a difference of two natural numbers: p - n. Sums, products, equality and distance are those of the differences. Definitions
+-- only. All but the record is `abbrev`, so that `omega` reads an equation or a bound of such numbers as one of natural numbers. (It reads none of the library's
+-- ℤ.)
 use mathlib.Core.Path.{_≡_}
 use mathlib.Core.Logic.{_⊎_}
 use Prim.Native.Nat.{ℕ, _+_, _*_, _≤_}

@@ -1,4 +1,4 @@
--- The smallest k for the first coefficients, found one by one, is the definition's: e + 2098. Assumes nothing.
+-- The smallest k for the first coefficients, found one by one, is the definition's: e + 2098.
 use mathlib.Core.Path.{_≡_, refl, sym, ap, _∙_, subst}
 use mathlib.Core.Bool.{Bool, true, false, not, _&&_, cond}
 use mathlib.Core.List.{List}
@@ -25,7 +25,8 @@ use Rattle.scaled.proofs.Held.{held, not-held, one-held-more, held-more
 
 -- ---- the candidates rise
 pub rising : (k k' : ℕ) → k ≤ k' → candidate k ≤ℤ candidate k'
-rising k k' l = subst (λ (z : ℤ). candidate k ≤ℤ z) (regroup k (k' - k) ∙ (let e : k + (k' - k) ≡ k' = omega arith in ap candidate e)) (≤ℤ-add (candidate k) (k' - k))
+rising k k' l =
+    subst (λ (z : ℤ). candidate k ≤ℤ z) (regroup k (k' - k) ∙ (let e : k + (k' - k) ≡ k' = omega arith in ap candidate e)) (≤ℤ-add (candidate k) (k' - k))
   where
     regroup : (k n : ℕ) → (pos k -ℤ pos 2098) +ℤ pos n ≡ pos (k + n) -ℤ pos 2098
     regroup k n = ringℤ 3 (λ k n c. (k :- c) :+ n := (k :+ n) :- c) tt (pos k) (pos n) (pos 2098)
@@ -53,7 +54,8 @@ second-fails true q h = h
 second-fails false q h = refl
 
 -- One more coefficient, which needs r. The leading one has the digits w and z.
-module _ (a : List Float) (d n k r w z : ℕ) (N : w * 2 ^ z ≡ unitsOf (getD a d nan) * 2 ^ 52) (L : Least (w * 2 ^ z) (unitsOf (getD a n nan) * 2 ^ 52) (d - n) r) (B : Best a d n k) where
+module _ (a : List Float) (d n k r w z : ℕ) (N : w * 2 ^ z ≡ unitsOf (getD a d nan) * 2 ^ 52)
+    (L : Least (w * 2 ^ z) (unitsOf (getD a n nan) * 2 ^ 52) (d - n) r) (B : Best a d n k) where
   abbrev u : ℕ
   u = unitsOf (getD a n nan)
 
@@ -71,7 +73,9 @@ module _ (a : List Float) (d n k r w z : ℕ) (N : w * 2 ^ z ≡ unitsOf (getD a
   holds-here = held a d n r 2098 (le-of-mul-le-mul-right (le-trans (le-of-eq (sym (this _))) (le-trans (L .holds) (le-of-eq (lead _)))) (pow-pos 52))
 
   least-here : 0 < r → heldAt a d (candidate (r - 1)) n ≡ false
-  least-here p = not-held a d n (r - 1) 2098 (lt-of-mul-lt-mul-right (2 ^ 52) (subst (λ (y : ℕ). y < u * 2 ^ (2098 * (d - n)) * 2 ^ 52) (lead _) (subst (λ (y : ℕ). w * 2 ^ z * 2 ^ ((r - 1) * (d - n)) < y) (this _) (L .least p))))
+  least-here p =
+      not-held a d n (r - 1) 2098 (lt-of-mul-lt-mul-right (2 ^ 52)
+      (subst (λ (y : ℕ). y < u * 2 ^ (2098 * (d - n)) * 2 ^ 52) (lead _) (subst (λ (y : ℕ). w * 2 ^ z * 2 ^ ((r - 1) * (d - n)) < y) (this _) (L .least p))))
 
   next : {s : ℕ} → Best a d (suc n) s → Best a d (n + 1) s
   next {s} = subst (λ (m : ℕ). Best a d m s) (let e : suc n ≡ n + 1 = omega arith in e)
@@ -101,7 +105,8 @@ module _ (a : List Float) (d n k r w z : ℕ) (N : w * 2 ^ z ≡ unitsOf (getD a
       }))
 
 -- ---- the definition's e
-pub exponent-is : (a : List Float) (d : ℕ) → scaleExponentOf a d ≡ cond (regularOf (getD a d nan) && tooSmall a d 0) (candidate (suc (greatest (tooSmall a d) 13 0))) (pos 0)
+pub exponent-is : (a : List Float) (d : ℕ) → scaleExponentOf a d
+    ≡ cond (regularOf (getD a d nan) && tooSmall a d 0) (candidate (suc (greatest (tooSmall a d) 13 0))) (pos 0)
 unfolding scaleExponentOf
 exponent-is a d = refl
 
@@ -161,4 +166,5 @@ module _ (a : List Float) (d n k : ℕ) (R : regularOf (getD a d nan) ≡ true) 
           let low = small m (subst (λ (x : ℕ). heldBelow a d (candidate x) d ≡ false) (let e : suc m - 1 ≡ m = omega arith in e) (A .least (omega arith))) in
           let first = falling a d 0 m (omega arith) low in
           let top = large (2 ^ 13) (held-more a d (candidate (suc m)) (candidate (2 ^ 13)) d (rising (suc m) (2 ^ 13) (omega (arith, A .bound))) (A .holds)) in
-          rw (exponent-is, R, is-true (tooSmall a d 0) first) (ap (λ (x : ℕ). candidate (suc x)) (sym (one-above (tooSmall a d) (falling a d) m first top low (large (suc m) (A .holds)))))
+          rw (exponent-is, R, is-true (tooSmall a d 0) first) (ap (λ (x : ℕ). candidate (suc x))
+          (sym (one-above (tooSmall a d) (falling a d) m first top low (large (suc m) (A .holds)))))

@@ -1,4 +1,4 @@
--- The parts of Scaled::new put together. An i32 that one function hands to another stands there as the machine reads it, e' for e and top' for top. Assumes nothing.
+-- The parts of Scaled::new put together. An i32 that one function hands to another stands there as the machine reads it, e' for e and top' for top.
 use mathlib.Core.Path.{_≡_}
 use mathlib.Core.List.{List, [], _∷_}
 use Prim.Native.Nat.{ℕ, _≤_, _<_}
@@ -17,7 +17,8 @@ unfolding logSizesOf
 no-logs a d e top x h i = rw (i, lt-leb 3 d h)
 
 module _ (a : List Float) (d : ℕ) (e e' top top' : ℤ) (E : e' ≡ e) (T : top' ≡ top) (x0 x1 x2 x3 x4 : Float) where
-  pub coefficients-are : x0 ≡ coefficientOf a d e' top' 0 → x1 ≡ coefficientOf a d e' top' 1 → x2 ≡ coefficientOf a d e' top' 2 → x3 ≡ coefficientOf a d e' top' 3
+  pub coefficients-are : x0 ≡ coefficientOf a d e' top' 0 → x1 ≡ coefficientOf a d e' top' 1 → x2 ≡ coefficientOf a d e' top' 2
+      → x3 ≡ coefficientOf a d e' top' 3
       → x4 ≡ coefficientOf a d e' top' 4 → x0 ∷ x1 ∷ x2 ∷ x3 ∷ x4 ∷ [] ≡ coefficientsOf a d e top
   unfolding coefficientsOf
   coefficients-are h0 h1 h2 h3 h4 = rw (h0, h1, h2, h3, h4, E, T)
@@ -28,7 +29,8 @@ module _ (a : List Float) (d : ℕ) (e e' top top' : ℤ) (E : e' ≡ e) (T : to
   unfolding logSizesOf
   logs-are s l h S L h0 h1 h2 h3 h4 = rw (le-leb 3 d h, h0, h1, h2, h3, h4, E, T, L, S)
 
-pub built : (a : List Float) (d l : ℕ) (e e' top top' m : ℤ) (f g lg : List Float) (unit : Float) → e ≡ scaleExponentOf a d → e' ≡ e → top ≡ topOf (getD a d nan) e' d → top' ≡ top
+pub built : (a : List Float) (d l : ℕ) (e e' top top' m : ℤ) (f g lg : List Float) (unit : Float) → e ≡ scaleExponentOf a d → e' ≡ e
+    → top ≡ topOf (getD a d nan) e' d → top' ≡ top
     → f ≡ coefficientsOf a d e' top' → g ≡ monicOf f d → lg ≡ logSizesOf a l e' top' → m ≡ negℤ e → unit ≡ ldexpOf one64 m
     → record { f = f; g = g; lg = lg; d = d; e = e'; unit = unit } ≡ withLogsOf a d l
 unfolding scaledOf withLogsOf

@@ -1,10 +1,11 @@
--- `ldexp` in units: a chain of products with powers of two. Going down each bound of 53 digits stays one, and going up nothing is rounded. Assumes nothing.
+-- `ldexp` in units: a chain of products with powers of two. Going down each bound of 53 digits stays one, and going up nothing is rounded.
 use mathlib.Core.Path.{_≡_, sym, ap, _∙_, subst}
 use mathlib.Core.Bool.{true, false}
 use mathlib.Core.Logic.{⊎-elim}
 use Prim.Native.Nat.{ℕ, zero, suc, _+_, _-_, _*_, _^_, _≤_, _<_}
 use native.Mathlib.Omega.{arith}
-use native.Mathlib.Nat.{mul-one, one-mul, mul-le-mul-left, le-trans, le-of-eq, le-of-lt, lt-of-le-of-lt, le-of-mul-le-mul-right, le-antisymm, sub-add-cancel, eq-of-mul-eq-mul-right}
+use native.Mathlib.Nat.{mul-one, one-mul, mul-le-mul-left, le-trans, le-of-eq, le-of-lt}
+use native.Mathlib.Nat.{lt-of-le-of-lt, le-of-mul-le-mul-right, le-antisymm, sub-add-cancel, eq-of-mul-eq-mul-right}
 use lib.Dec.{lit<}
 use lib.Pow.{pow-add, pow-pos, pow-mono}
 use lib.IntN.{pos, negsuc, _-ℤ_}
@@ -28,12 +29,18 @@ shrink x n F =
     let P = times x (negsuc n) F 1 2097 (lit< tt) (lit< tt) (le-trans (le-of-eq (mul-one (unitsOf x))) (le-trans (le-of-lt (units-under x F)) room)) in
     record {
       finite = P .finite;
-      over = λ w g W h. kept-above (pow-pos (suc n)) (P .rounds) w g W (le-trans (le-of-eq (mul-one (unitsOf x))) (le-trans h (le-of-eq (sym (pow2-join w g (suc n))))));
-      under = λ w g W h. kept-below (pow-pos (suc n)) (P .rounds) w g W (le-trans (le-of-eq (pow2-join w g (suc n))) (le-trans h (le-of-eq (sym (mul-one (unitsOf x))))));
+      over =
+          λ w g W h. kept-above (pow-pos (suc n)) (P .rounds) w g W
+          (le-trans (le-of-eq (mul-one (unitsOf x))) (le-trans h (le-of-eq (sym (pow2-join w g (suc n))))));
+      under =
+          λ w g W h. kept-below (pow-pos (suc n)) (P .rounds) w g W
+          (le-trans (le-of-eq (pow2-join w g (suc n))) (le-trans h (le-of-eq (sym (mul-one (unitsOf x))))));
     }
   where
     room : 2 ^ 2098 ≤ 1 * 2 ^ 2097 * 2 ^ suc n
-    room = le-trans (pow-mono (let l : 2098 ≤ 2097 + suc n = omega arith in l)) (le-of-eq (sym (ap (λ (y : ℕ). y * 2 ^ suc n) (one-mul (2 ^ 2097)) ∙ sym (pow-add 2 2097 (suc n)))))
+    room =
+        le-trans (pow-mono (let l : 2098 ≤ 2097 + suc n = omega arith in l))
+        (le-of-eq (sym (ap (λ (y : ℕ). y * 2 ^ suc n) (one-mul (2 ^ 2097)) ∙ sym (pow-add 2 2097 (suc n)))))
 
 and-then : (x y z : Float) (a b : ℕ) → Shrunk x y a → Shrunk y z b → Shrunk x z (b + a)
 and-then x y z a b P Q = record {
@@ -48,7 +55,8 @@ and-then x y z a b P Q = record {
 fall-last : (n : ℕ) (x : Float) → Finite x → suc n ≤ 1000 → Shrunk x (timesPowerOf true (suc n) x) (suc n)
 fall-last n x F h = subst (λ (y : Float). Shrunk x y (suc n)) (sym (all-last true (suc n) x h)) (shrink x n F)
 
-fall-step : (n : ℕ) (x : Float) → Finite x → 1000 < suc n → ((y : Float) → Finite y → Shrunk y (timesPowerOf true (suc (n - 1000)) y) (suc (n - 1000))) → Shrunk x (timesPowerOf true (suc n) x) (suc n)
+fall-step : (n : ℕ) (x : Float) → Finite x → 1000 < suc n → ((y : Float) → Finite y
+    → Shrunk y (timesPowerOf true (suc (n - 1000)) y) (suc (n - 1000))) → Shrunk x (timesPowerOf true (suc n) x) (suc n)
 fall-step n x F h rest =
     let y = mul binary64 x (pow2Of (negsuc 999)) in
     let P = shrink x 999 F in
@@ -85,12 +93,14 @@ rise-last : (n : ℕ) (x : Float) → Finite x → unitsOf x * 2 ^ n < 2 ^ 2098 
 rise-last n x F b h = subst (λ (y : Float). Grown x y n) (sym (all-last false n x h)) (grow x n F b)
 
 rise-step : (n : ℕ) (x : Float) → Finite x → unitsOf x * 2 ^ n < 2 ^ 2098 → 1000 < n
-    → ((y : Float) → Finite y → unitsOf y * 2 ^ (n - 1000) < 2 ^ 2098 → Grown y (timesPowerOf false (n - 1000) y) (n - 1000)) → Grown x (timesPowerOf false n x) n
+    → ((y : Float) → Finite y → unitsOf y * 2 ^ (n - 1000) < 2 ^ 2098 → Grown y (timesPowerOf false (n - 1000) y) (n - 1000))
+    → Grown x (timesPowerOf false n x) n
 rise-step n x F b h rest =
     let y = mul binary64 x (pow2Of (pos 1000)) in
     let m = n - 1000 in
     let P = grow x 1000 F (lt-of-le-of-lt (mul-le-mul-left (unitsOf x) (pow-mono (le-of-lt h))) b) in
-    let e : unitsOf y * 2 ^ m ≡ unitsOf x * 2 ^ n = ap (λ (u : ℕ). u * 2 ^ m) (P .is) ∙ pow2-join (unitsOf x) 1000 m ∙ (let q : 1000 + (n - 1000) ≡ n = omega arith in ap (λ (k : ℕ). unitsOf x * 2 ^ k) q) in
+    let e : unitsOf y * 2 ^ m ≡ unitsOf x * 2 ^ n = ap (λ (u : ℕ). u * 2 ^ m) (P .is) ∙ pow2-join (unitsOf x) 1000 m
+    ∙ (let q : 1000 + (n - 1000) ≡ n = omega arith in ap (λ (k : ℕ). unitsOf x * 2 ^ k) q) in
     let Q = rest y (P .finite) (subst (λ (u : ℕ). u < 2 ^ 2098) (sym e) b) in
     subst (λ (z : Float). Grown x z n) (sym (all-step false n x h)) (record { finite = Q .finite; is = Q .is ∙ e })
 
@@ -104,7 +114,8 @@ pub record Bounded (x y : Float) (p q w g : ℕ) : Type 0 where
   pub over : unitsOf y ≤ w * 2 ^ g
   pub exact : unitsOf x * 2 ^ p ≡ w * 2 ^ (g + q) → unitsOf y ≡ w * 2 ^ g
 
-pub bounded : (x : Float) (p q w g : ℕ) → Finite x → w < 2 ^ 53 → w * 2 ^ g < 2 ^ 2098 → unitsOf x * 2 ^ p ≤ w * 2 ^ (g + q) → Bounded x (ldexpOf x (pos p -ℤ pos q)) p q w g
+pub bounded : (x : Float) (p q w g : ℕ) → Finite x → w < 2 ^ 53 → w * 2 ^ g < 2 ^ 2098 → unitsOf x * 2 ^ p ≤ w * 2 ^ (g + q)
+    → Bounded x (ldexpOf x (pos p -ℤ pos q)) p q w g
 bounded x p q w g F W O h = ⊎-elim up-there down-there (le-or-lt q p)
   where
     up-there : q ≤ p → Bounded x (ldexpOf x (pos p -ℤ pos q)) p q w g
@@ -123,7 +134,8 @@ bounded x p q w g F W O h = ⊎-elim up-there down-there (le-or-lt q p)
     down-there : p < q → Bounded x (ldexpOf x (pos p -ℤ pos q)) p q w g
     down-there l =
         let n = q - suc p in
-        let e : w * 2 ^ (g + suc n) * 2 ^ p ≡ w * 2 ^ (g + q) = pow2-join w (g + suc n) p ∙ (let d : g + suc (q - suc p) + p ≡ g + q = omega arith in ap (λ (k : ℕ). w * 2 ^ k) d) in
+        let e : w * 2 ^ (g + suc n) * 2 ^ p ≡ w * 2 ^ (g + q) = pow2-join w (g + suc n) p
+        ∙ (let d : g + suc (q - suc p) + p ≡ g + q = omega arith in ap (λ (k : ℕ). w * 2 ^ k) d) in
         let P = fall n n (omega arith) x F in
         let b = P .over w g W (le-of-mul-le-mul-right (le-trans h (le-of-eq (sym e))) (pow-pos p)) in
         rw (below p q l, by-sign true (suc n) x)

@@ -1,4 +1,4 @@
--- A finite double in whole numbers: its units are 53 digits times a power of two, and fewer than 2^2098. Assumes nothing.
+-- A finite double in whole numbers: its units are 53 digits times a power of two, and fewer than 2^2098.
 use mathlib.Core.Path.{_≡_, refl, sym, ap, _∙_, subst}
 use mathlib.Core.Bool.{Bool, true, false≢true}
 use mathlib.Core.Logic.{_⊎_, inl, inr}
@@ -31,7 +31,8 @@ pub units-under : (x : Float) → Finite x → unitsOf x < 2 ^ 2098
 units-under x F =
     let d = digits x F in
     let h = d .2 in
-    subst (λ (n : ℕ). n < 2 ^ 2098) (h .value) (lt-of-lt-of-le (shl-lt 53 (d .1) (h .short)) (pow-mono (let l : 53 + d .1 ≤ 2098 = omega (arith, h .reach) in l)))
+    subst (λ (n : ℕ). n < 2 ^ 2098) (h .value) (lt-of-lt-of-le (shl-lt 53 (d .1) (h .short))
+    (pow-mono (let l : 53 + d .1 ≤ 2098 = omega (arith, h .reach) in l)))
 
 -- m * 2^e is its units times 2^-1074
 pub units-fraction : (s : Bool) (m : ℕ) (e : ℤ) → fits binary64 (fin s m e) ≡ true → unitsOf (fin s m e) * down e ≡ m * up e * 2 ^ 1074
@@ -54,4 +55,5 @@ pub exponent-small : (x : Float) → fits binary64 x ≡ true → natAbs (expone
 unfolding exponentOf isFiniteOf
 exponent-small nan f = omega arith
 exponent-small (inf s) f = omega arith
-exponent-small (fin s m e) f = minus-small (size (unitsOf (fin s m e))) (size-le (unitsOf (fin s m e)) 2098 (units-under (fin s m e) (record { held = f; finite = refl })))
+exponent-small (fin s m e) f =
+    minus-small (size (unitsOf (fin s m e))) (size-le (unitsOf (fin s m e)) 2098 (units-under (fin s m e) (record { held = f; finite = refl })))

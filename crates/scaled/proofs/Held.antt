@@ -1,4 +1,4 @@
--- |a_i| ≤ |a_d|·2^(e(d−i)) in natural numbers, e being p - q; and a larger e holds what a smaller one holds. Assumes nothing.
+-- |a_i| ≤ |a_d|·2^(e(d−i)) in natural numbers, e being p - q; and a larger e holds what a smaller one holds.
 use mathlib.Core.Path.{_≡_, refl, sym, ap, _∙_, subst}
 use mathlib.Core.Bool.{true, false}
 use mathlib.Core.List.{List}
@@ -72,7 +72,9 @@ module _ (a : List Float) (d i p q : ℕ) where
 
   pub not-held : unitsOf (getD a d nan) * 2 ^ (p * (d - i)) < unitsOf (getD a i nan) * 2 ^ (q * (d - i)) → heldAt a d (pos p -ℤ pos q) i ≡ false
   unfolding heldAt
-  not-held h = lt-leb _ _ (lt-of-not-le (λ l. not-le-of-lt h (out-of (unitsOf (getD a i nan)) (unitsOf (getD a d nan)) (p * (d - i)) (q * (d - i)) _ (times p q (d - i)) l)))
+  not-held h =
+      lt-leb _ _ (lt-of-not-le (λ l. not-le-of-lt h (out-of (unitsOf (getD a i nan)) (unitsOf (getD a d nan)) (p * (d - i)) (q * (d - i)) _
+      (times p q (d - i)) l)))
 
 -- ---- a larger e
 module _ (a : List Float) (d : ℕ) where
@@ -82,7 +84,8 @@ module _ (a : List Float) (d : ℕ) where
       let p = s .0 in
       let q = s .1 in
       let l = held-says a d i p q (subst (λ (x : ℤ). heldAt a d x i ≡ true) (s .2) h) in
-      let m = held a d i (p + n) q (le-trans l (mul-le-mul-left (unitsOf (getD a d nan)) (pow-mono (mul-le-mul-right (d - i) (let x : p ≤ p + n = omega arith in x))))) in
+      let m = held a d i (p + n) q (le-trans l (mul-le-mul-left (unitsOf (getD a d nan))
+      (pow-mono (mul-le-mul-right (d - i) (let x : p ≤ p + n = omega arith in x))))) in
       subst (λ (x : ℤ). heldAt a d x i ≡ true) (sym (ap (λ (x : ℤ). x +ℤ pos n) (s .2) ∙ regroup p q n)) m
     where
       regroup : (p q n : ℕ) → (pos p -ℤ pos q) +ℤ pos n ≡ pos (p + n) -ℤ pos q

@@ -1,10 +1,11 @@
 -- The smallest k for one coefficient, from digits and exponents: it has w' * 2^k' / 2^52 units, the leading one w * 2^k / 2^52, and w and w' have 53 digits.
 -- So 2^x is the smallest power of two that brings the leading one up to it, 2^(2098 j) times, where x is k' + 2098 j - k, and one more where w < w'. Then k is
--- x / j, rounded up. Assumes nothing.
+-- x / j, rounded up.
 use mathlib.Core.Path.{_≡_, sym, ap, _∙_, subst}
 use Prim.Native.Nat.{ℕ, zero, suc, _+_, _-_, _*_, _/_, _^_, _≤_, _<_, zero-le}
 use native.Mathlib.Omega.{arith}
-use native.Mathlib.Nat.{mul-assoc, mul-comm, mul-le-mul-right, mul-le-mul-left, mul-lt-mul-of-pos-right, le-trans, le-of-eq, lt-of-le-of-lt, suc-mul, zero-mul, div-mul-le-self, pow-succ', zero-lt-suc, le-div-iff-mul-le, lt-of-not-le, lt-irrefl}
+use native.Mathlib.Nat.{mul-assoc, mul-comm, mul-le-mul-right, mul-le-mul-left, mul-lt-mul-of-pos-right, le-trans, le-of-eq, lt-of-le-of-lt}
+use native.Mathlib.Nat.{suc-mul, zero-mul, div-mul-le-self, pow-succ', zero-lt-suc, le-div-iff-mul-le, lt-of-not-le, lt-irrefl}
 use lib.Pow.{pow-pos, pow-mono}
 use lib.Ieee.{Float}
 use Rattle.algebra.specs.NatOrder.{pow2-join}
@@ -39,7 +40,8 @@ at-most : (x j k : ℕ) → 0 < j → x ≤ 2098 + 2098 * j → Ceiling x j k �
 at-most x j zero J h C = omega arith
 at-most x j (suc k) J h C =
     let l : k * j < x = subst (λ (y : ℕ). y * j < x) (less-one k) (C .below (zero-lt-suc k)) in
-    lt-of-not-le (λ (g : 4196 ≤ k). lt-irrefl x (lt-of-le-of-lt (le-trans h (le-trans (let w : 2098 + 2098 * j ≤ 4196 * j = omega arith in w) (mul-le-mul-right j g))) l))
+    lt-of-not-le (λ (g : 4196 ≤ k). lt-irrefl x (lt-of-le-of-lt
+    (le-trans h (le-trans (let w : 2098 + 2098 * j ≤ 4196 * j = omega arith in w) (mul-le-mul-right j g))) l))
 
 module _ (w k w' k' j : ℕ) (J : 0 < j) where
   -- 2^x brings the leading coefficient up, and 2^(x - 1) does not
@@ -49,7 +51,9 @@ module _ (w k w' k' j : ℕ) (J : 0 < j) where
       let r = (x + (j - 1)) / j in
       let C = ceiling x j J X in
       record {
-        holds = le-trans (le-of-eq (pow2-join w' k' (2098 * j))) (le-trans lo (le-trans (mul-le-mul-left w (pow-mono (omega (arith, C .above)))) (le-of-eq (sym (pow2-join w k (r * j))))));
+        holds =
+            le-trans (le-of-eq (pow2-join w' k' (2098 * j))) (le-trans lo
+            (le-trans (mul-le-mul-left w (pow-mono (omega (arith, C .above)))) (le-of-eq (sym (pow2-join w k (r * j))))));
         least = λ p. subst (λ (y : ℕ). w * 2 ^ k * 2 ^ ((r - 1) * j) < y) (sym (pow2-join w' k' (2098 * j)))
             (lt-of-le-of-lt (le-of-eq (pow2-join w k ((r - 1) * j))) (lt-of-le-of-lt (mul-le-mul-left w (pow-mono (within ((r - 1) * j) (C .below p)))) hi));
         bound = at-most x j r J B C;
@@ -69,7 +73,8 @@ module _ (w k w' k' j : ℕ) (J : 0 < j) where
         from-power x (omega arith) (omega arith)
         (le-trans (mul-le-mul-right (2 ^ (k' + 2098 * j)) h) (mul-le-mul-left w (pow-mono (omega arith))))
         (subst (λ (y : ℕ). w * 2 ^ (k + (x - 1)) < w' * 2 ^ y) (let q : suc (k + (x - 1)) ≡ k' + 2098 * j = omega arith in q)
-        (subst (λ (y : ℕ). w * 2 ^ (k + (x - 1)) < y) (double w' (k + (x - 1))) (mul-lt-mul-of-pos-right (let t : w < 2 * w' = omega arith in t) (pow-pos (k + (x - 1))))))
+        (subst (λ (y : ℕ). w * 2 ^ (k + (x - 1)) < y) (double w' (k + (x - 1)))
+        (mul-lt-mul-of-pos-right (let t : w < 2 * w' = omega arith in t) (pow-pos (k + (x - 1))))))
 
     -- w' is above w: one more
     more : 2 ^ 52 ≤ w → w' < 2 ^ 53 → w < w' → Least (w * 2 ^ k) (w' * 2 ^ k') j ((k' + 2098 * j - k + j) / j)
@@ -80,7 +85,8 @@ module _ (w k w' k' j : ℕ) (J : 0 < j) where
         (from-power x (omega arith) (omega arith)
         (le-trans (mul-le-mul-right (2 ^ (k' + 2098 * j)) (let t : w' ≤ 2 * w = omega arith in t))
         (le-trans (le-of-eq (double w (k' + 2098 * j))) (le-of-eq (ap (λ (y : ℕ). w * 2 ^ y) (let q : suc (k' + 2098 * j) ≡ k + x = omega arith in q)))))
-        (subst (λ (y : ℕ). w * 2 ^ y < w' * 2 ^ (k' + 2098 * j)) (let q : k' + 2098 * j ≡ k + (x - 1) = omega arith in q) (mul-lt-mul-of-pos-right h (pow-pos (k' + 2098 * j)))))
+        (subst (λ (y : ℕ). w * 2 ^ y < w' * 2 ^ (k' + 2098 * j)) (let q : k' + 2098 * j ≡ k + (x - 1) = omega arith in q)
+        (mul-lt-mul-of-pos-right h (pow-pos (k' + 2098 * j)))))
 
 -- ---- the same for a double x
 pub reach-none : (x : Float) (w k top j : ℕ) → Decoded x w k → w ≡ 0 → Least top (unitsOf x * 2 ^ 52) j 0

@@ -1,13 +1,14 @@
 -- 'Scaled coefficients are at most the leading one in size, which lies in [1, 2)', for all finite coefficients and a last one that is not zero. In units: with
 -- e = p - q and the leading exponent t - 1074, f_i is a_i times 2^(1074 + q j) / 2^(t + p j), j = d - i; |a_d| has w * 2^t / 2^52 units, and so |a_i| at most
--- that times 2^(p j) / 2^(q j): |f_i| is at most w * 2^1022, which rounding keeps, and |f_d| is just that. Assumes nothing.
+-- that times 2^(p j) / 2^(q j): |f_i| is at most w * 2^1022, which rounding keeps, and |f_d| is just that.
 use mathlib.Core.Path.{_≡_, refl, sym, ap, _∙_, subst}
 use mathlib.Core.Bool.{true, false, _&&_, false≢true}
 use mathlib.Core.List.{List}
 use mathlib.Core.Logic.{_⊎_, inl, inr, ⊎-elim}
 use Prim.Native.Nat.{ℕ, zero, suc, _+_, _-_, _*_, _^_, _≤_, _<_}
 use native.Mathlib.Omega.{arith}
-use native.Mathlib.Nat.{le-of-mul-le-mul-right, mul-assoc, mul-one, mul-zero, mul-right-comm, mul-le-mul-right, le-trans, le-refl, le-of-eq, le-of-lt, le-of-suc-le-suc, lt-of-lt-of-le, lt-of-le-of-lt, sub-self}
+use native.Mathlib.Nat.{le-of-mul-le-mul-right, mul-assoc, mul-one, mul-zero, mul-right-comm, mul-le-mul-right, le-trans}
+use native.Mathlib.Nat.{le-refl, le-of-eq, le-of-lt, le-of-suc-le-suc, lt-of-lt-of-le, lt-of-le-of-lt, sub-self}
 use borrow.Author.Tests.{le-leb}
 use lib.Dec.{lit≤}
 use lib.Pow.{pow-add, pow-pos, shl-lt}
@@ -45,21 +46,32 @@ fill-at h (suc n) (suc i) k l = fill-at h n i (k + 1) (le-of-suc-le-suc l) ∙ (
 
 f-at : (a : List Float) (d i : ℕ) → i ≤ 4 → let e = scaleExponentOf a d in getD (scaledOf a d .f) i nan ≡ coefficientOf a d e (topOf (getD a d nan) e d) i
 unfolding scaledOf coefficientsOf
-f-at a d i l = let e = scaleExponentOf a d in fill-at (coefficientOf a d e (topOf (getD a d nan) e d)) 5 i 0 (omega arith) ∙ (let z : 0 + i ≡ i = omega arith in ap (coefficientOf a d e (topOf (getD a d nan) e d)) z)
+f-at a d i l =
+    let e = scaleExponentOf a d in
+    fill-at (coefficientOf a d e (topOf (getD a d nan) e d)) 5 i 0 (omega arith)
+    ∙ (let z : 0 + i ≡ i = omega arith in ap (coefficientOf a d e (topOf (getD a d nan) e d)) z)
 
 -- ---- 53 digits of a number that is not zero
 normal : (n w k : ℕ) → Significand n w k → 0 < n → (w' : ℕ) × (t : ℕ) × Normal n w' t
 normal n w k h P = go (h .led)
   where
     full : 2 ^ 52 ≤ w → Normal n w (k + 52)
-    full l = record { value = ap (λ (x : ℕ). w * x) (pow-add 2 k 52) ∙ sym (mul-assoc w (2 ^ k) (2 ^ 52)) ∙ ap (λ (x : ℕ). x * 2 ^ 52) (h .value); short = h .short; led = l; reach = omega (arith, h .reach) }
+    full l =
+        record {
+          value = ap (λ (x : ℕ). w * x) (pow-add 2 k 52) ∙ sym (mul-assoc w (2 ^ k) (2 ^ 52))
+              ∙ ap (λ (x : ℕ). x * 2 ^ 52) (h .value);
+          short = h .short;
+          led = l;
+          reach = omega (arith, h .reach);
+        }
 
     same : k ≡ 0 → w ≡ n
     same z = sym (mul-one w) ∙ ap (λ (x : ℕ). w * 2 ^ x) (sym z) ∙ h .value
 
     go : (2 ^ 52 ≤ w) ⊎ (k ≡ 0) → (w' : ℕ) × (t : ℕ) × Normal n w' t
     go (inl l) = (w, k + 52, full l)
-    go (inr z) = ⊎-elim (λ l. (w, k + 52, full l)) (λ l. (_, _, shifted n (λ e. omega arith) (subst (λ (x : ℕ). x < 2 ^ 52) (same z) l) .digits)) (le-or-lt (2 ^ 52) w)
+    go (inr z) =
+        ⊎-elim (λ l. (w, k + 52, full l)) (λ l. (_, _, shifted n (λ e. omega arith) (subst (λ (x : ℕ). x < 2 ^ 52) (same z) l) .digits)) (le-or-lt (2 ^ 52) w)
 
 -- ---- at most 2
 small : (x : Float) → Finite x → unitsOf x ≤ 2 ^ 1075 → (fits binary64 x && le (absOf x) two64) ≡ true
@@ -80,7 +92,9 @@ small (fin s m e) G h =
 
 -- ---- the shift
 shift-is : (p q t i j : ℕ) → (pos p -ℤ pos q) *ℤ pos i -ℤ ((pos t -ℤ pos 1074) +ℤ (pos p -ℤ pos q) *ℤ pos (i + j)) ≡ pos (1074 + q * j) -ℤ pos (t + p * j)
-shift-is p q t i j = ringℤ 6 (λ p q t i j o. (p :- q) :* i :- ((t :- o) :+ (p :- q) :* (i :+ j)) := (o :+ q :* j) :- (t :+ p :* j)) tt (pos p) (pos q) (pos t) (pos i) (pos j) (pos 1074)
+shift-is p q t i j =
+    ringℤ 6 (λ p q t i j o. (p :- q) :* i :- ((t :- o) :+ (p :- q) :* (i :+ j)) := (o :+ q :* j) :- (t :+ p :* j)) tt (pos p) (pos q)
+    (pos t) (pos i) (pos j) (pos 1074)
 
 -- a_0 to a_d are finite, and a_d is not zero
 module _ (a : List Float) (d : ℕ) (D : d ≤ 4) (F : (i : ℕ) → i ≤ d → Finite (getD a i nan)) (P : 0 < unitsOf (getD a d nan)) where
@@ -138,7 +152,9 @@ module _ (a : List Float) (d : ℕ) (D : d ≤ 4) (F : (i : ℕ) → i ≤ d →
   held i l = ⊎-elim under here (le-or-lt (suc i) d)
     where
       under : i < d → unitsOf (getD a i nan) * 2 ^ (q * (d - i)) ≤ unitsOf lead * 2 ^ (p * (d - i))
-      under m = out-of (unitsOf (getD a i nan)) (unitsOf lead) (p * (d - i)) (q * (d - i)) (e *ℤ pos (d - i)) (ap (λ (z : ℤ). z *ℤ pos (d - i)) e-is ∙ times p q (d - i)) (exponent-holds a d F P i m)
+      under m =
+          out-of (unitsOf (getD a i nan)) (unitsOf lead) (p * (d - i)) (q * (d - i)) (e *ℤ pos (d - i))
+          (ap (λ (z : ℤ). z *ℤ pos (d - i)) e-is ∙ times p q (d - i)) (exponent-holds a d F P i m)
 
       here : d < suc i → unitsOf (getD a i nan) * 2 ^ (q * (d - i)) ≤ unitsOf lead * 2 ^ (p * (d - i))
       here m =
@@ -153,7 +169,9 @@ module _ (a : List Float) (d : ℕ) (D : d ≤ 4) (F : (i : ℕ) → i ≤ d →
       (le-trans (mul-le-mul-right (2 ^ 1074) (held i l)) (le-of-eq (scaled j)))
     where
       scaled : (j : ℕ) → unitsOf lead * 2 ^ (p * j) * 2 ^ 1074 ≡ w * 2 ^ (1022 + (t + p * j))
-      scaled j = mul-right-comm (unitsOf lead) (2 ^ (p * j)) (2 ^ 1074) ∙ ap (λ (x : ℕ). x * 2 ^ (p * j)) lead-is ∙ pow2-join w (1022 + t) (p * j) ∙ (let s : 1022 + t + p * j ≡ 1022 + (t + p * j) = omega arith in ap (λ (k : ℕ). w * 2 ^ k) s)
+      scaled j =
+          mul-right-comm (unitsOf lead) (2 ^ (p * j)) (2 ^ 1074) ∙ ap (λ (x : ℕ). x * 2 ^ (p * j)) lead-is ∙ pow2-join w (1022 + t) (p * j)
+          ∙ (let s : 1022 + t + p * j ≡ 1022 + (t + p * j) = omega arith in ap (λ (k : ℕ). w * 2 ^ k) s)
 
   room : w * 2 ^ 1022 < 2 ^ 2098
   room = lt-of-lt-of-le (shl-lt 53 1022 (N .short)) (lit≤ tt)
@@ -164,11 +182,13 @@ module _ (a : List Float) (d : ℕ) (D : d ≤ 4) (F : (i : ℕ) → i ≤ d →
   at : (i : ℕ) → i ≤ d → Bounded (getD a i nan) (f i) (1074 + q * (d - i)) (t + p * (d - i)) w 1022
   at i l =
       rw (f-at a d i (omega arith))
-      (unfold coefficientOf in rw (le-leb i d l, shift i l) (bounded (getD a i nan) (1074 + q * (d - i)) (t + p * (d - i)) w 1022 (F i l) (N .short) room (bound i l)))
+      (unfold coefficientOf in rw (le-leb i d l, shift i l) (bounded (getD a i nan) (1074 + q * (d - i)) (t + p * (d - i)) w 1022 (F i l)
+      (N .short) room (bound i l)))
 
   -- the leading one is not rounded
   leading : unitsOf (f d) ≡ w * 2 ^ 1022
-  leading = at d (le-refl d) .exact (rw (sub-self, mul-zero, mul-zero) (lead-is ∙ (let s : 1022 + t ≡ 1022 + (t + 0) = omega arith in ap (λ (k : ℕ). w * 2 ^ k) s)))
+  leading =
+      at d (le-refl d) .exact (rw (sub-self, mul-zero, mul-zero) (lead-is ∙ (let s : 1022 + t ≡ 1022 + (t + 0) = omega arith in ap (λ (k : ℕ). w * 2 ^ k) s)))
 
   pub f-finite : (i : ℕ) → i ≤ d → Finite (f i)
   f-finite i l = at i l .finite

@@ -1,11 +1,12 @@
 -- A product with a power of two, in units: rounding keeps every bound w * 2^g with a w below 2^53, from above and from below, since the bound is a multiple of
--- the unit that the product is rounded to, or out of its reach. Assumes nothing.
+-- the unit that the product is rounded to, or out of its reach.
 use mathlib.Core.Path.{_≡_, refl, sym, ap, _∙_, subst}
 use mathlib.Core.Bool.{Bool, true, false, false≢true}
 use mathlib.Core.Logic.{inl, inr, ⊎-elim}
 use Prim.Native.Nat.{ℕ, suc, _-_, _*_, _^_, _≤_, _<_}
 use native.Mathlib.Omega.{arith}
-use native.Mathlib.Nat.{mul-assoc, mul-pos, mul-le-mul-right, mul-lt-mul-of-pos-right, le-trans, le-of-eq, le-of-lt, lt-of-lt-of-le, lt-of-le-of-lt, lt-of-not-le, le-of-suc-le-suc}
+use native.Mathlib.Nat.{mul-assoc, mul-pos, mul-le-mul-right, mul-lt-mul-of-pos-right, le-trans, le-of-eq}
+use native.Mathlib.Nat.{le-of-lt, lt-of-lt-of-le, lt-of-le-of-lt, lt-of-not-le, le-of-suc-le-suc}
 use lib.Pow.{pow-pos}
 use lib.IntN.{ℤ}
 use lib.Ieee.{Float, nan, inf, fin, binary64, up, down, unlike, mul, fits}
@@ -88,7 +89,8 @@ has-finite (inf t) s r d h = absurd h
 has-finite (fin t m e) s r d h = refl
 
 -- it is below 2^1024 where a bound is
-module _ (s : Bool) (m : ℕ) (e z : ℤ) (F : fits binary64 (fin s m e) ≡ true) (w g : ℕ) (W : w < 2 ^ 53) (small : w * 2 ^ g < 2 ^ 2098) (h : unitsOf (fin s m e) * up z ≤ w * 2 ^ g * down z) where
+module _ (s : Bool) (m : ℕ) (e z : ℤ) (F : fits binary64 (fin s m e) ≡ true) (w g : ℕ) (W : w < 2 ^ 53) (small : w * 2 ^ g < 2 ^ 2098)
+    (h : unitsOf (fin s m e) * up z ≤ w * 2 ^ g * down z) where
   abbrev num : ℕ
   num = m * up e * (1 * up z)
 
@@ -113,17 +115,23 @@ module _ (s : Bool) (m : ℕ) (e z : ℤ) (F : fits binary64 (fin s m e) ≡ tru
   unfolding mul
   has =
       subst (λ (y : Float). HasValue y (unlike s false) result (2 ^ 1074)) (sym (round-is binary64 (unlike s false) num den))
-      (units-val binary64 (unlike s false) (kept 53 (num * 2 ^ 1074) den) (drop 53 (num * 2 ^ 1074) den) (lt-of-le-of-lt (kept-above (down-pos z) rounds w g W h) small))
+      (units-val binary64 (unlike s false) (kept 53 (num * 2 ^ 1074) den) (drop 53 (num * 2 ^ 1074) den)
+      (lt-of-le-of-lt (kept-above (down-pos z) rounds w g W h) small))
 
   product : Product (fin s m e) (mul binary64 (fin s m e) (pow2Of z)) z
   product =
       let y = mul binary64 (fin s m e) (pow2Of z) in
       record {
-        finite = record { held = is-true (fits binary64 y) (mul-fits binary64 (fin s m e) (pow2Of z)); finite = has-finite y (unlike s false) result (2 ^ 1074) has };
+        finite =
+            record {
+              held = is-true (fits binary64 y) (mul-fits binary64 (fin s m e) (pow2Of z));
+              finite = has-finite y (unlike s false) result (2 ^ 1074) has;
+            };
         rounds = subst (λ (r : ℕ). Rounded (unitsOf (fin s m e) * up z) (down z) r) (sym (units-of y (unlike s false) result has)) rounds;
       }
 
-pub times : (x : Float) (z : ℤ) → Finite x → (w g : ℕ) → w < 2 ^ 53 → w * 2 ^ g < 2 ^ 2098 → unitsOf x * up z ≤ w * 2 ^ g * down z → Product x (mul binary64 x (pow2Of z)) z
+pub times : (x : Float) (z : ℤ) → Finite x → (w g : ℕ) → w < 2 ^ 53 → w * 2 ^ g < 2 ^ 2098 → unitsOf x * up z ≤ w * 2 ^ g * down z
+    → Product x (mul binary64 x (pow2Of z)) z
 unfolding isFiniteOf
 times nan z F = absurd (false≢true (F .finite))
 times (inf s) z F = absurd (false≢true (F .finite))

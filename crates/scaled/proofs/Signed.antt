@@ -1,4 +1,4 @@
--- Sums and products of small whole numbers as the machine computes them, in an i32. Assumes nothing.
+-- Sums and products of small whole numbers as the machine computes them, in an i32.
 use mathlib.Core.Path.{_≡_, sym, ap, ap₂, _∙_, subst}
 use Prim.Native.Nat.{ℕ, _^_, _≤_, _<_}
 use native.Mathlib.Omega.{arith}
@@ -49,7 +49,8 @@ module _ (e : ℤ) (i : ℕ) (E : natAbs e ≤ 2 ^ 13) (I : i ≤ 4) where
     pub sum : natAbs t ≤ 2 ^ 13 → Machine (toZ w32 (ofZ w32 t) +ℤ toZ w32 (ofZ w32 (toZ w32 (ofZ w32 e) *ℤ toZ w32 i))) (t +ℤ e *ℤ pos i)
     sum T = machine (ap₂ (λ (x y : ℤ). x +ℤ y) (back t (omega arith)) (product .is)) (omega (arith, sum-small T))
 
-    pub sum-is : (t' : ℤ) → t ≡ t' → natAbs t ≤ 2 ^ 13 → let m = toZ w32 (ofZ w32 (toZ w32 (ofZ w32 t) +ℤ toZ w32 (ofZ w32 (toZ w32 (ofZ w32 e) *ℤ toZ w32 i)))) in (m ≡ t' +ℤ e *ℤ pos i) × (natAbs m ≤ 2 ^ 16)
+    pub sum-is : (t' : ℤ) → t ≡ t' → natAbs t ≤ 2 ^ 13 → let m = toZ w32
+        (ofZ w32 (toZ w32 (ofZ w32 t) +ℤ toZ w32 (ofZ w32 (toZ w32 (ofZ w32 e) *ℤ toZ w32 i)))) in (m ≡ t' +ℤ e *ℤ pos i) × (natAbs m ≤ 2 ^ 16)
     sum-is t' q T = let s = sum T .is in (s ∙ ap (λ (x : ℤ). x +ℤ e *ℤ pos i) q, subst (λ (z : ℤ). natAbs z ≤ 2 ^ 16) (sym s) (sum-small T))
 
     pub difference : natAbs t ≤ 2 ^ 16 → Machine (toZ w32 (ofZ w32 (toZ w32 (ofZ w32 e) *ℤ toZ w32 i)) -ℤ toZ w32 (ofZ w32 t)) (e *ℤ pos i -ℤ t)

@@ -1,5 +1,4 @@
 -- 'e is the smallest whole number with |a_i| ≤ |a_d|·2^(e(d−i)) for all i < d; e = 0 where d = 0', for finite coefficients and a last one that is not zero.
--- Assumes nothing.
 use mathlib.Core.Path.{_≡_, refl, sym, ap, _∙_, subst}
 use mathlib.Core.Bool.{Bool, true, false, not, _&&_, cond, false≢true}
 use mathlib.Core.List.{List}
@@ -44,7 +43,8 @@ regular x P = go (regularOf x) refl
     go false e = absurd (ne-of-lt P (sym (irregular-units x e)))
 
 one-less : (n : ℕ) → candidate (suc n) -ℤ pos 1 ≡ candidate n
-one-less n = (let e : suc n ≡ 1 + n = omega arith in ap (λ (k : ℕ). candidate k -ℤ pos 1) e) ∙ ringℤ 2 (λ n c. ((# 1 :+ n) :- c) :- # 1 := n :- c) tt (pos n) (pos 2098)
+one-less n =
+    (let e : suc n ≡ 1 + n = omega arith in ap (λ (k : ℕ). candidate k -ℤ pos 1) e) ∙ ringℤ 2 (λ n c. ((# 1 :+ n) :- c) :- # 1 := n :- c) tt (pos n) (pos 2098)
 
 module _ (a : List Float) (d : ℕ) (F : (i : ℕ) → i ≤ d → Finite (getD a i nan)) (P : 0 < unitsOf (getD a d nan)) where
   -- 8192 - 2098 is large enough
@@ -88,7 +88,9 @@ module _ (a : List Float) (d : ℕ) (F : (i : ℕ) → i ≤ d → Finite (getD 
 
       go : (b : Bool) → tooSmall a d 0 ≡ b → heldBelow a d (scaleExponentOf a d) d ≡ true
       go true s = subst (λ (e : ℤ). heldBelow a d e d ≡ true) (sym (is-last s)) (unfold tooSmall in twice-not′ _ (last-found (subst T (sym s) tt) .1))
-      go false s = subst (λ (e : ℤ). heldBelow a d e d ≡ true) (sym (is-zero s)) (held-more a d (candidate 0) (pos 0) d (record { le = tt }) (unfold tooSmall in twice-not _ s))
+      go false s =
+          subst (λ (e : ℤ). heldBelow a d e d ≡ true) (sym (is-zero s))
+          (held-more a d (candidate 0) (pos 0) d (record { le = tt }) (unfold tooSmall in twice-not _ s))
 
   pub exponent-holds : (i : ℕ) → i < d → Held a d (scaleExponentOf a d) i
   exponent-holds i l = unfold heldAt in leb-true _ _ (held-one a d (scaleExponentOf a d) d i holds l)
@@ -102,8 +104,11 @@ module _ (a : List Float) (d : ℕ) (F : (i : ℕ) → i ≤ d → Finite (getD 
         small =
             let j = d - i in
             not-held a d i 0 2098
-            (lt-of-lt-of-le (subst (λ (n : ℕ). n < 2 ^ 2098) (sym (ap (λ (k : ℕ). unitsOf (getD a d nan) * 2 ^ k) (zero-mul j) ∙ mul-one (unitsOf (getD a d nan)))) (units-under (getD a d nan) (F d (le-refl d))))
-            (le-trans (pow-mono (let m : 2098 ≤ 2098 * j = omega arith in m)) (le-trans (le-of-eq (sym (one-mul (2 ^ (2098 * j))))) (mul-le-mul-right (2 ^ (2098 * j)) some))))
+            (lt-of-lt-of-le (subst (λ (n : ℕ). n < 2 ^ 2098) (sym
+            (ap (λ (k : ℕ). unitsOf (getD a d nan) * 2 ^ k) (zero-mul j) ∙ mul-one (unitsOf (getD a d nan))))
+            (units-under (getD a d nan) (F d (le-refl d))))
+            (le-trans (pow-mono (let m : 2098 ≤ 2098 * j = omega arith in m))
+            (le-trans (le-of-eq (sym (one-mul (2 ^ (2098 * j))))) (mul-le-mul-right (2 ^ (2098 * j)) some))))
 
         go : (b : Bool) → heldBelow a d (candidate 0) d ≡ b → tooSmall a d 0 ≡ true
         go true e = absurd (false≢true (sym small ∙ held-one a d (candidate 0) d i e l))
@@ -123,7 +128,8 @@ module _ (a : List Float) (d : ℕ) (F : (i : ℕ) → i ≤ d → Finite (getD 
         clash : sucℤ e ≤ℤ scaleExponentOf a d → ⊥
         clash m =
             unfold tooSmall in
-            subst (λ (b : Bool). T (not b)) (held-more a d e (candidate last) d (before (subst (λ (z : ℤ). sucℤ e ≤ℤ z) (is-last first) m)) (held-in a d e d h)) low
+            subst (λ (b : Bool). T (not b)) (held-more a d e (candidate last) d (before (subst (λ (z : ℤ). sucℤ e ≤ℤ z) (is-last first) m))
+            (held-in a d e d h)) low
 
 pub exponent-of-constant : (a : List Float) → scaleExponentOf a 0 ≡ pos 0
 unfolding tooSmall heldBelow

@@ -5,7 +5,8 @@ ghost use Prim.Native.Nat.{_≤_, _<_, _*_, _^_};
 ghost use lib.IntN.{natAbs};
 ghost use Rattle.float.specs.Units.{unitsOf};
 ghost use Rattle.scaled.specs.Exponent.{Least, scaleExponentOf};
-ghost use Rattle.scaled.specs.Scaled.{topOf, shiftOf, coefficientOf, coefficientsOf, monicAt, monicOf, sizesOf, logSizeOf, logSizesOf, scaledOf, withLogsOf};
+ghost use Rattle.scaled.specs.Scaled.{topOf, shiftOf, coefficientOf, coefficientsOf, monicAt, monicOf};
+ghost use Rattle.scaled.specs.Scaled.{sizesOf, logSizeOf, logSizesOf, scaledOf, withLogsOf};
 
 // a(x) of degree d in y = x / 2^e: f is a times powers of two, g is f / f_d, lg the logarithms of f's sizes, and unit is one unit of x in y.
 pub struct Scaled {

@@ -1,4 +1,4 @@
--- Points dropped from a hull one by one, with counts as code has them. Assumes nothing.
+-- Points dropped from a hull one by one, with counts as code has them.
 use mathlib.Core.Path.{_≡_, refl, ap, _∙_}
 use mathlib.Core.Bool.{true, false, cond}
 use mathlib.Core.List.{List}
@@ -46,4 +46,6 @@ module _ (lg : List Float) (at : List ℕ) (i : ℕ) where
   unfolding poppedOf
   popped-le zero = le-refl 0
   popped-le (suc zero) = le-refl 1
-  popped-le (suc (suc k)) = either-way (λ (n : ℕ). n ≤ suc (suc k)) (le zero64 (crossOf lg (getD at k 0) (getD at (suc k) 0) i)) (omega (arith, popped-le (suc k))) (le-refl (suc (suc k)))
+  popped-le (suc (suc k)) =
+      either-way (λ (n : ℕ). n ≤ suc (suc k)) (le zero64 (crossOf lg (getD at k 0) (getD at (suc k) 0) i))
+      (omega (arith, popped-le (suc k))) (le-refl (suc (suc k)))

@@ -1,4 +1,4 @@
--- The gaps from the topmost down, with counts as code has them. Assumes nothing.
+-- The gaps from the topmost down, with counts as code has them.
 use mathlib.Core.Path.{_≡_, refl, sym, ap, _∙_, subst}
 use mathlib.Core.Bool.{true, false, cond}
 use mathlib.Core.List.{List}
@@ -49,13 +49,15 @@ unfolding magnitudeSplitOf
 seek-start lg d s l e = subst (λ (t : Hull). Seeking lg d (t .at) (t .h)) (sym e) (record { rising = hull-rising lg d l; is = refl })
 
 -- what `mag` asks of an edge among them
-pub seek-edge : (lg : List Float) (d : ℕ) (at : List ℕ) (k : ℕ) → Seeking lg d at k → d ≤ 4 → (j : ℕ) → j + 1 < k → (j < 4) × ((getD at j 0 ≤ getD at (j + 1) 0) × (getD at (j + 1) 0 ≤ 4))
+pub seek-edge : (lg : List Float) (d : ℕ) (at : List ℕ) (k : ℕ) → Seeking lg d at k → d ≤ 4 → (j : ℕ) → j + 1 < k → (j < 4)
+    × ((getD at j 0 ≤ getD at (j + 1) 0) × (getD at (j + 1) 0 ≤ 4))
 seek-edge lg d at k S D j l =
     let R = S .rising in
     let n = neighbours (d + 1) (record { at = at; h = k }) R j l in
     (omega (arith, R .count), (n .0, omega (arith, n .1)))
 
-pub seek-next : (lg : List Float) (d : ℕ) (at : List ℕ) (k : ℕ) → Seeking lg d at k → 2 < k → splitFrom lg at (k - 2) ≡ splitFrom lg at (k - 1 - 2) → Seeking lg d at (k - 1)
+pub seek-next : (lg : List Float) (d : ℕ) (at : List ℕ) (k : ℕ) → Seeking lg d at k → 2 < k
+    → splitFrom lg at (k - 2) ≡ splitFrom lg at (k - 1 - 2) → Seeking lg d at (k - 1)
 seek-next lg d at k S l e =
     let R = S .rising in
     record {

@@ -1,4 +1,4 @@
--- The indices of a hull rise, whatever the logarithms are: a turn keeps that, and so it holds of the whole hull. Assumes nothing.
+-- The indices of a hull rise, whatever the logarithms are: a turn keeps that, and so it holds of the whole hull.
 use mathlib.Core.Path.{_≡_, refl, sym, _∙_, subst}
 use mathlib.Core.Bool.{true, false}
 use mathlib.Core.List.{List}
@@ -23,7 +23,8 @@ neighbours n s R k l = (omega (arith, R .order k l), R .below (k + 1) l)
 
 pub last-two : (n : ℕ) (s : Hull) → Rising n s → (k : ℕ) → 2 ≤ k → k ≤ s .h → (getD (s .at) (k - 2) 0 ≤ getD (s .at) (k - 1) 0) × (getD (s .at) (k - 1) 0 < n)
 last-two n s R k l h =
-    subst (λ (j : ℕ). (getD (s .at) (k - 2) 0 ≤ getD (s .at) j 0) × (getD (s .at) j 0 < n)) (let e : k - 2 + 1 ≡ k - 1 = omega arith in e) (neighbours n s R (k - 2) (omega arith))
+    subst (λ (j : ℕ). (getD (s .at) (k - 2) 0 ≤ getD (s .at) j 0) × (getD (s .at) j 0 < n)) (let e : k - 2 + 1 ≡ k - 1 = omega arith in e)
+    (neighbours n s R (k - 2) (omega arith))
 
 -- ---- the point i goes behind the first h
 module _ (i h : ℕ) (s : Hull) (R : Rising i s) (H : h ≤ s .h) (I : i ≤ 4) where
@@ -81,7 +82,8 @@ hull-rising lg d D = go (d + 1) noHull (subst (λ (i : ℕ). Rising i noHull) (l
     go zero s R l = subst (λ (i : ℕ). Rising i s) (sub-zero (d + 1)) R
     go (suc k) s R l =
         go k (hullStep lg (d + 1 - suc k) s)
-        (subst (λ (i : ℕ). Rising i (hullStep lg (d + 1 - suc k) s)) (let e : d + 1 - suc k + 1 ≡ d + 1 - k = omega arith in e) (step-rising lg (d + 1 - suc k) s _ (omega arith) refl R))
+        (subst (λ (i : ℕ). Rising i (hullStep lg (d + 1 - suc k) s)) (let e : d + 1 - suc k + 1 ≡ d + 1 - k = omega arith in e)
+        (step-rising lg (d + 1 - suc k) s _ (omega arith) refl R))
         (omega arith)
 
 -- ---- the two ways of a turn, to the points a and the count n
@@ -95,6 +97,7 @@ module _ (lg : List Float) (i : ℕ) (at : List ℕ) (h : ℕ) (a : List ℕ) (n
   step-out f p q = rw (f, p, q)
 
 -- ---- a turn of the loop: what is left after it gives the whole
-pub turned : (lg : List Float) (d i : ℕ) (s r : Hull) → i < d + 1 → d ≤ 4 → r ≡ hullStep lg i s → Rising i s → countUp (d + 1) (hullStep lg) (d + 1 - i) s ≡ hullOf lg d
+pub turned : (lg : List Float) (d i : ℕ) (s r : Hull) → i < d + 1 → d ≤ 4 → r ≡ hullStep lg i s → Rising i s
+    → countUp (d + 1) (hullStep lg) (d + 1 - i) s ≡ hullOf lg d
     → Rising (i + 1) r × (countUp (d + 1) (hullStep lg) (d + 1 - (i + 1)) r ≡ hullOf lg d)
 turned lg d i s r l D e R h = (step-rising lg i s r (omega arith) e R, rw e (sym (up-turn (d + 1) (hullStep lg) i s l) ∙ h))

@@ -1,4 +1,4 @@
--- The root of x's size, beside the roots of x and of -x. Assumes nothing.
+-- The root of x's size, beside the roots of x and of -x.
 use mathlib.Core.Path.{_≡_, refl, sym, subst}
 use mathlib.Core.Bool.{Bool, true, false, _&&_, _||_, true≢false, false≢true}
 use Prim.Native.Nat.{zero, suc, _+_, _*_, _≤_}

@@ -1,4 +1,4 @@
--- One column of elimination by what its test found, and the end of the columns, at any size: the shared facts of the sizes. Assumes nothing.
+-- One column of elimination by what its test found, and the end of the columns, at any size: the shared facts of the sizes.
 use mathlib.Core.Path.{_≡_, refl, ap, sym, _∙_, subst}
 use mathlib.Core.Bool.{Bool, true, false, cond, false≢true}
 use mathlib.Core.List.{List, []}

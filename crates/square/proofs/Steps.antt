@@ -1,4 +1,4 @@
--- What an answer's flag says, at each size: there is no step, or the step is x. Assumes nothing.
+-- What an answer's flag says, at each size: there is no step, or the step is x.
 use mathlib.Core.Path.{_≡_, ap, sym, _∙_}
 use mathlib.Core.Bool.{true, false, not}
 use mathlib.Core.List.{List}

@@ -1,5 +1,5 @@
-// Elimination with pivoting at sizes 3 and 4, `solve_square` of solve.rs, against definitions over any size n. What does not depend on the size takes a row as a
-// slice; the rest is the same text at both sizes, proved by the same laws. It rests on `float` and `facts`; refining rests on it.
+// Elimination with pivoting at sizes 3 and 4, `solve_square` of solve.rs, against definitions over any size n. What does not depend on the size takes a row as
+// a slice; the rest is the same text at both sizes, proved by the same laws. It rests on `float` and `facts`; refining rests on it.
 ghost use mathlib.Core.Path.{_≡_};
 ghost use Prim.Native.Nat.{_<_, _≤_};
 ghost use lib.ListN.{length};

@@ -1,5 +1,4 @@
 -- Texts stored one after another are one text stored.
--- Assumes nothing.
 use mathlib.Core.Path.{_≡_, refl, sym, ap, subst, _∙_}
 use mathlib.Core.List.{List, [], _∷_, _++_, append-nil, append-assoc, flatMap}
 use Prim.Native.Nat.{ℕ, suc, _+_, _<_, _≤_}
@@ -35,7 +34,8 @@ pub written-as : {a b : List ℕ} {at k : ℕ} {s t : List ℕ} → s ≡ t → 
 written-as {a} {b} {at} {k} e w = subst (λ (t : List ℕ). Written a at t b k) e w
 
 -- one byte more of s
-pub written-next : {a b c : List ℕ} {at j k : ℕ} (s : List ℕ) (i : ℕ) → i < length s → Written a at (take i s) b j → Written b j (getD s i 0 ∷ []) c k → Written a at (take (i + 1) s) c k
+pub written-next : {a b c : List ℕ} {at j k : ℕ} (s : List ℕ) (i : ℕ) → i < length s → Written a at (take i s) b j
+    → Written b j (getD s i 0 ∷ []) c k → Written a at (take (i + 1) s) c k
 written-next s i h p q = written-as (rw (add-one, take-suc s i 0)) (written-then p q)
 
 pub written-all : {a b : List ℕ} {at k : ℕ} (s : List ℕ) (i : ℕ) → length s ≤ i → Written a at (take i s) b k → Written a at s b k
@@ -63,5 +63,6 @@ module _ {A : Type 0} where
       → Written a at (flatMap f (take i xs)) b j → Written b j (f (getD xs i d)) c k → Written a at (flatMap f (take (i + 1) xs)) c k
   written-flat f xs i d h p q = written-as (flat-next f xs i d h) (written-then p q)
 
-  pub flat-all : {a b : List ℕ} {at k : ℕ} (f : A → List ℕ) (xs : List A) (i : ℕ) → length xs ≤ i → Written a at (flatMap f (take i xs)) b k → Written a at (flatMap f xs) b k
+  pub flat-all : {a b : List ℕ} {at k : ℕ} (f : A → List ℕ) (xs : List A) (i : ℕ) → length xs ≤ i → Written a at (flatMap f (take i xs)) b k
+      → Written a at (flatMap f xs) b k
   flat-all f xs i h w = written-as (ap (flatMap f) (take-all i xs h)) w

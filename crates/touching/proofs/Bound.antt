@@ -1,4 +1,4 @@
--- Whatever the replies: how many questions are asked, and what the finished list is. Assumes nothing.
+-- Whatever the replies: how many questions are asked, and what the finished list is.
 use mathlib.Core.Path.{_≡_, refl}
 use mathlib.Core.Bool.{Bool, true, false, cond, _&&_}
 use mathlib.Core.List.{List, [], _∷_, _++_}
@@ -25,7 +25,8 @@ use Rattle.asking.specs.Asking.{Asking, done, ask, _then_, each}
 use Rattle.asking.specs.Within.{EndsWithin}
 use Rattle.asking.proofs.Within.{weaken, either-within, then-within, each-within}
 use Rattle.touching.specs.declared.Chain.{Chain}
-use Rattle.touching.specs.Touching.{touchesAt, pairOrder, reachOf, allApart, apartOf, pairAt, pairTurn, ordered, noChain, openedBy, extendedBy, contactOf, emitted, parted, linkAt, itemTurn, chained, touching}
+use Rattle.touching.specs.Touching.{touchesAt, pairOrder, reachOf, allApart, apartOf, pairAt, pairTurn, ordered, noChain}
+use Rattle.touching.specs.Touching.{openedBy, extendedBy, contactOf, emitted, parted, linkAt, itemTurn, chained, touching}
 use Rattle.touching.proofs.Lists.{length-byValue, multiplicities-byValue, length-pairOrder}
 
 length-ordered : (ps : List Pair) (its : List RealRoot) → length (ordered ps its) ≡ length its
@@ -62,22 +63,26 @@ emitted-keeps e out c d a = go (eqb (c .mult) 0) (isFiniteOf x) refl refl
     go false false z h = kept
     go false true z h =
         let s = a .1 in
-        let some = eqb-false (c .mult) 0 z in
-        (all-snoc _ out (root x (c .mult)) (a .0) (h, omega (arith, some)), omega (arith, sum-snoc (λ (r : RealRoot). r .multiplicity) out (root x (c .mult)), s))
+        let some = eqb-false (c .mult) 0 z in (
+          all-snoc _ out (root x (c .mult)) (a .0) (h, omega (arith, some)),
+          omega (arith, sum-snoc (λ (r : RealRoot). r .multiplicity) out (root x (c .mult)), s),
+        )
 
 module _ (poly : Scaled) (tol : Float) where
   -- while pairs are left: the items will be at most k, k - 1 questions are kept for their links, and a pair may add 2
   abbrev PairsLeft : ℕ → ℕ → ℕ → List RealRoot → List Pair → Type 0
   PairsLeft k d n its ps = (length its + length ps ≤ k) × (length ps + (k - 1) ≤ n) × (multiplicities its + 2 * length ps ≤ d)
 
-  pair-within : (k d n : ℕ) (its : List RealRoot) (p : Pair) (ps : List Pair) → PairsLeft k d n its (p ∷ ps) → EndsWithin n (pairTurn poly tol its p) (λ m s. PairsLeft k d m s ps)
+  pair-within : (k d n : ℕ) (its : List RealRoot) (p : Pair) (ps : List Pair) → PairsLeft k d n its (p ∷ ps)
+      → EndsWithin n (pairTurn poly tol its p) (λ m s. PairsLeft k d m s ps)
   unfolding pairTurn pairAt
   pair-within k d zero its p ps i = absurd (no (i .1))
     where
       no : suc (length ps) + (k - 1) ≤ 0 → ⊥
       no h = omega arith
   pair-within k d (suc n) its p ps i =
-      go (extremumOf poly (p .centre) (sub binary64 (p .centre) (reachOf (p .centre) (p .half) its)) (add binary64 (p .centre) (reachOf (p .centre) (p .half) its)) tol)
+      go (extremumOf poly (p .centre) (sub binary64 (p .centre) (reachOf (p .centre) (p .half) its))
+      (add binary64 (p .centre) (reachOf (p .centre) (p .half) its)) tol)
     where
       Q : ℕ → List RealRoot → Type 0
       Q m s = PairsLeft k d m s ps
@@ -136,7 +141,8 @@ module _ (poly : Scaled) (tol : Float) where
           let then-link : Bool → Asking (Chain × List RealRoot) = λ r. done (cond r (extendedBy c it y, out) (parted (poly .e) out c it)) in
           either-within Q (suc n) (lt (c .last) y && lt y (it .value)) (touchesAt (poly .e) y then then-link) (done (parted (poly .e) out c it))
           (then-within Q (suc n) (touchesAt (poly .e) y) then-link
-          (touches-within (λ m r. EndsWithin m (then-link r) Q) (poly .e) n y (elim [ true ↦ grows n (omega arith) y | false ↦ parts n (omega arith) ]) (parts (suc n) (omega arith))))
+          (touches-within (λ m r. EndsWithin m (then-link r) Q) (poly .e) n y
+          (elim [ true ↦ grows n (omega arith) y | false ↦ parts n (omega arith) ]) (parts (suc n) (omega arith))))
           (parts (suc n) (omega arith))
 
       between : TurningPoint
@@ -145,7 +151,10 @@ module _ (poly : Scaled) (tol : Float) where
       go : (b e : Bool) → eqb (it .multiplicity) 0 ≡ b → eqb (c .mult) 0 ≡ e
           → EndsWithin n (cond b (done (noChain, emitted (poly .e) out c)) (cond e (done (openedBy it, out)) (linkAt (poly .e) out c it between))) Q
       go true e h z = ends
-      go false true h z = let none = eqb-true (c .mult) 0 z in let some = eqb-false (it .multiplicity) 0 h in (omega (arith, i .0, none, some), i .1, omega arith)
+      go false true h z =
+          let none = eqb-true (c .mult) 0 z in
+          let some = eqb-false (it .multiplicity) 0 h in
+          (omega (arith, i .0, none, some), i .1, omega arith)
       go false false h z = let some = eqb-false (c .mult) 0 z in linked n (omega (arith, i .0, some)) between
 
   chained-within : (d n : ℕ) (its : List RealRoot) → length its ≤ n + 1 → multiplicities its ≤ d → EndsWithin n (chained poly tol its) (λ m l. ListedIn d l)

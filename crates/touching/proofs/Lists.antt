@@ -1,4 +1,4 @@
--- Roots, pairs and replies in arrays with a count: one root more where there is room, what is left of the replies, and how many pairs there are. Assumes nothing.
+-- Roots, pairs and replies in arrays with a count: one root more where there is room, what is left of the replies, and how many pairs there are.
 use mathlib.Core.Path.{_≡_, refl, sym, ap, _∙_}
 use mathlib.Core.Bool.{false}
 use mathlib.Core.List.{List, [], _∷_, _++_}
@@ -66,7 +66,8 @@ held-more : (l : List RealRoot) (r : RealRoot) → length l < 4 → held l r ≡
 unfolding held
 held-more l r h = simp (lt-ltb (length l) 4 h)
 
-pub pushed-more : (s : Roots) (r : RealRoot) → Fits s → s .len < 4 → (listOf (pushedOf s r) ≡ listOf s ++ r ∷ []) × Fits (pushedOf s r) × (pushedOf s r .len ≡ s .len + 1)
+pub pushed-more : (s : Roots) (r : RealRoot) → Fits s → s .len < 4 → (listOf (pushedOf s r) ≡ listOf s ++ r ∷ []) × Fits (pushedOf s r)
+    × (pushedOf s r .len ≡ s .len + 1)
 pushed-more s r f h =
     let fits = pushed-fits s r f in
     let list = pushed-list s r f ∙ held-more (listOf s) r (omega (arith, length-list s f, h)) in
@@ -80,7 +81,8 @@ tidy-of s l e h =
     let len : s .len ≡ length l = ap (λ (t : Roots). t .len) e in
     (list, (e ∙ ap rootsOf (sym list), omega arith))
 
-pub tidy-more : (s : Roots) (r : RealRoot) → Tidy s → s .len < 4 → (listOf (pushedOf s r) ≡ listOf s ++ r ∷ []) × Tidy (pushedOf s r) × (pushedOf s r .len ≡ s .len + 1)
+pub tidy-more : (s : Roots) (r : RealRoot) → Tidy s → s .len < 4 → (listOf (pushedOf s r) ≡ listOf s ++ r ∷ []) × Tidy (pushedOf s r)
+    × (pushedOf s r .len ≡ s .len + 1)
 tidy-more s r t h =
     let len : s .len ≡ length (listOf s) = ap (λ (u : Roots). u .len) (t .0) in
     let longer = length-snoc (listOf s) r in

@@ -1,4 +1,4 @@
--- One step of a walk with the replies at hand, for each way that code takes through it. Assumes nothing.
+-- One step of a walk with the replies at hand, for each way that code takes through it.
 use mathlib.Core.Path.{_≡_, refl, sym, ap, _∙_}
 use mathlib.Core.Bool.{Bool, true, false, cond, _&&_}
 use mathlib.Core.List.{List, [], _∷_, _++_}
@@ -26,7 +26,8 @@ use Rattle.poly.specs.RealRoots.{unscaledOf}
 use Rattle.asking.specs.Asking.{Asking, done, Stage, asks, ended, walked, onward, each}
 use Rattle.asking.proofs.Laws.{walked-then, each-end, each-turn, each-one, each-two}
 use Rattle.touching.specs.declared.Chain.{Chain}
-use Rattle.touching.specs.Touching.{touchesAt, pairOrder, reachOf, apartBy, allApart, apartOf, pairAt, pairTurn, noChain, doubleOf, openedBy, extendedBy, contactOf, emitted, parted, linkAt, itemTurn}
+use Rattle.touching.specs.Touching.{touchesAt, pairOrder, reachOf, apartBy, allApart, apartOf, pairAt, pairTurn, noChain}
+use Rattle.touching.specs.Touching.{doubleOf, openedBy, extendedBy, contactOf, emitted, parted, linkAt, itemTurn}
 use Rattle.touching.specs.Walk.{stageOf, PairAdds}
 use Rattle.touching.proofs.Lists.{pushed-more}
 
@@ -71,7 +72,8 @@ module _ (e : ℤ) (rs : List Bool) (y x : Float) where
 -- ---- reach and all_apart
 module _ (s : Roots) (k : ℕ) (fit : Fits s) where
   pub reach-turn : (m r : Float) → k < s .len
-      → reachOf m r (drop k (listOf s)) ≡ reachOf m (minOf r (mul binary64 half64 (absOf (sub binary64 (getD (s .root) k blank .value) m)))) (drop (k + 1) (listOf s))
+      → reachOf m r (drop k (listOf s)) ≡ reachOf m (minOf r (mul binary64 half64 (absOf (sub binary64 (getD (s .root) k blank .value) m))))
+      (drop (k + 1) (listOf s))
   unfolding reachOf
   reach-turn m r h = ap (λ (l : List RealRoot). reachOf m r l) (roots-cons s k fit h)
 
@@ -83,7 +85,8 @@ module _ (s : Roots) (k : ℕ) (fit : Fits s) where
   unfolding allApart
   apart-stop b y h e = ap (λ (l : List RealRoot). allApart b y l) (roots-cons s k fit h) ∙ simp e
 
-  pub apart-go : (b y : Float) → k < s .len → apartBy b y (getD (s .root) k blank) ≡ true → allApart b y (drop k (listOf s)) ≡ allApart b y (drop (k + 1) (listOf s))
+  pub apart-go : (b y : Float) → k < s .len → apartBy b y (getD (s .root) k blank) ≡ true
+      → allApart b y (drop k (listOf s)) ≡ allApart b y (drop (k + 1) (listOf s))
   unfolding allApart
   apart-go b y h e = ap (λ (l : List RealRoot). allApart b y l) (roots-cons s k fit h) ∙ simp e
 
@@ -125,7 +128,8 @@ pair-added poly tol s s′ y place m asking reply rs left fits room e em ea far 
     let grown = pushed-more s (root y m) fits room in
     let list : listOf s′ ≡ listOf s ++ root y m ∷ [] = ap (λ (t : Roots). listOf t) e ∙ grown .0 in
     let len : s′ .len ≡ s .len + 1 = ap (λ (t : Roots). t .len) e ∙ grown .2 in
-    let sum : multiplicities (listOf s′) ≡ multiplicities (listOf s) + m = ap multiplicities list ∙ sum-snoc (λ (r : RealRoot). r .multiplicity) (listOf s) (root y m) in
+    let sum : multiplicities (listOf s′) ≡ multiplicities (listOf s) + m = ap multiplicities list
+    ∙ sum-snoc (λ (r : RealRoot). r .multiplicity) (listOf s) (root y m) in
     let two : m ≤ 2 = rw em (at-most-two reply) in (
       ap (λ (l : List RealRoot). ended l left) (list ∙ ap (λ (k : ℕ). listOf s ++ root y k ∷ []) em)
           ∙ ended-done _ _
@@ -172,7 +176,8 @@ module _ (e : ℤ) (out : List RealRoot) (c : Chain) where
   unfolding emitted
   emit-lost y x n h g f = simp (ne-eqb _ _ n, sym h, sym g, f)
 
-  pub emit-root : (y x : Float) → (c .mult ≡ 0 → ⊥) → y ≡ contactOf c → x ≡ unscaledOf e y → isFiniteOf x ≡ true → out ++ root x (c .mult) ∷ [] ≡ emitted e out c
+  pub emit-root : (y x : Float) → (c .mult ≡ 0 → ⊥) → y ≡ contactOf c → x ≡ unscaledOf e y → isFiniteOf x ≡ true
+      → out ++ root x (c .mult) ∷ [] ≡ emitted e out c
   unfolding emitted
   emit-root y x n h g f = simp (ne-eqb _ _ n, sym h, sym g, f)
 
@@ -209,7 +214,8 @@ module _ (e : ℤ) (rs : List Bool) (out : List RealRoot) (c : Chain) (it : Real
 
 -- ---- item_turn
 module _ (poly : Scaled) (tol : Float) (rs : List Bool) (out : List RealRoot) (c : Chain) (it : RealRoot) where
-  pub item-separator : (out′ : List RealRoot) → it .multiplicity ≡ 0 → out′ ≡ emitted (poly .e) out c → ended (noChain, out′) rs ≡ walked rs (itemTurn poly tol (c, out) it)
+  pub item-separator : (out′ : List RealRoot) → it .multiplicity ≡ 0 → out′ ≡ emitted (poly .e) out c
+      → ended (noChain, out′) rs ≡ walked rs (itemTurn poly tol (c, out) it)
   unfolding itemTurn walked
   item-separator out′ z h = simp (eq-eqb _ _ z, h)
 
@@ -235,5 +241,6 @@ module _ (f : Chain × List RealRoot → RealRoot → Asking (Chain × List Real
   pub chains-end : (st : Stage (Chain × List RealRoot)) → s .len ≤ k → onward st (λ u. each f u (drop k (listOf s))) ≡ st
   chains-end st h = ap (λ (l : List RealRoot). onward st (λ u. each f u l)) (roots-nil s k fit h) ∙ each-end f st
 
-pub sum-turn : (s : Roots) (k : ℕ) → Fits s → k < s .len → multiplicities (drop k (listOf s)) ≡ getD (s .root) k blank .multiplicity + multiplicities (drop (k + 1) (listOf s))
+pub sum-turn : (s : Roots) (k : ℕ) → Fits s → k < s .len → multiplicities (drop k (listOf s))
+    ≡ getD (s .root) k blank .multiplicity + multiplicities (drop (k + 1) (listOf s))
 sum-turn s k f h = ap multiplicities (roots-cons s k f h)

@@ -1,6 +1,6 @@
 // What real_roots_touching of poly.rs does after `finish`, walked with the replies at hand: the pairs among the items, and the chains of items that touch.
-// A walk ends at its first place that has no reply yet, or with its value. It rests on `critical` (extremum), `roots`, `ldexp`, the definitions of `finish` and `poly`, and
-// `asking`, which says what a computation that asks is; the inquiry rests on it.
+// A walk ends at its first place that has no reply yet, or with its value. It rests on `critical` (extremum), `roots`, `ldexp`, the definitions of `finish` and
+// `poly`, and `asking`, which says what a computation that asks is; the inquiry rests on it.
 ghost use mathlib.Core.Path.{_≡_};
 ghost use Prim.Native.Nat.{_<_};
 ghost use Rattle.touching.specs.Replies.{repliedBy};

@@ -1,4 +1,4 @@
--- The crank's samples, one turn after the other, and the ways out of `crank_front`. Assumes nothing.
+-- The crank's samples, one turn after the other, and the ways out of `crank_front`.
 use mathlib.Core.Path.{_≡_, refl, sym, ap, _∙_}
 use mathlib.Core.Bool.{Bool, true, false, cond}
 use mathlib.Core.List.{List, [], _∷_}
@@ -19,7 +19,8 @@ module _ (a2 b2 c1 d1 e : Float) where
   unfolding sampleOf
   first-sample is-x is = rw (is, is-x)
 
-  pub next-sample : (j k : ℕ) (largest : Float) {x v : Float} {b c : Bool} → j < 8 → x ≡ fAtOf a2 b2 c1 d1 e (j + 4) → v ≡ absOf x → b ≡ totalLeOf largest v → b ≡ c
+  pub next-sample : (j k : ℕ) (largest : Float) {x v : Float} {b c : Bool} → j < 8 → x ≡ fAtOf a2 b2 c1 d1 e (j + 4) → v ≡ absOf x
+      → b ≡ totalLeOf largest v → b ≡ c
       → chosen (j + 1) (cond c (j, v) (k, largest)) ≡ chosen j (k, largest)
   next-sample j k largest {x} {v} below is-x is-v is-b h =
       let is : v ≡ absOf (fAtOf a2 b2 c1 d1 e (j + 4)) = is-v ∙ ap absOf is-x in
@@ -33,7 +34,8 @@ module _ (a2 b2 c1 d1 e : Float) where
     unfolding crankFrontOf
     not-finite h is = if-left _ _ (sym is-finite ∙ h) is
 
-    module _ (k : ℕ) (q : List Float) {sound : Bool} (is-k : k ≡ sampleOf a2 b2 c1 d1 e) (is-q : q ≡ quarticOf a2 b2 c1 d1 e k) (is-sound : sound ≡ allFiniteOf q)
+    module _ (k : ℕ) (q : List Float) {sound : Bool} (is-k : k ≡ sampleOf a2 b2 c1 d1 e) (is-q : q ≡ quarticOf a2 b2 c1 d1 e k)
+        (is-sound : sound ≡ allFiniteOf q)
         (h : finite ≡ true) where
       the-quartic : q ≡ quarticOf a2 b2 c1 d1 e (sampleOf a2 b2 c1 d1 e)
       the-quartic = is-q ∙ ap (quarticOf a2 b2 c1 d1 e) is-k

@@ -1,4 +1,4 @@
--- `angle::third_angle` meets its contract: from the digits of c, both.
+-- From the digits of c, both.
 use mathlib.Core.Path.{sym, ap, _∙_}
 use lib.Dec.{lit<}
 use lib.Ieee.{ofBits, div}

@@ -1,4 +1,4 @@
--- `angle::third_digits` meets its contract: by the place of v, and inside by the test for c.
+-- By the place of v, and inside by the test for c.
 use mathlib.Core.Path.{refl, subst}
 use mathlib.Core.Logic.{inl, inr}
 use Prim.Native.Nat.{ℕ}
@@ -22,49 +22,57 @@ returns-2 c = digits-none _ _ _ (c .before .before .normal-of .ensures) (c .befo
 
 level-requires : tie.Need-level-requires
 level-requires c κs =
-    let n = decoded-normal _ _ _ (c .before .before .before .before .before .normal-of .ensures) (c .before .before .before .if2 .left) in
+    let at-if2 = c .before .before .before in
+    let at-normal-of = at-if2 .before .before in
+    let n = decoded-normal _ _ _ (at-normal-of .normal-of .ensures) (at-if2 .if2 .left) in
     (omega (arith, n .led), (n .short, c .before .if3 .taken))
 
 returns-3 : tie.Need-returns-3
 unfolding ofBits
 returns-3 c =
-    digits-inside _ _ _ (c .before .before .before .before .before .before .before .normal-of .ensures) (c .before .before .before .before .before .if2 .left) _ refl (c .before .before .before .if3 .taken) _
+    let at-if3 = c .before .before .before in
+    let at-if2 = at-if3 .before .before in
+    let at-normal-of = at-if2 .before .before in
+    digits-inside _ _ _ (at-normal-of .normal-of .ensures) (at-if2 .if2 .left) _ refl (at-if3 .if3 .taken) _
     (subst (λ (x : ℕ). NearestHalf (cosLe x) (c .near-cos .result)) (c .before .level .ensures .0) (c .near-cos .ensures))
 
 returns-4 : tie.Need-returns-4
-returns-4 c = digits-above _ _ _ (c .before .before .before .before .before .before .normal-of .ensures) (c .before .before .before .before .if2 .left) (c .before .before .if3 .left) (inl (c .if4 .taken))
+returns-4 c =
+    let at-if3 = c .before .before in
+    let at-if2 = at-if3 .before .before in
+    let at-normal-of = at-if2 .before .before in
+    digits-above _ _ _ (at-normal-of .normal-of .ensures) (at-if2 .if2 .left) (at-if3 .if3 .left) (inl (c .if4 .taken))
 
 returns-5 : tie.Need-returns-5
 returns-5 c =
-    digits-above _ _ _ (c .before .before .before .before .before .before .before .before .normal-of .ensures) (c .before .before .before .before .before .before .if2 .left) (c .before .before .before .before .if3 .left)
+    let at-struct-known3 = c .before .before .before in
+    let at-if3 = at-struct-known3 .before in
+    let at-if2 = at-if3 .before .before in
+    let at-normal-of = at-if2 .before .before in
+    digits-above _ _ _ (at-normal-of .normal-of .ensures) (at-if2 .if2 .left) (at-if3 .if3 .left)
     (inr (c .if5 .taken))
 
 returns-6 : tie.Need-returns-6
 unfolding ofBits
 returns-6 c =
-    let d = c .before .before .before .before .before .before .before .before .before in
-    digits-one _ _ _ (d .normal-of .ensures) (c .before .before .before .before .before .before .before .if2 .left) _ (c .if6 .taken) (c .before .before .before .before .before .if3 .left) (c .before .before .before .if4 .left)
+    let at-if4 = c .before .before .before in
+    let at-if3 = at-if4 .before .before in
+    let at-if2 = at-if3 .before .before in
+    let at-normal-of = at-if2 .before .before in
+    digits-one _ _ _ (at-normal-of .normal-of .ensures) (at-if2 .if2 .left) _ (c .if6 .taken) (at-if3 .if3 .left) (at-if4 .if4 .left)
     (c .before .if5 .left)
 
 returns-7 : tie.Need-returns-7
 unfolding ofBits
 returns-7 c =
-    let d = c .before .before .before .before .before .before .before .before .before in
-    digits-one _ _ _ (d .normal-of .ensures) (c .before .before .before .before .before .before .before .if2 .left) _ (c .if6 .left) (c .before .before .before .before .before .if3 .left) (c .before .before .before .if4 .left)
+    let at-if4 = c .before .before .before in
+    let at-if3 = at-if4 .before .before in
+    let at-if2 = at-if3 .before .before in
+    let at-normal-of = at-if2 .before .before in
+    digits-one _ _ _ (at-normal-of .normal-of .ensures) (at-if2 .if2 .left) _ (c .if6 .left) (at-if3 .if3 .left) (at-if4 .if4 .left)
     (c .before .if5 .left)
 
 pub third-digits-spec : {M : Type 1} → statement M
 third-digits-spec =
-    tie.close
-    (tie.spec
-    returns
-    (λ c κs. search needs)
-    returns-2
-    (λ c κs. search needs)
-    level-requires
-    (λ c κs. search needs)
-    returns-3
-    returns-4
-    returns-5
-    returns-6
-    returns-7)
+    tie.close (tie.spec returns (λ c κs. search needs) returns-2 (λ c κs. search needs) level-requires (λ c κs. search needs) returns-3
+    returns-4 returns-5 returns-6 returns-7)

@@ -1,4 +1,3 @@
--- `band` is its definition. Assumes nothing.
 use Rattle.band.specs.Band.{bandOf}
 use borrow.Author.Needs.{needs}
 use Rattle.band.proofs.band.Statement.{statement}

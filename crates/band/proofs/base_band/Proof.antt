@@ -1,4 +1,3 @@
--- `base_band` is its definition. Assumes nothing.
 use Rattle.band.specs.Band.{baseOf}
 use borrow.Author.Needs.{needs}
 use Rattle.band.proofs.base_band.Statement.{statement}

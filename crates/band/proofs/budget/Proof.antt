@@ -1,4 +1,3 @@
--- `budget` is its definition. Assumes nothing.
 use Rattle.band.specs.Band.{budgetOf}
 use borrow.Author.Needs.{needs}
 use Rattle.band.proofs.budget.Statement.{statement}

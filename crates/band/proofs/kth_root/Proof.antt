@@ -1,4 +1,4 @@
--- `kth_root` is its definition: each number is an arm of it. Assumes nothing.
+-- `kth_root` is its definition: each number is an arm of it.
 use borrow.Author.Tests.{ne-eqb}
 use Rattle.band.specs.Band.{kthRootOf}
 use borrow.Author.Needs.{needs}
@@ -19,12 +19,5 @@ returns-3 c = simp (c .sqrt3 .ensures, c .before .sqrt2 .ensures, ne-eqb _ _ (c 
 
 pub kth-root-spec : {M : Type 1} → statement M
 kth-root-spec =
-    tie.close
-    (tie.spec
-    (λ c κs. search needs)
-    returns
-    (λ c κs. search needs)
-    returns-2
-    (λ c κs. search needs)
-    (λ c κs. search needs)
+    tie.close (tie.spec (λ c κs. search needs) returns (λ c κs. search needs) returns-2 (λ c κs. search needs) (λ c κs. search needs)
     returns-3)

@@ -1,4 +1,4 @@
--- `magnitude` is its definition: the places left, from the present sum, give the result. Assumes nothing.
+-- `magnitude` is its definition: the places left, from the present sum, give the result.
 use mathlib.Core.Path.{_≡_, sym, _∙_}
 use Prim.Native.Nat.{_≤_}
 use Rattle.facts.specs.Count.{countDown, down-turn, down-end}
@@ -27,17 +27,5 @@ returns c = sym (down-end _ _ _ (search needs)) ∙ c .before .loop .inv .1
 
 pub magnitude-spec : {M : Type 1} → statement M
 magnitude-spec =
-    tie.close
-    (tie.spec
-    Inv-loop
-    μ-loop
-    (λ c κs. search needs)
-    (λ c. search needs)
-    loop-holds
-    (λ c. search needs)
-    (λ c. search needs)
-    (λ c. search needs)
-    (λ c κs. search needs)
-    (λ c. search needs)
-    loop-again
-    returns)
+    tie.close (tie.spec Inv-loop μ-loop (λ c κs. search needs) (λ c. search needs) loop-holds (λ c. search needs) (λ c. search needs)
+    (λ c. search needs) (λ c κs. search needs) (λ c. search needs) loop-again returns)

@@ -1,4 +1,3 @@
--- `noise` is its definition. Assumes nothing.
 use Rattle.band.specs.Band.{noiseOf}
 use borrow.Author.Needs.{needs}
 use Rattle.band.proofs.noise.Statement.{statement}

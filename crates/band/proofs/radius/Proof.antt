@@ -1,4 +1,4 @@
--- `radius` is its definition: the turns left, from the present radius, give the result. Assumes nothing.
+-- `radius` is its definition: the turns left, from the present radius, give the result.
 use mathlib.Core.Path.{_≡_, sym, _∙_}
 use Prim.Native.Nat.{_+_, _-_, _≤_}
 use Rattle.facts.specs.Count.{countUp, up-turn, up-end}
@@ -25,15 +25,5 @@ returns c = sym (up-end _ _ _ _ (search needs)) ∙ c .before .loop .inv .1
 
 pub radius-spec : {M : Type 1} → statement M
 radius-spec =
-    tie.close
-    (tie.spec
-    Inv-loop
-    μ-loop
-    (λ c κs. search needs)
-    loop-holds
-    (λ c. search needs)
-    (λ c κs. search needs)
-    (λ c. search needs)
-    (λ c. search needs)
-    loop-again
-    returns)
+    tie.close (tie.spec Inv-loop μ-loop (λ c κs. search needs) loop-holds (λ c. search needs) (λ c κs. search needs) (λ c. search needs)
+    (λ c. search needs) loop-again returns)

@@ -1,4 +1,3 @@
--- `radius_step` is its definition: each way out of its test is an arm of it. Assumes nothing.
 use Rattle.band.specs.Band.{radiusStep}
 use borrow.Author.Needs.{needs}
 use Rattle.band.proofs.radius_step.Statement.{statement}
@@ -14,5 +13,5 @@ returns-2 c = simp (c .if1 .left)
 
 pub radius-step-spec : {M : Type 1} → statement M
 radius-step-spec =
-    tie.close
-    (tie.spec (λ c. search needs) (λ c. search needs) (λ c κs. search needs) (λ c κs. search needs) (λ c κs. search needs) returns returns-2)
+    tie.close (tie.spec (λ c. search needs) (λ c. search needs) (λ c κs. search needs) (λ c κs. search needs) (λ c κs. search needs) returns
+    returns-2)

@@ -1,4 +1,3 @@
--- `within` is its definition: each way out of its tests is an arm of it. Assumes nothing.
 use mathlib.Core.Path.{sym}
 use Rattle.band.specs.Band.{withinBandOf}
 use Rattle.band.proofs.Laws.{noise-decides}
@@ -15,26 +14,25 @@ unfolding withinBandOf
 returns-2 c =
     let m = c .before .before .before in
     let f = m .before in
-    simp (sym (f .before .base-band .ensures), f .if1 .left, sym (m .budget .ensures), sym (c .before .before .powi .ensures), sym (c .before .abs .ensures), c .if2 .taken)
+    simp (
+      sym (f .before .base-band .ensures),
+      f .if1 .left,
+      sym (m .budget .ensures),
+      sym (c .before .before .powi .ensures),
+      sym (c .before .abs .ensures),
+      c .if2 .taken,
+    )
 
 returns-3 : tie.Need-returns-3
 returns-3 c =
-    let m = c .before .before .before .before in
-    let f = m .before in
-    noise-decides _ _ _ _ (f .before .base-band .ensures) (m .budget .ensures) (c .before .before .before .powi .ensures) (c .before .before .abs .ensures) (c .noise-within .ensures)
-    (f .if1 .left) (c .before .if2 .left)
+    let at-powi = c .before .before .before in
+    let at-budget = at-powi .before in
+    let at-if1 = at-budget .before in
+    noise-decides _ _ _ _ (at-if1 .before .base-band .ensures) (at-budget .budget .ensures) (at-powi .powi .ensures)
+    (c .before .before .abs .ensures) (c .noise-within .ensures)
+    (at-if1 .if1 .left) (c .before .if2 .left)
 
 pub within-spec : {M : Type 1} → statement M
 within-spec =
-    tie.close
-    (tie.spec
-    (λ c κs. search needs)
-    returns
-    (λ c κs. search needs)
-    (λ c κs. search needs)
-    (λ c. search needs)
-    (λ c. search needs)
-    (λ c κs. search needs)
-    returns-2
-    (λ c κs. search needs)
-    returns-3)
+    tie.close (tie.spec (λ c κs. search needs) returns (λ c κs. search needs) (λ c κs. search needs) (λ c. search needs) (λ c. search needs)
+    (λ c κs. search needs) returns-2 (λ c κs. search needs) returns-3)

@@ -1,4 +1,4 @@
--- `within_band` is its definition: f, d and unit suffice. Assumes nothing.
+-- `within_band` is its definition: f, d and unit suffice.
 use mathlib.Core.Path.{_∙_}
 use Rattle.band.proofs.Laws.{same-within}
 use borrow.Author.Needs.{needs}

@@ -1,5 +1,4 @@
--- `clusters::candidate_at` meets its contract: an element of a slice of bytes is below 256.
--- Assumes nothing.
+-- An element of a slice of bytes is below 256.
 use mathlib.Core.Path.{ap}
 use native.Mathlib.Omega.{arith}
 use Prim.Native.Nat.{_+_}
@@ -21,4 +20,5 @@ returns c =
     (ap (λ (y : Float). root y (getD (a .c .now) (32 + a .i) 0)) (c .before .f64-at .ensures), omega (arith, c .shared-slice-known2 .given (32 + a .i)))
 
 pub candidate-at-spec : {M : Type 1} → statement M
-candidate-at-spec = tie.close (tie.spec (λ c. search needs) (λ c κs. search needs) (λ c. search needs) (λ c. search needs) cast-multiplicity returns)
+candidate-at-spec =
+    tie.close (tie.spec (λ c. search needs) (λ c κs. search needs) (λ c. search needs) (λ c. search needs) cast-multiplicity returns)

@@ -1,5 +1,4 @@
--- `clusters::extremum` meets its contract: it is of the polynomial, where there is one, and NaN where there is no turning point.
--- Assumes nothing.
+-- It is of the polynomial, where there is one, and NaN where there is no turning point.
 use mathlib.Core.Path.{sym, ap, _∙_}
 use lib.Ieee.{ofBits, div}
 use Rattle.lent_bytes.proofs.Five.{accepted}
@@ -19,8 +18,9 @@ poly-at-requires c κs = accepted _ _ (c .before .lacks-five .ensures) (c .if1 .
 returns-2 : tie.Need-returns-2
 unfolding turningOrNan
 returns-2 c =
-    let poly = c .before .before .before .before in
-    let is = rw (poly .poly-at .ensures .0) at (ap turningOrNan (sym (c .before .found .given .1) ∙ c .before .before .before .extremum .ensures)) in
+    let at-extremum = c .before .before .before in
+    let poly = at-extremum .before in
+    let is = rw (poly .poly-at .ensures .0) at (ap turningOrNan (sym (c .before .found .given .1) ∙ at-extremum .extremum .ensures)) in
     is-given _ _ (poly .before .before .lacks-five .ensures) (poly .before .if1 .left) is
 
 returns-3 : tie.Need-returns-3
@@ -31,4 +31,6 @@ returns-3 c =
     is-given _ _ (poly .before .before .lacks-five .ensures) (poly .before .if1 .left) is
 
 pub extremum-spec : {M : Type 1} → statement M
-extremum-spec = tie.close (tie.spec (λ c κs. search needs) returns poly-at-requires (λ c κs. search needs) (λ c. search needs) (λ c. search needs) returns-2 returns-3)
+extremum-spec =
+    tie.close (tie.spec (λ c κs. search needs) returns poly-at-requires (λ c κs. search needs) (λ c. search needs) (λ c. search needs)
+    returns-2 returns-3)

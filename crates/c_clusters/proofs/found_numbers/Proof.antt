@@ -1,5 +1,4 @@
--- `clusters::found_numbers` meets its contract, number by number.
--- Assumes nothing.
+-- Number by number.
 use native.Mathlib.Omega.{arith}
 use lib.Ieee.{ofInt}
 use Rattle.float.proofs.Whole.{whole-exact}
@@ -13,7 +12,13 @@ count-exact c = whole-exact _ (omega arith)
 
 returns : tie.Need-returns
 unfolding ofInt foundNumbers rootNumbers
-returns c = rw (c .before .before .before .before .root-numbers .ensures)
+returns c =
+    let at-pairs = c .before .before .before in
+    let at-root-numbers = at-pairs .before in
+    rw (at-root-numbers .root-numbers .ensures)
 
 pub found-numbers-spec : {M : Type 1} → statement M
-found-numbers-spec = tie.close (tie.spec (λ c κs. search needs) (λ c. search needs) (λ c. search needs) (λ c. search needs) (λ c. search needs) (λ c. search needs) (λ c. search needs) (λ c. search needs) (λ c. search needs) (λ c. search needs) (λ c. search needs) (λ c. search needs) count-exact returns)
+found-numbers-spec =
+    tie.close (tie.spec (λ c κs. search needs) (λ c. search needs) (λ c. search needs) (λ c. search needs) (λ c. search needs)
+    (λ c. search needs) (λ c. search needs) (λ c. search needs) (λ c. search needs) (λ c. search needs) (λ c. search needs)
+    (λ c. search needs) count-exact returns)

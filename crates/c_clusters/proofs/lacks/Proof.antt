@@ -1,5 +1,3 @@
--- `clusters::lacks` meets its contract, by its tests.
--- Assumes nothing.
 use borrow.Author.Tests.{lt-ltb, le-ltb}
 use Rattle.c_clusters.specs.Clustering.{lacksOf}
 use Rattle.c_clusters.proofs.lacks.Statement.{statement}

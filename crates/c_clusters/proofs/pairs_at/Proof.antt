@@ -1,5 +1,4 @@
--- `clusters::pairs_at` meets its contract, double by double.
--- Assumes nothing.
+-- Double by double.
 use Rattle.c_clusters.specs.Clustering.{pairsAt}
 use borrow.Author.Needs.{needs}
 use Rattle.c_clusters.proofs.pairs_at.Statement.{statement}

@@ -1,5 +1,3 @@
--- `clusters::poly_at` meets its contract.
--- Assumes nothing.
 use mathlib.Core.Path.{ap, subst⁻¹, _∙_}
 use mathlib.Core.List.{List}
 use Prim.Native.Nat.{_≤_}
@@ -13,8 +11,10 @@ use Rattle.c_clusters.proofs.poly_at.Tie as tie
 returns : tie.Need-returns
 returns c =
     let d = c .before .before .before .args .d in
-    let l : d ≤ 4 = search needs in
-    (c .new .ensures ∙ ap (λ (a : List Float). scaledOf a d) (c .before .five-at .ensures), subst⁻¹ (λ (s : Scaled). s .d ≤ 4) (c .new .ensures) (unfold scaledOf in l))
+    let l : d ≤ 4 = search needs in (
+      c .new .ensures ∙ ap (λ (a : List Float). scaledOf a d) (c .before .five-at .ensures),
+      subst⁻¹ (λ (s : Scaled). s .d ≤ 4) (c .new .ensures) (unfold scaledOf in l),
+    )
 
 pub poly-at-spec : {M : Type 1} → statement M
 poly-at-spec = tie.close (tie.spec (λ c κs. search needs) (λ c κs. search needs) returns)

@@ -1,5 +1,4 @@
--- `clusters::push_quadratic` meets its contract: all the numbers of the answer, or none.
--- Assumes nothing.
+-- All the numbers of the answer, or none.
 use Rattle.c_clusters.specs.Clustering.{foundNumbers}
 use mathlib.Core.Path.{refl, ap, _∙_}
 use Rattle.lent_bytes.proofs.Five.{accepted}
@@ -13,7 +12,8 @@ returns : tie.Need-returns
 returns c = lacking _ _ (c .before .lacks-five .ensures) (c .if1 .taken)
 
 returns-2 : tie.Need-returns-2
-returns-2 c = held _ _ (c .before .before .before .lacks-five .ensures) (c .before .before .if1 .left) refl (lacking _ _ (c .before .lacks .ensures) (c .if2 .taken))
+returns-2 c =
+    held _ _ (c .before .before .before .lacks-five .ensures) (c .before .before .if1 .left) refl (lacking _ _ (c .before .lacks .ensures) (c .if2 .taken))
 
 poly-at-requires : tie.Need-poly-at-requires
 poly-at-requires c κs = accepted _ _ (c .before .before .before .lacks-five .ensures) (c .before .before .if1 .left)
@@ -34,11 +34,23 @@ found-numbers-requires c κs =
 
 returns-3 : tie.Need-returns-3
 returns-3 c =
-    let poly = c .before .before .before .before .before .before .before .before .before in
+    let at-store = c .before .before in
+    let at-found-numbers = at-store .before .before in
+    let at-push-quadratic = at-found-numbers .before .before in
+    let at-pairs-at = at-push-quadratic .before in
+    let at-candidates-at = at-pairs-at .before in
+    let poly = at-candidates-at .before in
     let tested = poly .before in
-    let is = rw (c .before .before .before .before .before .before .before .pairs-at .ensures, c .before .before .before .before .before .before .before .before .candidates-at .ensures .0, poly .poly-at .ensures .0) at (c .before .before .before .before .found-numbers .ensures ∙ ap foundNumbers (c .before .before .before .before .before .before .push-quadratic .ensures)) in
+    let is = rw (
+      at-pairs-at .pairs-at .ensures,
+      at-candidates-at .candidates-at .ensures .0,
+      poly .poly-at .ensures .0,
+    ) at (at-found-numbers .found-numbers .ensures ∙ ap foundNumbers (at-push-quadratic .push-quadratic .ensures)) in
     held _ _ (tested .before .before .before .lacks-five .ensures) (tested .before .before .if1 .left) refl
-    (held _ _ (tested .before .lacks .ensures) (tested .if2 .left) is (c .before .before .store .ensures))
+    (held _ _ (tested .before .lacks .ensures) (tested .if2 .left) is (at-store .store .ensures))
 
 pub push-quadratic-spec : {M : Type 1} → statement M
-push-quadratic-spec = tie.close (tie.spec (λ c κs. search needs) returns (λ c κs. search needs) returns-2 poly-at-requires candidates-at-requires pairs-at-requires (λ c κs. search needs) found-numbers-requires (λ c. search needs) (λ c κs. search needs) (λ c. search needs) returns-3)
+push-quadratic-spec =
+    tie.close (tie.spec (λ c κs. search needs) returns (λ c κs. search needs) returns-2 poly-at-requires candidates-at-requires
+    pairs-at-requires (λ c κs. search needs) found-numbers-requires (λ c. search needs) (λ c κs. search needs) (λ c. search needs)
+    returns-3)

@@ -1,5 +1,4 @@
--- `clusters::root_numbers` meets its contract, number by number.
--- Assumes nothing.
+-- Number by number.
 use borrow.Author.Needs.{needs}
 use native.Mathlib.Omega.{arith}
 use mathlib.Core.Path.{refl}
@@ -9,11 +8,16 @@ use Rattle.c_clusters.proofs.root_numbers.Statement.{statement}
 use Rattle.c_clusters.proofs.root_numbers.Tie as tie
 
 int-to-float-t16 : tie.Need-int-to-float-t16
-int-to-float-t16 c = whole-exact _ (omega (arith, c .before .before .before .before .before .before .pre .1))
+int-to-float-t16 c =
+    let at-b = c .before .before .before in
+    let at-start = at-b .before .before .before in
+    whole-exact _ (omega (arith, at-start .pre .1))
 
 returns : tie.Need-returns
 unfolding rootNumbers
 returns c = refl
 
 pub root-numbers-spec : {M : Type 1} → statement M
-root-numbers-spec = tie.close (tie.spec (λ c. search needs) (λ c. search needs) (λ c. search needs) (λ c. search needs) int-to-float-t16 (λ c. search needs) (λ c. search needs) (λ c. search needs) (λ c. search needs) returns)
+root-numbers-spec =
+    tie.close (tie.spec (λ c. search needs) (λ c. search needs) (λ c. search needs) (λ c. search needs) int-to-float-t16 (λ c. search needs)
+    (λ c. search needs) (λ c. search needs) (λ c. search needs) returns)

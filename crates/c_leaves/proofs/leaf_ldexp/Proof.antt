@@ -1,5 +1,4 @@
--- `leaves::leaf_ldexp` meets its contract: k is read back from its bits.
--- Assumes nothing.
+-- k is read back from its bits.
 use borrow.Author.Needs.{needs}
 use mathlib.Core.Path.{ap, _∙_}
 use lib.IntN.{ℤ}

@@ -1,5 +1,3 @@
--- `leaves::leaf_pow2` meets its contract: its tests are those of the definition.
--- Assumes nothing.
 use mathlib.Core.Path.{_≡_, sym, ap, _∙_, subst}
 use mathlib.Core.Bool.{Bool, true, false, not}
 use lib.Dec.{T}

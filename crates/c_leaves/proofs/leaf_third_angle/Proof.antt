@@ -1,5 +1,4 @@
--- `leaves::leaf_third_angle` meets its contract: all the numbers of the answer, or none.
--- Assumes nothing.
+-- All the numbers of the answer, or none.
 use mathlib.Core.Path.{ap}
 use Rattle.c_leaves.specs.Numbers.{angleNumbers}
 use Rattle.lent_bytes.proofs.Whole.{stored-as}
@@ -8,7 +7,10 @@ use Rattle.c_leaves.proofs.leaf_third_angle.Statement.{statement}
 use Rattle.c_leaves.proofs.leaf_third_angle.Tie as tie
 
 returns : tie.Need-returns
-returns c = stored-as (ap angleNumbers (c .before .before .before .before .before .third-angle .ensures)) (c .before .before .store .ensures)
+returns c =
+    let at-store = c .before .before in
+    let at-third-angle = at-store .before .before .before in
+    stored-as (ap angleNumbers (at-third-angle .third-angle .ensures)) (at-store .store .ensures)
 
 pub leaf-third-angle-spec : {M : Type 1} → statement M
 leaf-third-angle-spec = tie.close (tie.spec (λ c κs. search needs) (λ c. search needs) (λ c κs. search needs) (λ c. search needs) returns)

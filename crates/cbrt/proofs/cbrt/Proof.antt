@@ -1,4 +1,3 @@
--- `cbrt::cbrt` meets its contract: by the cases of the definition. Assumes nothing.
 use mathlib.Core.Path.{refl, sym, ap, _∙_}
 use native.Mathlib.Omega.{arith}
 use lib.Ieee.{ofBits, neg}
@@ -19,33 +18,42 @@ nearest-root-requires c κs =
     (n .led, (n .short, omega arith))
 
 add-from-units : tie.Need-add-from-units
-add-from-units c = omega (arith, decoded-normal _ _ _ (c .before .before .before .before .before .normal-of .ensures) (c .before .before .before .if1 .left) .reach)
+add-from-units c =
+    let at-if1 = c .before .before .before in
+    let at-normal-of = at-if1 .before .before in
+    omega (arith, decoded-normal _ _ _ (at-normal-of .normal-of .ensures) (at-if1 .if1 .left) .reach)
 
 from-units-requires : tie.Need-from-units-requires
 from-units-requires c κs =
-    let d = c .before .before .before .before .before .normal-of in
-    let n = decoded-normal _ _ _ (d .ensures) (c .before .before .before .if1 .left) in
+    let at-if1 = c .before .before .before in
+    let at-normal-of = at-if1 .before .before in
+    let d = at-normal-of .normal-of in
+    let n = decoded-normal _ _ _ (d .ensures) (at-if1 .if1 .left) in
     let h = half-digits 3 _ cubes 107 refl _ _ _ _ n (c .before .nearest-root .ensures) in
     (h .0, (h .1, omega (arith, n .reach)))
 
 returns-2 : tie.Need-returns-2
 unfolding ofBits
 returns-2 c =
-    let d = c .before .before .before .before .before .before .before .normal-of in
-    let some = c .before .before .before .before .before .if1 .left in
-    ap neg (c .before .from-units .ensures ∙ sym (root-of _ _ _ _ (decoded-normal _ _ _ (d .ensures) some) (c .before .before .before .nearest-root .ensures)))
+    let at-nearest-root = c .before .before .before in
+    let at-if1 = at-nearest-root .before .before in
+    let at-normal-of = at-if1 .before .before in
+    let d = at-normal-of .normal-of in
+    let some = at-if1 .if1 .left in
+    ap neg (c .before .from-units .ensures ∙ sym (root-of _ _ _ _ (decoded-normal _ _ _ (d .ensures) some) (at-nearest-root .nearest-root .ensures)))
     ∙ sym (root-negative _ (c .if2 .taken) (decoded-regular _ _ _ (d .ensures) some))
 
 returns-3 : tie.Need-returns-3
 unfolding ofBits
 returns-3 c =
-    let d = c .before .before .before .before .before .before .before .normal-of in
-    let some = c .before .before .before .before .before .if1 .left in
+    let at-nearest-root = c .before .before .before in
+    let at-if1 = at-nearest-root .before .before in
+    let at-normal-of = at-if1 .before .before in
+    let d = at-normal-of .normal-of in
+    let some = at-if1 .if1 .left in
     c .before .from-units .ensures
-    ∙ sym (root-of _ _ _ _ (decoded-normal _ _ _ (d .ensures) some) (c .before .before .before .nearest-root .ensures))
+    ∙ sym (root-of _ _ _ _ (decoded-normal _ _ _ (d .ensures) some) (at-nearest-root .nearest-root .ensures))
     ∙ sym (root-positive _ (c .if2 .left) (decoded-regular _ _ _ (d .ensures) some))
 
 pub cbrt-spec : {M : Type 1} → statement M
-cbrt-spec =
-    tie.close
-    (tie.spec (λ c κs. search needs) returns nearest-root-requires add-from-units from-units-requires returns-2 returns-3)
+cbrt-spec = tie.close (tie.spec (λ c κs. search needs) returns nearest-root-requires add-from-units from-units-requires returns-2 returns-3)

@@ -1,4 +1,4 @@
--- `critical_point` is its definition: f and d suffice. Assumes nothing.
+-- `critical_point` is its definition: f and d suffice.
 use Rattle.critical.specs.Critical.{criticalPointOf}
 use borrow.Author.Needs.{needs}
 use Rattle.critical.proofs.critical_point.Statement.{statement}

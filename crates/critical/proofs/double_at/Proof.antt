@@ -1,4 +1,3 @@
--- `double_at` is its definition, by what its calls give. Assumes nothing.
 use Rattle.band.specs.Band.{noiseOf, bandOf}
 use Rattle.critical.specs.Critical.{criticalPointOf}
 use borrow.Author.Needs.{needs}

@@ -1,4 +1,4 @@
--- `is_between` is the test of two parts, by the part that decides. Assumes nothing.
+-- `is_between` is the test of two parts, by the part that decides.
 use Rattle.critical.specs.Critical.{isBetweenOf}
 use Rattle.critical.proofs.is_between.Statement.{statement}
 use Rattle.critical.proofs.is_between.Tie as tie

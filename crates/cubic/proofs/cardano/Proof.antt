@@ -1,4 +1,3 @@
--- `cardano` is its definition, by its test. Assumes nothing.
 use Rattle.cubic.proofs.cardano.Statement.{statement}
 use Rattle.cubic.proofs.cardano.Tie as tie
 

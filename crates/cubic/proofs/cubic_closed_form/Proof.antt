@@ -1,4 +1,3 @@
--- `cubic_closed_form` is its definition: each way out of the test is an arm of it. Assumes nothing.
 use mathlib.Core.Path.{sym, _∙_}
 use borrow.Author.Needs.{needs}
 use Rattle.cubic.specs.Cubic.{depressedRootsOf, cubicClosedFormOf}
@@ -14,6 +13,4 @@ unfolding cubicClosedFormOf depressedRootsOf
 returns-2 c = simp (c .three-roots .ensures, sym (c .before .before .has-one-root .ensures) ∙ c .before .if1 .left)
 
 pub cubic-closed-form-spec : {M : Type 1} → statement M
-cubic-closed-form-spec =
-    tie.close
-    (tie.spec (λ c κs. search needs) (λ c κs. search needs) returns (λ c κs. search needs) returns-2)
+cubic-closed-form-spec = tie.close (tie.spec (λ c κs. search needs) (λ c κs. search needs) returns (λ c κs. search needs) returns-2)

@@ -1,4 +1,4 @@
--- `has_one_root` is the test of two parts, by the part that decides. Assumes nothing.
+-- `has_one_root` is the test of two parts, by the part that decides.
 use Rattle.cubic.proofs.has_one_root.Statement.{statement}
 use Rattle.cubic.proofs.has_one_root.Tie as tie
 

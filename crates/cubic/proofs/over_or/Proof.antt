@@ -1,4 +1,3 @@
--- `over_or` is its definition, by its test. Assumes nothing.
 use Rattle.cubic.proofs.over_or.Statement.{statement}
 use Rattle.cubic.proofs.over_or.Tie as tie
 

@@ -1,4 +1,3 @@
--- `equation::is_grazing` meets its contract: the formula as it stands. Assumes nothing.
 use Rattle.equation.specs.Quadratic.{isGrazingOf}
 use borrow.Author.Needs.{needs}
 use Rattle.equation.proofs.is_grazing.Statement.{statement}
@@ -9,5 +8,4 @@ unfolding isGrazingOf
 returns c = cc
 
 pub is-grazing-spec : {M : Type 1} → statement M
-is-grazing-spec =
-    tie.close (tie.spec (λ c κs. search needs) (λ c κs. search needs) (λ c κs. search needs) (λ c κs. search needs) returns)
+is-grazing-spec = tie.close (tie.spec (λ c κs. search needs) (λ c κs. search needs) (λ c κs. search needs) (λ c κs. search needs) returns)

@@ -1,4 +1,3 @@
--- `equation::linear` meets its contract: by its test. Assumes nothing.
 use Rattle.equation.specs.Quadratic.{linearOf}
 use borrow.Author.Needs.{needs}
 use Rattle.equation.proofs.linear.Statement.{statement}

@@ -1,4 +1,3 @@
--- `equation::quadratic_centre` meets its contract: by its two tests. Assumes nothing.
 use mathlib.Core.Path.{sym, _∙_}
 use Rattle.equation.specs.Quadratic.{quadraticCentreOf}
 use borrow.Author.Needs.{needs}
@@ -18,5 +17,4 @@ unfolding quadraticCentreOf
 returns-3 c = simp (simp (c .before .abs .ensures) at (c .if1 .left))
 
 pub quadratic-centre-spec : {M : Type 1} → statement M
-quadratic-centre-spec =
-    tie.close (tie.spec (λ c κs. search needs) (λ c κs. search needs) returns returns-2 returns-3)
+quadratic-centre-spec = tie.close (tie.spec (λ c κs. search needs) (λ c κs. search needs) returns returns-2 returns-3)

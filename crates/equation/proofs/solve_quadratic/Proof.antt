@@ -1,4 +1,4 @@
--- `equation::solve_quadratic` meets its contract: a law for each way out, the two roots of the definition being one. Assumes nothing.
+-- A law for each way out, the two roots of the definition being one.
 use Rattle.equation.proofs.Solving.{solved-one, solved-empty, solved-two}
 use Rattle.equation.specs.Quadratic.{solveQuadraticOf}
 use borrow.Author.Needs.{needs}
@@ -29,20 +29,11 @@ returns-4 c =
     let apart = c .before .before in
     let root = apart .before .before in
     let curved = root .before .before in
-    solved-two _ _ _ _ _ (curved .before .abs .ensures) (curved .if1 .left) (root .before .abs2 .ensures) (root .sqrt .ensures) (apart .before .is-grazing .ensures)
+    solved-two _ _ _ _ _ (curved .before .abs .ensures) (curved .if1 .left) (root .before .abs2 .ensures) (root .sqrt .ensures)
+    (apart .before .is-grazing .ensures)
     (apart .if2 .left) (c .before .if3 .left) (c .two .ensures)
 
 pub solve-quadratic-spec : {M : Type 1} → statement M
 solve-quadratic-spec =
-    tie.close
-    (tie.spec
-    (λ c κs. search needs)
-    (λ c κs. search needs)
-    returns
-    (λ c κs. search needs)
-    (λ c κs. search needs)
-    (λ c κs. search needs)
-    returns-2
-    returns-3
-    (λ c κs. search needs)
-    returns-4)
+    tie.close (tie.spec (λ c κs. search needs) (λ c κs. search needs) returns (λ c κs. search needs) (λ c κs. search needs)
+    (λ c κs. search needs) returns-2 returns-3 (λ c κs. search needs) returns-4)

@@ -1,4 +1,3 @@
--- `equation::two` meets its contract: the formula as it stands. Assumes nothing.
 use Rattle.equation.specs.Quadratic.{twoOf}
 use borrow.Author.Needs.{needs}
 use Rattle.equation.proofs.two.Statement.{statement}

@@ -1,4 +1,4 @@
--- `factorize::factorize_rooted` gives the definition with its discriminants, by recursion on the scalings left. Assumes nothing.
+-- `factorize::factorize_rooted` gives the definition with its discriminants, by recursion on the scalings left.
 use mathlib.Core.Path.{ap, _∙_}
 use Prim.Native.Nat.{ℕ, _-_, _<_}
 use native.Mathlib.Omega.{arith}
@@ -75,7 +75,8 @@ module _ (t : ℕ) where
 
   magnitude-split-requires : lts.Need-magnitude-split-requires called given reads.Post
   magnitude-split-requires c κs =
-      let at-pre = c .before .before .before .before .before in
+      let at-out-of = c .before .before .before in
+      let at-pre = at-out-of .before .before in
       at-pre .pre .1
 
   returns-3 : lts.Need-returns-3 called given reads.Post
@@ -92,13 +93,15 @@ module _ (t : ℕ) where
   sub-large c =
       let at-gap = c .before in
       let at-magnitude-split = at-gap .before .before in
-      let at-pre = at-magnitude-split .before .before .before .before .before .before in
+      let at-if1 = at-magnitude-split .before .before .before in
+      let at-pre = at-if1 .before .before .before in
       omega (arith, gap-inside _ _ _ _ _ (at-magnitude-split .magnitude-split .ensures) (at-gap .gap .given .1) (at-pre .pre .1))
 
   large-requires : lts.Need-large-requires called given reads.Post
   large-requires c κs =
       let at-magnitude-split = c .before .before .before in
-      let at-out-of = at-magnitude-split .before .before .before .before in
+      let at-if1 = at-magnitude-split .before .before .before in
+      let at-out-of = at-if1 .before in
       let at-pre = at-out-of .before .before in
       out-fits _ _ _ (the-factors (at-out-of .out-of .ensures)) (at-pre .pre .1)
 
@@ -109,7 +112,8 @@ module _ (t : ℕ) where
   sub-if3 c =
       let at-gap = c .before .before .before in
       let at-magnitude-split = at-gap .before .before in
-      let at-pre = at-magnitude-split .before .before .before .before .before .before in
+      let at-if1 = at-magnitude-split .before .before .before in
+      let at-pre = at-if1 .before .before .before in
       omega (arith, gap-inside _ _ _ _ _ (at-magnitude-split .magnitude-split .ensures) (at-gap .gap .given .1) (at-pre .pre .1))
 
   returns-4 : lts.Need-returns-4 called given reads.Post
@@ -130,22 +134,28 @@ module _ (t : ℕ) where
   product-requires : lts.Need-product-requires called given reads.Post
   product-requires c κs =
       let at-degree = c .before in
-      let at-magnitude-split = at-degree .before .before .before .before .before in
-      let at-pre = at-magnitude-split .before .before .before .before .before .before in
+      let at-gap = at-degree .before .before .before in
+      let at-magnitude-split = at-gap .before .before in
+      let at-if1 = at-magnitude-split .before .before .before in
+      let at-pre = at-if1 .before .before .before in
       omega (arith, at-pre .pre .1, at-degree .degree .ensures, c .if3 .left)
 
   quotient-requires : lts.Need-quotient-requires called given reads.Post
   quotient-requires c κs =
-      let at-gap = c .before .before .before .before .before in
+      let at-large = c .before .before .before in
+      let at-gap = at-large .before .before in
       let at-magnitude-split = at-gap .before .before in
-      let at-pre = at-magnitude-split .before .before .before .before .before .before in
+      let at-if1 = at-magnitude-split .before .before .before in
+      let at-pre = at-if1 .before .before .before in
       omega (arith, gap-inside _ _ _ _ _ (at-magnitude-split .magnitude-split .ensures) (at-gap .gap .given .1) (at-pre .pre .1), at-pre .pre .1)
 
   usable-requires : lts.Need-usable-requires called given reads.Post
   usable-requires c κs =
-      let at-gap = c .before .before .before .before .before .before in
+      let at-degree = c .before .before .before in
+      let at-gap = at-degree .before .before .before in
       let at-magnitude-split = at-gap .before .before in
-      let at-pre = at-magnitude-split .before .before .before .before .before .before in
+      let at-if1 = at-magnitude-split .before .before .before in
+      let at-pre = at-if1 .before .before .before in
       omega (arith, gap-inside _ _ _ _ _ (at-magnitude-split .magnitude-split .ensures) (at-gap .gap .given .1) (at-pre .pre .1), at-pre .pre .1)
 
   returns-5 : lts.Need-returns-5 called given reads.Post
@@ -170,23 +180,30 @@ module _ (t : ℕ) where
 
   new-requires : lts.Need-new-requires called given reads.Post
   new-requires c κs =
-      let at-large = c .before .before .before .before .before .before in
+      let at-product = c .before .before .before in
+      let at-large = at-product .before .before .before in
       let at-gap = at-large .before .before in
       let at-magnitude-split = at-gap .before .before in
-      let at-pre = at-magnitude-split .before .before .before .before .before .before in
+      let at-if1 = at-magnitude-split .before .before .before in
+      let at-pre = at-if1 .before .before .before in
       omega (arith, gap-inside _ _ _ _ _ (at-magnitude-split .magnitude-split .ensures) (at-gap .gap .given .1) (at-pre .pre .1), at-pre .pre .1)
 
   add-factorize-rooted : lts.Need-add-factorize-rooted called given reads.Post
   add-factorize-rooted c =
-      let at-large = c .before .before .before .before .before .before .before .before in
-      let at-magnitude-split = at-large .before .before .before .before in
+      let at-usable = c .before .before .before in
+      let at-if3 = at-usable .before .before .before in
+      let at-large = at-if3 .before .before in
+      let at-match = at-large .before .before .before in
+      let at-magnitude-split = at-match .before in
       let at-if1 = at-magnitude-split .before .before .before in
       record { fits = omega (arith, at-if1 .if1 .left) }
 
   factorize-rooted-requires : lts.Need-factorize-rooted-requires called given reads.Post
   factorize-rooted-requires c κs =
       let at-new = c .before in
-      let at-large = at-new .before .before .before .before .before .before .before in
+      let at-quotient = at-new .before .before .before in
+      let at-degree = at-quotient .before .before .before in
+      let at-large = at-degree .before in
       let at-gap = at-large .before .before in
       let at-magnitude-split = at-gap .before .before in
       let at-if1 = at-magnitude-split .before .before .before in
@@ -197,10 +214,13 @@ module _ (t : ℕ) where
   merged-requires : lts.Need-merged-requires called given reads.Post
   merged-requires c κs =
       let at-new = c .before .before in
-      let at-large = at-new .before .before .before .before .before .before .before in
+      let at-quotient = at-new .before .before .before in
+      let at-degree = at-quotient .before .before .before in
+      let at-large = at-degree .before in
       let at-gap = at-large .before .before in
       let at-magnitude-split = at-gap .before .before in
-      let at-pre = at-magnitude-split .before .before .before .before .before .before in
+      let at-if1 = at-magnitude-split .before .before .before in
+      let at-pre = at-if1 .before .before .before in
       let small = gap-inside _ _ _ _ _ (at-magnitude-split .magnitude-split .ensures) (at-gap .gap .given .1) (at-pre .pre .1) in (
         inner-sized _ _ _ (the-factors (c .factorize-rooted .ensures)) (sub-degree _ _ _ (at-new .new .ensures) (omega (arith, small, at-pre .pre .1))),
         sub-exponent _ _ _ (at-new .new .ensures),

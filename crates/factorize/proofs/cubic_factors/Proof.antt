@@ -1,4 +1,3 @@
--- `factorize::cubic_factors` is its definition. Assumes nothing.
 use Rattle.factorize.specs.Factorize.{cubicFactorsOf}
 use borrow.Author.Needs.{needs}
 use Rattle.factorize.proofs.cubic_factors.Statement.{statement}
@@ -10,5 +9,4 @@ returns c = cc
 
 pub cubic-factors-spec : {M : Type 1} → statement M
 cubic-factors-spec =
-    tie.close
-    (tie.spec (λ c κs. search needs) (λ c κs. search needs) (λ c κs. search needs) (λ c κs. search needs) returns)
+    tie.close (tie.spec (λ c κs. search needs) (λ c κs. search needs) (λ c κs. search needs) (λ c κs. search needs) returns)

@@ -1,4 +1,4 @@
--- `factorize::disc_at` is its definition, by whether there is such a factor. Assumes nothing.
+-- `factorize::disc_at` is its definition, by whether there is such a factor.
 use borrow.Author.Needs.{needs}
 use borrow.Author.Tests.{lt-ltb, le-ltb}
 use Rattle.facts.specs.Cond.{if-taken, if-left}

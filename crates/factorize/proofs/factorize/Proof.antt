@@ -1,4 +1,4 @@
--- `factorize::factorize` is its definition: the factors of what `factorize_rooted` gives. Assumes nothing.
+-- `factorize::factorize` is its definition: the factors of what `factorize_rooted` gives.
 use borrow.Author.Needs.{needs}
 use Rattle.factorize.proofs.Discs.{the-factors}
 use Rattle.factorize.proofs.factorize.Statement.{statement}

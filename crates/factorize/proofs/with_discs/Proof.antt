@@ -1,4 +1,3 @@
--- `factorize::with_discs` is its definition, by what its calls give. Assumes nothing.
 use borrow.Author.Needs.{needs}
 use Rattle.factorize.specs.Discs.{rootedOf}
 use Rattle.factorize.proofs.with_discs.Statement.{statement}

@@ -1,4 +1,3 @@
--- `above` is its definition, by its test.
 use mathlib.Core.Path.{_∙_}
 use Rattle.facts.specs.Lists.{length-mapped}
 use Rattle.roots.proofs.Laws.{length-list}
@@ -22,14 +21,5 @@ returns-2 c =
 
 pub above-spec : {M : Type 1} → statement M
 above-spec =
-    tie.close
-    (tie.spec
-    (λ c. search needs)
-    (λ c. search needs)
-    (λ c. search needs)
-    (λ c. search needs)
-    (λ c. search needs)
-    (λ c. search needs)
-    returns
-    (λ c κs. search needs)
-    returns-2)
+    tie.close (tie.spec (λ c. search needs) (λ c. search needs) (λ c. search needs) (λ c. search needs) (λ c. search needs)
+    (λ c. search needs) returns (λ c κs. search needs) returns-2)

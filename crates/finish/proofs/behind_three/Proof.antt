@@ -15,4 +15,5 @@ returns-2 c = put-before _ _ _ (sym (c .before .total-le .ensures) ∙ c .if1 .l
 
 pub behind-three-spec : {M : Type 1} → statement M
 behind-three-spec =
-    tie.close (tie.spec (λ c κs. search needs) (λ c κs. search needs) (λ c. search needs) (λ c. search needs) (λ c. search needs) returns returns-2)
+    tie.close (tie.spec (λ c κs. search needs) (λ c κs. search needs) (λ c. search needs) (λ c. search needs) (λ c. search needs) returns
+    returns-2)

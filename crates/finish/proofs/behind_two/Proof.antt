@@ -14,4 +14,5 @@ returns-2 : tie.Need-returns-2
 returns-2 c = put-before _ _ _ (sym (c .before .total-le .ensures) ∙ c .if1 .left)
 
 pub behind-two-spec : {M : Type 1} → statement M
-behind-two-spec = tie.close (tie.spec (λ c κs. search needs) (λ c κs. search needs) (λ c. search needs) (λ c. search needs) returns returns-2)
+behind-two-spec =
+    tie.close (tie.spec (λ c κs. search needs) (λ c κs. search needs) (λ c. search needs) (λ c. search needs) returns returns-2)

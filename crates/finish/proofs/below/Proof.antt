@@ -1,4 +1,3 @@
--- `below` is its definition, by its test.
 use mathlib.Core.Path.{_∙_}
 use Rattle.finish.proofs.Places.{below-next, below-first}
 use borrow.Author.Needs.{needs}
@@ -18,13 +17,5 @@ returns-2 c =
 
 pub below-spec : {M : Type 1} → statement M
 below-spec =
-    tie.close
-    (tie.spec
-    (λ c. search needs)
-    (λ c. search needs)
-    (λ c. search needs)
-    (λ c. search needs)
-    (λ c. search needs)
-    returns
-    (λ c κs. search needs)
-    returns-2)
+    tie.close (tie.spec (λ c. search needs) (λ c. search needs) (λ c. search needs) (λ c. search needs) (λ c. search needs) returns
+    (λ c κs. search needs) returns-2)

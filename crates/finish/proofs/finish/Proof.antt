@@ -1,4 +1,4 @@
--- `finish` is its definition: ordered, polished, joined. Assumes nothing.
+-- `finish` is its definition: ordered, polished, joined.
 use mathlib.Core.Path.{ap, _∙_}
 use mathlib.Core.List.{List}
 use Rattle.facts.specs.Lists.{length-mapped}

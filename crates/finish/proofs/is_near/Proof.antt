@@ -1,4 +1,3 @@
--- `is_near` is its definition. Assumes nothing.
 use Rattle.finish.specs.Finish.{isNearOf}
 use borrow.Author.Needs.{needs}
 use Rattle.finish.proofs.is_near.Statement.{statement}

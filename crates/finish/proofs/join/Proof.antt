@@ -1,4 +1,3 @@
--- `join` is its definition. Assumes nothing.
 use mathlib.Core.Path.{refl}
 use Rattle.finish.specs.Finish.{joinOf}
 use borrow.Author.Needs.{needs}
@@ -10,5 +9,4 @@ unfolding joinOf
 returns c = refl
 
 pub join-spec : {M : Type 1} → statement M
-join-spec =
-    tie.close (tie.spec (λ c. search needs) (λ c. search needs) (λ c. search needs) (λ c. search needs) returns)
+join-spec = tie.close (tie.spec (λ c. search needs) (λ c. search needs) (λ c. search needs) (λ c. search needs) returns)

@@ -1,4 +1,3 @@
--- `next_run` is its definition, by its test. Assumes nothing.
 use mathlib.Core.Path.{sym, _∙_}
 use Rattle.finish.proofs.Runs.{next-joined, next-ended}
 use borrow.Author.Needs.{needs}

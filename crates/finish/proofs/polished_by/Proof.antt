@@ -1,4 +1,3 @@
--- `polished_by` is its definition, by its test.
 use borrow.Author.Tests.{ne-eqb}
 use Rattle.finish.specs.Finish.{polishedAt}
 use borrow.Author.Needs.{needs}

@@ -10,7 +10,8 @@ returns c = ⊎-elim (λ w. simp (w .0 .taken, simp (w .1) at (c .if2 .taken))) 
 
 returns-2 : tie.Need-returns-2
 unfolding clampOf
-returns-2 c = ⊎-elim (λ w. simp (w .0 .taken, w .1, simp (w .1) at (c .if2 .left))) (λ w. simp (w .0 .left, w .1, simp (w .1) at (c .if2 .left))) (c .before .if1 .came)
+returns-2 c =
+    ⊎-elim (λ w. simp (w .0 .taken, w .1, simp (w .1) at (c .if2 .left))) (λ w. simp (w .0 .left, w .1, simp (w .1) at (c .if2 .left))) (c .before .if1 .came)
 
 pub clamp-spec : {M : Type 1} → statement M
 clamp-spec = tie.close (tie.spec returns returns-2)

@@ -18,5 +18,4 @@ returns-2 : tie.Need-returns-2
 returns-2 c = difference-down _ _ (c .before .before .pre .1) (c .before .if1 .left)
 
 pub difference-spec : {M : Type 1} → statement M
-difference-spec =
-    tie.close (tie.spec int-to-float-result returns (λ c. search needs) int-to-float-result-2 returns-2)
+difference-spec = tie.close (tie.spec int-to-float-result returns (λ c. search needs) int-to-float-result-2 returns-2)

@@ -24,16 +24,5 @@ loop-again-2 c = (search needs, (missed _ _ _ (c .before .difference .ensures) (
 
 pub floor-spec : {M : Type 1} → statement M
 floor-spec =
-    tie.close
-    (tie.spec
-    Inv-loop
-    μ-loop
-    loop-holds
-    (λ c. search needs)
-    (λ c. search needs)
-    (λ c κs. search needs)
-    (λ c. search needs)
-    loop-again
-    (λ c. search needs)
-    loop-again-2
-    (λ c. search needs))
+    tie.close (tie.spec Inv-loop μ-loop loop-holds (λ c. search needs) (λ c. search needs) (λ c κs. search needs) (λ c. search needs)
+    loop-again (λ c. search needs) loop-again-2 (λ c. search needs))

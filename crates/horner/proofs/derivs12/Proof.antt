@@ -1,4 +1,4 @@
--- `derivs12` is its definition: the places left, from the present sums, give the result. Assumes nothing.
+-- `derivs12` is its definition: the places left, from the present sums, give the result.
 use mathlib.Core.Path.{_≡_, refl, sym, _∙_}
 use Prim.Native.Nat.{_-_, _≤_}
 use native.Mathlib.Omega.{arith}
@@ -42,20 +42,5 @@ returns c = sym (down-to-end _ _ _ _ (search needs)) ∙ c .before .loop .inv .1
 
 pub derivs12-spec : {M : Type 1} → statement M
 derivs12-spec =
-    tie.close
-    (tie.spec
-    Inv-loop
-    μ-loop
-    (λ c. search needs)
-    loop-holds
-    (λ c. search needs)
-    int-to-float-k
-    (λ c. search needs)
-    (λ c. search needs)
-    (λ c. search needs)
-    (λ c. search needs)
-    (λ c. search needs)
-    loop-again
-    (λ c. search needs)
-    loop-again-2
-    returns)
+    tie.close (tie.spec Inv-loop μ-loop (λ c. search needs) loop-holds (λ c. search needs) int-to-float-k (λ c. search needs)
+    (λ c. search needs) (λ c. search needs) (λ c. search needs) (λ c. search needs) loop-again (λ c. search needs) loop-again-2 returns)

@@ -1,4 +1,4 @@
--- `discriminant` is its definition, over what `two_prod` gives. Assumes nothing.
+-- `discriminant` is its definition, over what `two_prod` gives.
 use borrow.Author.Needs.{needs}
 use Rattle.horner.specs.Product.{discriminantOf}
 use Rattle.horner.proofs.discriminant.Statement.{statement}

@@ -1,4 +1,3 @@
--- `split_high` is its definition. Assumes nothing.
 use mathlib.Core.Path.{refl}
 use Rattle.horner.specs.Product.{splitHigh}
 use Rattle.horner.proofs.split_high.Statement.{statement}

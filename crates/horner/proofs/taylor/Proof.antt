@@ -1,4 +1,4 @@
--- `taylor` is its definition: the places left, done to the present array, end the sweep, and the sweeps left give the result. Assumes nothing.
+-- `taylor` is its definition: the places left, done to the present array, end the sweep, and the sweeps left give the result.
 use mathlib.Core.Path.{_≡_, refl, sym, _∙_}
 use Prim.Native.Nat.{_-_, _≤_}
 use native.Mathlib.Nat.{sub-zero}
@@ -44,25 +44,6 @@ returns c = sym (up-end _ _ _ _ (search needs)) ∙ c .before .loop .inv .1
 
 pub taylor-spec : {M : Type 1} → statement M
 taylor-spec =
-    tie.close
-    (tie.spec
-    Inv-loop2
-    μ-loop2
-    Inv-loop
-    μ-loop
-    loop-holds
-    loop2-holds
-    (λ c. search needs)
-    (λ c. search needs)
-    (λ c. search needs)
-    (λ c. search needs)
-    (λ c. search needs)
-    (λ c. search needs)
-    (λ c. search needs)
-    (λ c. search needs)
-    (λ c. search needs)
-    loop2-again
-    (λ c. search needs)
-    (λ c. search needs)
-    loop-again
-    returns)
+    tie.close (tie.spec Inv-loop2 μ-loop2 Inv-loop μ-loop loop-holds loop2-holds (λ c. search needs) (λ c. search needs) (λ c. search needs)
+    (λ c. search needs) (λ c. search needs) (λ c. search needs) (λ c. search needs) (λ c. search needs) (λ c. search needs) loop2-again
+    (λ c. search needs) (λ c. search needs) loop-again returns)

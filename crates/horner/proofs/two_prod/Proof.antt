@@ -1,4 +1,4 @@
--- `two_prod` is its definition, with the halves that the two calls give. Assumes nothing.
+-- `two_prod` is its definition, with the halves that the two calls give.
 use borrow.Author.Needs.{needs}
 use Rattle.horner.specs.Product.{productError, twoProdOf}
 use Rattle.horner.proofs.two_prod.Statement.{statement}

@@ -1,4 +1,4 @@
--- `value_slope` is its definition: the turns left, from the present value and slope, give the result. Assumes nothing.
+-- `value_slope` is its definition: the turns left, from the present value and slope, give the result.
 use mathlib.Core.Path.{_≡_, refl, sym, _∙_}
 use Prim.Native.Nat.{_≤_}
 use borrow.Author.Needs.{needs}
@@ -27,16 +27,5 @@ returns c = sym (down-end _ _ _ (search needs)) ∙ c .before .loop .inv .1
 
 pub value-slope-spec : {M : Type 1} → statement M
 value-slope-spec =
-    tie.close
-    (tie.spec
-    Inv-loop
-    μ-loop
-    (λ c. search needs)
-    (λ c. search needs)
-    loop-holds
-    (λ c. search needs)
-    (λ c. search needs)
-    (λ c. search needs)
-    (λ c. search needs)
-    loop-again
-    returns)
+    tie.close (tie.spec Inv-loop μ-loop (λ c. search needs) (λ c. search needs) loop-holds (λ c. search needs) (λ c. search needs)
+    (λ c. search needs) (λ c. search needs) loop-again returns)

@@ -1,4 +1,4 @@
--- `value_slope_compensated` is its definition: the turns left, from the present locals, end at the definition's. Assumes nothing.
+-- `value_slope_compensated` is its definition: the turns left, from the present locals, end at the definition's.
 use mathlib.Core.Path.{_≡_, refl, ap, sym, _∙_}
 use Prim.Native.Nat.{_≤_}
 use borrow.Author.Needs.{needs}
@@ -21,7 +21,11 @@ loop-holds c = (search needs, refl)
 
 loop-again : tie.Need-loop-again Inv-loop μ-loop
 unfolding compensatedStep sumError twoProdOf
-loop-again c = (search needs, rw (c .before .before .before .before .two-prod .ensures) (sym (down-turn _ _ _ (search needs)) ∙ c .before .before .before .before .before .before .loop .inv .1))
+loop-again c =
+    let at-struct-known = c .before .before .before in
+    let at-two-prod = at-struct-known .before in
+    let at-loop = at-two-prod .before .before in
+    (search needs, rw (at-two-prod .two-prod .ensures) (sym (down-turn _ _ _ (search needs)) ∙ at-loop .loop .inv .1))
 
 returns : tie.Need-returns Inv-loop μ-loop
 unfolding valueSlopeCompensatedOf
@@ -29,17 +33,5 @@ returns c = ap corrected (sym (down-end _ _ _ (search needs)) ∙ c .before .loo
 
 pub value-slope-compensated-spec : {M : Type 1} → statement M
 value-slope-compensated-spec =
-    tie.close
-    (tie.spec
-    Inv-loop
-    μ-loop
-    (λ c. search needs)
-    (λ c. search needs)
-    loop-holds
-    (λ c. search needs)
-    (λ c. search needs)
-    (λ c. search needs)
-    (λ c κs. search needs)
-    (λ c. search needs)
-    loop-again
-    returns)
+    tie.close (tie.spec Inv-loop μ-loop (λ c. search needs) (λ c. search needs) loop-holds (λ c. search needs) (λ c. search needs)
+    (λ c. search needs) (λ c κs. search needs) (λ c. search needs) loop-again returns)

@@ -1,4 +1,3 @@
--- `nothing` is its definition. Assumes nothing.
 use borrow.Author.Needs.{needs}
 use Rattle.inquiry.proofs.nothing.Statement.{statement}
 use Rattle.inquiry.proofs.nothing.Tie as tie

@@ -1,4 +1,4 @@
--- `over` is its definition: a reply is left exactly where fewer were used than there are. Assumes nothing.
+-- `over` is its definition: a reply is left exactly where fewer were used than there are.
 use mathlib.Core.Path.{sym, ap}
 use Rattle.touching.proofs.Lists.{reply-cons, reply-nil}
 use Rattle.inquiry.specs.Inquiry.{overBy}

@@ -1,4 +1,3 @@
--- `question` is its definition. Assumes nothing.
 use Rattle.asking.specs.Asking.{leftBy}
 use Rattle.inquiry.specs.Inquiry.{shown, overBy}
 use borrow.Author.Needs.{needs}

@@ -1,4 +1,3 @@
--- `sizes_fit` is its definition, by one test after the other. Assumes nothing.
 use mathlib.Core.Bool.{false≢true}
 use borrow.Author.Tests.{leb-true, le-leb, lt-leb}
 use Rattle.inquiry.proofs.sizes_fit.Statement.{statement}
@@ -14,7 +13,8 @@ returns-3 : tie.Need-returns-3
 returns-3 c = (simp (le-leb _ _ (c .before .before .if1 .left), le-leb _ _ (c .before .if2 .left), lt-leb _ _ (c .if3 .taken)), λ e. absurd (false≢true e))
 
 returns-4 : tie.Need-returns-4
-returns-4 c = (simp (le-leb _ _ (c .before .before .if1 .left), le-leb _ _ (c .before .if2 .left), le-leb _ _ (c .if3 .left)), λ e. (c .if3 .left, leb-true _ _ e))
+returns-4 c =
+    (simp (le-leb _ _ (c .before .before .if1 .left), le-leb _ _ (c .before .if2 .left), le-leb _ _ (c .if3 .left)), λ e. (c .if3 .left, leb-true _ _ e))
 
 pub sizes-fit-spec : {M : Type 1} → statement M
 sizes-fit-spec = tie.close (tie.spec returns returns-2 returns-3 returns-4)

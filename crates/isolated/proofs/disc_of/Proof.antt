@@ -1,4 +1,3 @@
--- `disc_of` is its definition, by what its calls give. Assumes nothing.
 use borrow.Author.Needs.{needs}
 use Rattle.isolated.specs.Isolated.{discOf}
 use Rattle.isolated.proofs.disc_of.Statement.{statement}

@@ -1,4 +1,4 @@
--- `dist` is its definition: powi(2) is a product. Assumes nothing.
+-- `dist` is its definition: powi(2) is a product.
 use mathlib.Core.Path.{refl}
 use Rattle.float.specs.Methods.{powiOf}
 use Rattle.isolated.proofs.dist.Statement.{statement}

@@ -1,4 +1,3 @@
--- `far_by` is its definition, by what its call gives. Assumes nothing.
 use borrow.Author.Needs.{needs}
 use Rattle.isolated.specs.Isolated.{farBy}
 use Rattle.isolated.proofs.far_by.Statement.{statement}

@@ -1,4 +1,3 @@
--- `far_root` is its definition, by what its calls give. Assumes nothing.
 use borrow.Author.Needs.{needs}
 use Rattle.isolated.specs.Isolated.{farRootOf, farBy}
 use Rattle.isolated.proofs.far_root.Statement.{statement}

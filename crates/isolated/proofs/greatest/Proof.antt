@@ -1,4 +1,4 @@
--- `greatest` is its definition, over what `max` gives. Assumes nothing.
+-- `greatest` is its definition, over what `max` gives.
 use borrow.Author.Needs.{needs}
 use Rattle.isolated.proofs.greatest.Statement.{statement}
 use Rattle.isolated.proofs.greatest.Tie as tie

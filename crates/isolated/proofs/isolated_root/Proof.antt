@@ -1,4 +1,4 @@
--- `isolated_root` is its definition, a field of what `isolated` gives. Assumes nothing.
+-- `isolated_root` is its definition, a field of what `isolated` gives.
 use mathlib.Core.Path.{ap}
 use borrow.Author.Needs.{needs}
 use Rattle.isolated.specs.declared.Pairing.{Pairing}

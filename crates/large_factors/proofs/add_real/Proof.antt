@@ -1,4 +1,3 @@
--- `large::add_real` is its definition. Assumes nothing.
 use borrow.Author.Needs.{needs}
 use Rattle.large_factors.proofs.add_real.Statement.{statement}
 use Rattle.large_factors.proofs.add_real.Tie as tie

@@ -1,4 +1,3 @@
--- `large::ends` is its definition. Assumes nothing.
 use borrow.Author.Tests.{le-leb, lt-leb}
 use Rattle.large_factors.specs.Large.{endsOf}
 use borrow.Author.Needs.{needs}

@@ -1,4 +1,3 @@
--- `large::large` is its definition. Assumes nothing.
 use Rattle.facts.specs.Lists.{length-mapped}
 use Rattle.large_factors.proofs.Taken.{units-fit, large-is}
 use borrow.Author.Needs.{needs}
@@ -19,13 +18,5 @@ returns c =
 
 pub large-spec : {M : Type 1} → statement M
 large-spec =
-    tie.close
-    (tie.spec
-    (λ c κs. search needs)
-    (λ c. search needs)
-    (λ c. search needs)
-    (λ c. search needs)
-    (λ c. search needs)
-    falling-requires
-    take-large-requires
-    returns)
+    tie.close (tie.spec (λ c κs. search needs) (λ c. search needs) (λ c. search needs) (λ c. search needs) (λ c. search needs)
+    falling-requires take-large-requires returns)

@@ -1,4 +1,4 @@
--- `large::not_a_number` gives NaN. Assumes nothing.
+-- `large::not_a_number` gives NaN.
 use mathlib.Core.Path.{refl}
 use lib.Ieee.{ofBits, div}
 use Rattle.large_factors.proofs.not_a_number.Statement.{statement}

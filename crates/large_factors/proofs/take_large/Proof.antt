@@ -1,4 +1,4 @@
--- `large::take_large` is its definition: what the units left make of the present factors is the result. Assumes nothing.
+-- `large::take_large` is its definition: what the units left make of the present factors is the result.
 use mathlib.Core.Path.{_≡_, _∙_}
 use Prim.Native.Nat.{_-_, _≤_}
 use native.Mathlib.Omega.{arith}
@@ -12,7 +12,8 @@ use Rattle.large_factors.proofs.take_large.Statement.{statement}
 use Rattle.large_factors.proofs.take_large.Tie as tie
 
 abbrev Inv-loop : tie.InvT-loop
-Inv-loop n want least at order out₀ i₀ out i = (i ≤ n) × Sized out × (largeFrom want least out (drop i (inOrder at order n)) ≡ largeFrom want least noFactors (inOrder at order n))
+Inv-loop n want least at order out₀ i₀ out i =
+    (i ≤ n) × Sized out × (largeFrom want least out (drop i (inOrder at order n)) ≡ largeFrom want least noFactors (inOrder at order n))
 
 abbrev μ-loop : tie.MeasureT-loop
 μ-loop n want least at order out₀ i₀ out i = n - i
@@ -35,7 +36,8 @@ returns c =
     let at-loop-test = at-degree .before .before in
     let at-loop = at-loop-test .before in
     let entry = at-loop .before .before in
-    take-ends (entry .args .t1) (entry .args .t2) (entry .args .n) (entry .pre .0) (at-loop .loop .i) _ _ _ _ (at-degree .degree .ensures) _ (c .before .ends .ensures) (search needs) (at-loop-test .loop-test .taken) (c .if1 .taken) ∙ at-loop .loop .inv .2
+    take-ends (entry .args .t1) (entry .args .t2) (entry .args .n) (entry .pre .0) (at-loop .loop .i) _ _ _ _ (at-degree .degree .ensures) _
+    (c .before .ends .ensures) (search needs) (at-loop-test .loop-test .taken) (c .if1 .taken) ∙ at-loop .loop .inv .2
 
 loop-again : tie.Need-loop-again Inv-loop μ-loop
 loop-again c =
@@ -43,8 +45,13 @@ loop-again c =
     let at-degree = at-ends .before in
     let at-loop-test = at-degree .before .before in
     let at-loop = at-loop-test .before in
-    let entry = at-loop .before .before in
-    (search needs, unit-sized _ _ _ (c .with-unit .ensures) (at-loop .loop .inv .1), take-more (entry .args .t1) (entry .args .t2) (entry .args .n) (entry .pre .0) (at-loop .loop .i) _ _ _ _ (at-degree .degree .ensures) _ (at-ends .ends .ensures) (search needs) (at-loop-test .loop-test .taken) _ (c .before .if1 .left) (c .with-unit .ensures) ∙ at-loop .loop .inv .2)
+    let entry = at-loop .before .before in (
+      search needs,
+      unit-sized _ _ _ (c .with-unit .ensures) (at-loop .loop .inv .1),
+      take-more (entry .args .t1) (entry .args .t2) (entry .args .n) (entry .pre .0) (at-loop .loop .i) _ _ _ _
+          (at-degree .degree .ensures) _ (at-ends .ends .ensures) (search needs) (at-loop-test .loop-test .taken) _ (c .before .if1 .left)
+          (c .with-unit .ensures) ∙ at-loop .loop .inv .2,
+    )
 
 returns-2 : tie.Need-returns-2 Inv-loop μ-loop
 returns-2 c =
@@ -53,21 +60,5 @@ returns-2 c =
 
 pub take-large-spec : {M : Type 1} → statement M
 take-large-spec =
-    tie.close
-    (tie.spec
-    Inv-loop
-    μ-loop
-    (λ c κs. search needs)
-    loop-holds
-    (λ c. search needs)
-    (λ c. search needs)
-    mul-x-2
-    array-copy-out-x
-    degree-requires
-    (λ c κs. search needs)
-    returns
-    (λ c κs. search needs)
-    (λ c. search needs)
-    (λ c. search needs)
-    loop-again
-    returns-2)
+    tie.close (tie.spec Inv-loop μ-loop (λ c κs. search needs) loop-holds (λ c. search needs) (λ c. search needs) mul-x-2 array-copy-out-x
+    degree-requires (λ c κs. search needs) returns (λ c κs. search needs) (λ c. search needs) (λ c. search needs) loop-again returns-2)

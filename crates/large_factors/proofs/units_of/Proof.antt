@@ -1,4 +1,4 @@
--- `large::units_of` is its definition: the array holds the units of the factors so far. Assumes nothing.
+-- `large::units_of` is its definition: the array holds the units of the factors so far.
 use mathlib.Core.Path.{_≡_, refl, ap, _∙_}
 use Prim.Native.Nat.{_+_, _-_, _≤_}
 use native.Mathlib.Omega.{arith}
@@ -36,8 +36,11 @@ loop-again : tie.Need-loop-again Inv-loop μ-loop Inv-loop2 μ-loop2
 loop-again c =
     let at-loop-test = c .before .before in
     let at-loop = at-loop-test .before in
-    let entry = at-loop .before in
-    (search needs, real-added _ _ _ (at-loop .loop .inv .1) _ 4 (search needs) (omega (arith, entry .pre, at-loop-test .loop-test .taken)) (c .add-real .ensures))
+    let entry = at-loop .before in (
+      search needs,
+      real-added _ _ _ (at-loop .loop .inv .1) _ 4 (search needs) (omega (arith, entry .pre, at-loop-test .loop-test .taken))
+          (c .add-real .ensures),
+    )
 
 loop2-holds : tie.Need-loop2-holds Inv-loop μ-loop Inv-loop2 μ-loop2
 loop2-holds c = (search needs, reals-all _ _ _ (c .before .loop .inv .1) _ _ (search needs) (search needs))
@@ -52,32 +55,17 @@ loop2-again : tie.Need-loop2-again Inv-loop μ-loop Inv-loop2 μ-loop2
 loop2-again c =
     let at-loop2-test = c .before .before in
     let at-loop2 = at-loop2-test .before in
-    let entry = at-loop2 .before .before .before in
-    (search needs, quad-added _ _ _ _ _ (at-loop2 .loop2 .inv .1) _ _ 2 (search (needs, length-mapped)) (omega (arith, entry .pre, at-loop2-test .loop2-test .taken)) (c .add-quad .ensures))
+    let entry = at-loop2 .before .before .before in (
+      search needs,
+      quad-added _ _ _ _ _ (at-loop2 .loop2 .inv .1) _ _ 2 (search (needs, length-mapped))
+          (omega (arith, entry .pre, at-loop2-test .loop2-test .taken)) (c .add-quad .ensures),
+    )
 
 returns : tie.Need-returns Inv-loop μ-loop Inv-loop2 μ-loop2
 returns c = splits-all _ _ _ _ _ (c .before .loop2 .inv .1) _ (search needs) (search needs) ∙ ap (allAdded noUnits) (units-are _)
 
 pub units-of-spec : {M : Type 1} → statement M
 units-of-spec =
-    tie.close
-    (tie.spec
-    Inv-loop
-    μ-loop
-    Inv-loop2
-    μ-loop2
-    loop-holds
-    (λ c. search needs)
-    (λ c. search needs)
-    add-real-requires
-    (λ c. search needs)
-    (λ c. search needs)
-    loop-again
-    loop2-holds
-    (λ c. search needs)
-    (λ c. search needs)
-    add-quad-requires
-    (λ c. search needs)
-    (λ c. search needs)
-    loop2-again
-    returns)
+    tie.close (tie.spec Inv-loop μ-loop Inv-loop2 μ-loop2 loop-holds (λ c. search needs) (λ c. search needs) add-real-requires
+    (λ c. search needs) (λ c. search needs) loop-again loop2-holds (λ c. search needs) (λ c. search needs) add-quad-requires
+    (λ c. search needs) (λ c. search needs) loop2-again returns)

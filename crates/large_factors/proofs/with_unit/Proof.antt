@@ -1,4 +1,3 @@
--- `large::with_unit` is its definition. Assumes nothing.
 use mathlib.Core.Path.{sym, _∙_}
 use Rattle.facts.specs.Cond.{if-taken, if-left}
 use Rattle.large_factors.specs.Large.{withUnit}
@@ -15,5 +14,4 @@ unfolding withUnit
 returns-2 c = if-left _ _ (sym (c .before .before .is-nan .ensures) ∙ c .before .if1 .left) (c .push-quad .ensures)
 
 pub with-unit-spec : {M : Type 1} → statement M
-with-unit-spec =
-    tie.close (tie.spec (λ c κs. search needs) (λ c κs. search needs) returns (λ c κs. search needs) returns-2)
+with-unit-spec = tie.close (tie.spec (λ c κs. search needs) (λ c κs. search needs) returns (λ c κs. search needs) returns-2)

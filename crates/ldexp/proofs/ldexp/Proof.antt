@@ -1,4 +1,4 @@
--- `scale::ldexp` meets its contract: by the sign and the size of k. Assumes nothing.
+-- By the sign and the size of k.
 use mathlib.Core.Path.{sym, ap, _∙_}
 use borrow.Author.Needs.{needs}
 use lib.IntN.{ℤ}
@@ -8,7 +8,9 @@ use Rattle.ldexp.proofs.ldexp.Statement.{statement}
 use Rattle.ldexp.proofs.ldexp.Tie as tie
 
 returns : tie.Need-returns
-returns c = c .scaled .ensures ∙ ap (λ (z : ℤ). ldexpOf (c .before .before .args .x) z) (sym (sym (toZ-ofZ (c .before .before .fits .k)) ∙ c .before .split-sign .ensures))
+returns c =
+    c .scaled .ensures ∙ ap (λ (z : ℤ). ldexpOf (c .before .before .args .x) z)
+    (sym (sym (toZ-ofZ (c .before .before .fits .k)) ∙ c .before .split-sign .ensures))
 
 pub ldexp-spec : {M : Type 1} → statement M
 ldexp-spec = tie.close (tie.spec (λ c κs. search needs) (λ c κs. search needs) returns)

@@ -1,4 +1,4 @@
--- `scale::ldexp_by` meets its contract: by the larger of p and q. Assumes nothing.
+-- By the larger of p and q.
 use mathlib.Core.Path.{ap, _∙_}
 use borrow.Author.Needs.{needs}
 use lib.IntN.{ℤ}

@@ -1,4 +1,4 @@
--- `scale::pow2` meets its contract: by the sign and the size of k. Assumes nothing.
+-- By the sign and the size of k.
 use mathlib.Core.Path.{sym, ap, _∙_, subst}
 use borrow.Author.Needs.{needs}
 use lib.IntN.{ℤ, pos, negsuc}

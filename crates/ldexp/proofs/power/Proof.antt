@@ -1,4 +1,4 @@
--- `scale::power` meets its contract: the field 1023 ± n stands for 2^±n. Assumes nothing.
+-- The field 1023 ± n stands for 2^±n.
 use native.Mathlib.Omega.{arith}
 use Rattle.ldexp.proofs.Pack.{pack-not-nan, power-up, power-down}
 use borrow.Author.Needs.{needs}
@@ -19,5 +19,5 @@ returns-2 c = rw (c .if1 .left) (power-up (c .before .args .n) (c .before .pre .
 
 pub power-spec : {M : Type 1} → statement M
 power-spec =
-    tie.close
-    (tie.spec (λ c. search needs) (λ c. search needs) float-from-bits-result returns (λ c. search needs) (λ c. search needs) float-from-bits-result-2 returns-2)
+    tie.close (tie.spec (λ c. search needs) (λ c. search needs) float-from-bits-result returns (λ c. search needs) (λ c. search needs)
+    float-from-bits-result-2 returns-2)

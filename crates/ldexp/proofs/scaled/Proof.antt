@@ -1,4 +1,4 @@
--- `scale::scaled` meets its contract. The loop's invariant: what is left to do to y gives the whole result. Assumes nothing.
+-- The loop's invariant: what is left to do to y gives the whole result.
 use mathlib.Core.Path.{_≡_, refl, sym, ap, _∙_}
 use native.Mathlib.Omega.{arith}
 use Prim.Native.Nat.{_-_}
@@ -34,10 +34,11 @@ loop-less c = omega arith
 
 loop-again : tie.Need-loop-again Inv-loop μ-loop
 loop-again c =
-    let a = c .before .before .before .before in
-    a .loop .inv
-    ∙ all-step _ (a .loop .k) (a .loop .y) (c .before .before .before .loop-test .taken)
-    ∙ ap (λ (p : Float). timesPowerOf (a .before .args .below) (a .loop .k - 1000) (mul binary64 (a .loop .y) p)) (sym (c .power .ensures))
+    let at-loop-test = c .before .before .before in
+    let at-loop = at-loop-test .before in
+    at-loop .loop .inv
+    ∙ all-step _ (at-loop .loop .k) (at-loop .loop .y) (at-loop-test .loop-test .taken)
+    ∙ ap (λ (p : Float). timesPowerOf (at-loop .before .args .below) (at-loop .loop .k - 1000) (mul binary64 (at-loop .loop .y) p)) (sym (c .power .ensures))
 
 power-requires-2 : tie.Need-power-requires-2 Inv-loop μ-loop
 power-requires-2 c κs = (omega arith, λ e. omega arith)
@@ -49,5 +50,5 @@ returns-2 c =
 
 pub scaled-spec : {M : Type 1} → statement M
 scaled-spec =
-    tie.close
-    (tie.spec Inv-loop μ-loop loop-holds steady-requires returns power-requires sub-k loop-less loop-again power-requires-2 returns-2)
+    tie.close (tie.spec Inv-loop μ-loop loop-holds steady-requires returns power-requires sub-k loop-less loop-again power-requires-2
+    returns-2)

@@ -1,4 +1,4 @@
--- `scale::split_sign` meets its contract: by the sign of k. Assumes nothing.
+-- By the sign of k.
 use mathlib.Core.Path.{_≡_, sym, ap, _∙_, subst}
 use mathlib.Core.Bool.{true}
 use Prim.Native.Nat.{ℕ, suc, _+_}
@@ -18,7 +18,8 @@ sub-t4 c =
     subst (λ (z : ℤ). SFits w32 z) (sym (b .2)) (b .3)
 
 -- `-1 - k`, read back from its bits
-flipped-back : (c : tie.Then1) → let b = below (c .before .args .k) (c .before .fits .k) (c .if1 .taken) in toZ w32 (ofZ w32 (flipped (c .before .args .k))) ≡ pos (b .0)
+flipped-back : (c : tie.Then1) → let b = below (c .before .args .k) (c .before .fits .k) (c .if1 .taken) in toZ w32
+    (ofZ w32 (flipped (c .before .args .k))) ≡ pos (b .0)
 flipped-back c =
     let b = below (c .before .args .k) (c .before .fits .k) (c .if1 .taken) in
     ap (λ (z : ℤ). toZ w32 (ofZ w32 z)) (b .2) ∙ toZ-ofZ (b .3)

@@ -1,4 +1,4 @@
--- `scale::steady` meets its contract: a zero, or not finite. Assumes nothing.
+-- A zero, or not finite.
 use mathlib.Core.Path.{sym, _∙_, subst}
 use lib.Dec.{T}
 use borrow.Author.Tests.{not-true}

@@ -1,5 +1,4 @@
--- `lent::answer` meets its contract: the whole answer, or the refusal.
--- Assumes nothing.
+-- The whole answer, or the refusal.
 use mathlib.Core.Path.{refl, sym}
 use borrow.Author.Needs.{needs}
 use Rattle.lent_bytes.proofs.Whole.{answered-as, refused}
@@ -7,7 +6,10 @@ use Rattle.lent_bytes.proofs.answer.Statement.{statement}
 use Rattle.lent_bytes.proofs.answer.Tie as tie
 
 returns : tie.Need-returns
-returns c = answered-as (sym (c .before .before .before .before .if1 .taken)) refl (c .before .before .store .ensures)
+returns c =
+    let at-store = c .before .before in
+    let at-if1 = at-store .before .before in
+    answered-as (sym (at-if1 .if1 .taken)) refl (at-store .store .ensures)
 
 returns-2 : tie.Need-returns-2
 returns-2 c = refused _ _ _ (c .if1 .left)

@@ -1,5 +1,4 @@
--- `lent::f64s_at` meets its contract: after i turns the array is the first i doubles and zeros.
--- Assumes nothing.
+-- After i turns the array is the first i doubles and zeros.
 use native.Mathlib.Omega.{arith}
 use mathlib.Core.Path.{_≡_, refl, ap, subst, _∙_}
 use mathlib.Core.List.{List, _++_}
@@ -62,17 +61,5 @@ returns c =
 
 pub f64s-at-spec : {M : Type 1} → statement M
 f64s-at-spec =
-    tie.close
-    (tie.spec
-    Inv-loop
-    μ-loop
-    loop-holds
-    mul-f64-at
-    add-f64-at
-    f64-at-requires
-    mul-out
-    array-write-out
-    add-i
-    loop-less
-    loop-again
+    tie.close (tie.spec Inv-loop μ-loop loop-holds mul-f64-at add-f64-at f64-at-requires mul-out array-write-out add-i loop-less loop-again
     returns)

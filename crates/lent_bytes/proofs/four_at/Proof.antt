@@ -1,5 +1,4 @@
--- `lent::four_at` meets its contract, double by double.
--- Assumes nothing.
+-- Double by double.
 use Rattle.lent_bytes.specs.Bytes.{f64sAt}
 use borrow.Author.Needs.{needs}
 use Rattle.lent_bytes.proofs.four_at.Statement.{statement}
@@ -10,4 +9,6 @@ unfolding f64sAt
 returns c = cc
 
 pub four-at-spec : {M : Type 1} → statement M
-four-at-spec = tie.close (tie.spec (λ c κs. search needs) (λ c. search needs) (λ c κs. search needs) (λ c. search needs) (λ c. search needs) (λ c κs. search needs) (λ c. search needs) (λ c. search needs) (λ c. search needs) (λ c κs. search needs) returns)
+four-at-spec =
+    tie.close (tie.spec (λ c κs. search needs) (λ c. search needs) (λ c κs. search needs) (λ c. search needs) (λ c. search needs)
+    (λ c κs. search needs) (λ c. search needs) (λ c. search needs) (λ c. search needs) (λ c κs. search needs) returns)

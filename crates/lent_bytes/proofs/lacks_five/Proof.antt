@@ -1,5 +1,3 @@
--- `lent::lacks_five` meets its contract, by its tests.
--- Assumes nothing.
 use borrow.Author.Tests.{lt-ltb, le-ltb}
 use Rattle.lent_bytes.specs.Bytes.{lacksFive}
 use Rattle.lent_bytes.proofs.lacks_five.Statement.{statement}

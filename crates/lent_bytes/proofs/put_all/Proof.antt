@@ -1,5 +1,4 @@
--- `lent::put_all` meets its contract: after i turns the first i doubles are stored.
--- Assumes nothing.
+-- After i turns the first i doubles are stored.
 use native.Mathlib.Omega.{arith}
 use Prim.Native.Nat.{_+_, _*_, _≤_, _<_, _-_}
 use lib.ListN.{length, take, getD}
@@ -40,33 +39,26 @@ loop-less c = omega arith
 
 loop-again : tie.Need-loop-again Inv-loop μ-loop
 loop-again c =
-    let at-loop = c .before .before .before .before .before .before in
+    let at-put-f64 = c .before .before in
+    let at-loop-test = at-put-f64 .before .before .before in
+    let at-loop = at-loop-test .before in
     let xs = at-loop .before .before .before .args .xs .now in
     let i = at-loop .loop .i in
     let h : i < length xs = omega arith in
-    let next : Written (at-loop .loop .out) (8 * i) (doubleBytes (getD xs i nan)) (c .before .before .put-f64 .last .0) (8 * (i + 1)) =
-    record { bytes = c .before .before .put-f64 .ensures; place = omega (arith, length-bytes (toBits binary64 (getD xs i nan))) } in
+    let next : Written (at-loop .loop .out) (8 * i) (doubleBytes (getD xs i nan)) (at-put-f64 .put-f64 .last .0) (8 * (i + 1)) =
+    record { bytes = at-put-f64 .put-f64 .ensures; place = omega (arith, length-bytes (toBits binary64 (getD xs i nan))) } in
     (omega arith, written-flat doubleBytes xs i nan h (at-loop .loop .inv .1) next)
 
 same-length : tie.Need-same-length Inv-loop μ-loop
 same-length c = written-length (c .before .loop .inv .1)
 
 returns : tie.Need-returns Inv-loop μ-loop
-returns c = flat-all doubleBytes (c .before .before .before .before .args .xs .now) (c .before .loop .i) (omega arith) (c .before .loop .inv .1) .bytes
+returns c =
+    let at-loop = c .before in
+    let at-start = at-loop .before .before .before in
+    flat-all doubleBytes (at-start .args .xs .now) (at-loop .loop .i) (omega arith) (at-loop .loop .inv .1) .bytes
 
 pub put-all-spec : {M : Type 1} → statement M
 put-all-spec =
-    tie.close
-    (tie.spec
-    Inv-loop
-    μ-loop
-    loop-holds
-    mul-put-f64
-    mul-put-f64-2
-    shared-slice-read-put-f64
-    put-f64-requires
-    add-i
-    loop-less
-    loop-again
-    same-length
-    returns)
+    tie.close (tie.spec Inv-loop μ-loop loop-holds mul-put-f64 mul-put-f64-2 shared-slice-read-put-f64 put-f64-requires add-i loop-less
+    loop-again same-length returns)

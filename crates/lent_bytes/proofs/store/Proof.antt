@@ -1,5 +1,4 @@
--- `lent::store` meets its contract: all the bytes, or none.
--- Assumes nothing.
+-- All the bytes, or none.
 use native.Mathlib.Omega.{arith}
 use mathlib.Core.Path.{refl}
 use borrow.Author.Needs.{needs}

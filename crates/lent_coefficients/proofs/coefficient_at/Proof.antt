@@ -1,5 +1,3 @@
--- `coefficients::coefficient_at` meets its contract, by its test.
--- Assumes nothing.
 use borrow.Author.Needs.{needs}
 use mathlib.Core.Path.{_∙_}
 use Rattle.float.specs.Literals.{zero64}

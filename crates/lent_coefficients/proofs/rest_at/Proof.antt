@@ -1,5 +1,4 @@
--- `coefficients::rest_at` meets its contract: what is left behind i, joined to the present number, gives the whole.
--- Assumes nothing.
+-- What is left behind i, joined to the present number, gives the whole.
 use borrow.Author.Needs.{needs}
 use native.Mathlib.Omega.{arith}
 use mathlib.Core.Path.{_≡_, refl, sym, _∙_}
@@ -41,7 +40,10 @@ loop-again c =
     rw (c .rest-with .ensures) (sym (rest-next s (at-loop .loop .i) (at-loop .loop .rest) _ (omega arith) (c .before .f64-at .ensures)) ∙ at-loop .loop .inv)
 
 returns : tie.Need-returns Inv-loop μ-loop
-returns c = let s = c .before .before .before .args .s .now in sym (rest-end s (c .before .loop .i) (c .before .loop .rest) (omega arith)) ∙ c .before .loop .inv
+returns c =
+    let s = c .before .before .before .args .s .now in
+    sym (rest-end s (c .before .loop .i) (c .before .loop .rest) (omega arith)) ∙ c .before .loop .inv
 
 pub rest-at-spec : {M : Type 1} → statement M
-rest-at-spec = tie.close (tie.spec Inv-loop μ-loop loop-holds mul-f64-at f64-at-requires (λ c κs. search needs) add-i loop-less loop-again returns)
+rest-at-spec =
+    tie.close (tie.spec Inv-loop μ-loop loop-holds mul-f64-at f64-at-requires (λ c κs. search needs) add-i loop-less loop-again returns)

@@ -1,5 +1,3 @@
--- `coefficients::rest_with` meets its contract, by its tests.
--- Assumes nothing.
 use borrow.Author.Needs.{needs}
 use mathlib.Core.Path.{sym, _∙_}
 use Rattle.poly.specs.Short.{restWith}

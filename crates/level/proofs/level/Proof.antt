@@ -1,4 +1,4 @@
--- `level::level` meets its contract: all coefficients are seen, and raised they lie in one window.
+-- All coefficients are seen, and raised they lie in one window.
 use mathlib.Core.Path.{_≡_}
 use mathlib.Core.Bool.{false≢true}
 use Prim.Native.Nat.{ℕ, _-_, _≤_, _<_}
@@ -32,7 +32,8 @@ loop-holds c =
       search needs,
       search needs,
       omega (arith, f, l),
-      seen-start _ _ _ (a .0 (lt-of-le-ne (a .1) (i .before .if2 .left))) (b .0 (lt-of-le-ne (b .1) (i .if3 .left))) (omega (arith, f, l)) (omega (arith, l, t)),
+      seen-start _ _ _ (a .0 (lt-of-le-ne (a .1) (i .before .if2 .left))) (b .0 (lt-of-le-ne (b .1) (i .if3 .left))) (omega (arith, f, l))
+          (omega (arith, l, t)),
     )
 
 loop-again : tie.Need-loop-again Inv-loop μ-loop
@@ -47,7 +48,8 @@ loop-again c =
       search needs,
       c .most .ensures .2,
       omega (arith, v, l .least2 .ensures),
-      seen-more _ _ _ (v .4) (a .0 (lt-of-le-ne (a .1) (i .if4 .left))) (l .least2 .ensures .0) (omega (arith, l .least2 .ensures, r .raised3 .ensures)) (c .most .ensures .0) (omega (arith, c .most .ensures, r .raised3 .ensures)),
+      seen-more _ _ _ (v .4) (a .0 (lt-of-le-ne (a .1) (i .if4 .left))) (l .least2 .ensures .0)
+          (omega (arith, l .least2 .ensures, r .raised3 .ensures)) (c .most .ensures .0) (omega (arith, c .most .ensures, r .raised3 .ensures)),
     )
 
 returns-5 : tie.Need-returns-5 Inv-loop μ-loop
@@ -55,32 +57,8 @@ returns-5 c = λ e. level-none _ _ (search needs) (search needs) _ _ (seen-all (
 
 pub level-spec : {M : Type 1} → statement M
 level-spec =
-    tie.close
-    (tie.spec
-    Inv-loop
-    μ-loop
-    (λ c e. absurd (false≢true e))
-    (λ c. search needs)
-    (λ c κs. search needs)
-    (λ c. search needs)
-    (λ c. search needs)
-    (λ c κs. search needs)
-    (λ c e. absurd (false≢true e))
-    (λ c e. absurd (false≢true e))
-    (λ c κs. search needs)
-    (λ c κs. search needs)
-    (λ c κs. search needs)
-    (λ c κs. search needs)
-    loop-holds
-    (λ c. search needs)
-    (λ c. search needs)
-    (λ c κs. search needs)
-    (λ c e. absurd (false≢true e))
-    (λ c κs. search needs)
-    (λ c κs. search needs)
-    (λ c κs. search needs)
-    (λ c. search needs)
-    (λ c. search needs)
-    loop-again
-    (λ c. search needs)
-    returns-5)
+    tie.close (tie.spec Inv-loop μ-loop (λ c e. absurd (false≢true e)) (λ c. search needs) (λ c κs. search needs) (λ c. search needs)
+    (λ c. search needs) (λ c κs. search needs) (λ c e. absurd (false≢true e)) (λ c e. absurd (false≢true e)) (λ c κs. search needs)
+    (λ c κs. search needs) (λ c κs. search needs) (λ c κs. search needs) loop-holds (λ c. search needs) (λ c. search needs)
+    (λ c κs. search needs) (λ c e. absurd (false≢true e)) (λ c κs. search needs) (λ c κs. search needs) (λ c κs. search needs)
+    (λ c. search needs) (λ c. search needs) loop-again (λ c. search needs) returns-5)

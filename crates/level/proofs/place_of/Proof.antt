@@ -1,4 +1,4 @@
--- `level::place_of` meets its contract: the digits of a number say its exponent.
+-- The digits of a number say its exponent.
 use native.Mathlib.Omega.{arith}
 use Rattle.level.proofs.Turns.{binade-of}
 use borrow.Author.Needs.{needs}

@@ -1,4 +1,4 @@
--- `level::raised` meets its contract: nothing of it is large.
+-- Nothing of it is large.
 use Prim.Native.Nat.{ℕ, _*_, _≤_, _<_}
 use native.Mathlib.Omega.{arith}
 use native.Mathlib.Nat.{le-of-lt, mul-le-mul}

@@ -1,4 +1,4 @@
--- `order::entry` meets its contract: by where k lies. Assumes nothing.
+-- By where k lies.
 use borrow.Author.Tests.{lt-ltb, le-ltb, ne-eqb, eq-eqb, le-leb, lt-leb}
 use Rattle.order.specs.Order.{entryOf}
 use borrow.Author.Needs.{needs}
@@ -23,16 +23,5 @@ returns-4 c = simp (le-ltb _ _ (c .before .before .if1 .left), ne-eqb _ _ (c .be
 
 pub entry-spec : {M : Type 1} → statement M
 entry-spec =
-    tie.close
-    (tie.spec
-    (λ c. search needs)
-    (λ c. search needs)
-    returns
-    returns-2
-    (λ c. search needs)
-    (λ c. search needs)
-    (λ c. search needs)
-    returns-3
-    (λ c. search needs)
-    (λ c. search needs)
-    returns-4)
+    tie.close (tie.spec (λ c. search needs) (λ c. search needs) returns returns-2 (λ c. search needs) (λ c. search needs)
+    (λ c. search needs) returns-3 (λ c. search needs) (λ c. search needs) returns-4)

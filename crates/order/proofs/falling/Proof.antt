@@ -1,4 +1,4 @@
--- `order::falling` meets its contract: each turn sorts one number more. Assumes nothing.
+-- Each turn sorts one number more.
 use mathlib.Core.Path.{_≡_, sym, ap, _∙_, subst}
 use Prim.Native.Nat.{_-_, _≤_}
 use Rattle.order.specs.Order.{orderOf, fallingOf, falls, Places}
@@ -30,6 +30,4 @@ returns c =
     (r, subst Places (sym r) (order-places _ _ _ (search needs)))
 
 pub falling-spec : {M : Type 1} → statement M
-falling-spec =
-    tie.close
-    (tie.spec Inv-loop μ-loop loop-holds insert-requires (λ c. search needs) (λ c. search needs) loop-again returns)
+falling-spec = tie.close (tie.spec Inv-loop μ-loop loop-holds insert-requires (λ c. search needs) (λ c. search needs) loop-again returns)

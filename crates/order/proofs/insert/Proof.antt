@@ -1,4 +1,4 @@
--- `order::insert` meets its contract: the four entries are the list with i inserted. Assumes nothing.
+-- The four entries are the list with i inserted.
 use Rattle.order.proofs.Laws.{inserted-entries}
 use borrow.Author.Needs.{needs}
 use Rattle.order.proofs.insert.Statement.{statement}
@@ -12,11 +12,5 @@ returns c =
 
 pub insert-spec : {M : Type 1} → statement M
 insert-spec =
-    tie.close
-    (tie.spec
-    (λ c κs. search needs)
-    (λ c κs. search needs)
-    (λ c κs. search needs)
-    (λ c κs. search needs)
-    (λ c κs. search needs)
+    tie.close (tie.spec (λ c κs. search needs) (λ c κs. search needs) (λ c κs. search needs) (λ c κs. search needs) (λ c κs. search needs)
     returns)

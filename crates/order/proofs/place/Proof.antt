@@ -1,4 +1,4 @@
--- `order::place` meets its contract: each turn passes one number that stands before i. Assumes nothing.
+-- Each turn passes one number that stands before i.
 use borrow.Author.Needs.{needs}
 use mathlib.Core.Path.{_≡_, sym, _∙_}
 use native.Mathlib.Nat.{sub-zero}
@@ -40,20 +40,5 @@ returns-2 c = sym (first-end _ _ _ (search needs)) ∙ c .before .loop .inv .1
 
 pub place-spec : {M : Type 1} → statement M
 place-spec =
-    tie.close
-    (tie.spec
-    Inv-loop
-    μ-loop
-    loop-holds
-    (λ c. search needs)
-    (λ c. search needs)
-    (λ c. search needs)
-    (λ c. search needs)
-    mul-total-le-2
-    array-read-total-le-2
-    (λ c κs. search needs)
-    (λ c. search needs)
-    (λ c. search needs)
-    loop-again
-    returns
-    returns-2)
+    tie.close (tie.spec Inv-loop μ-loop loop-holds (λ c. search needs) (λ c. search needs) (λ c. search needs) (λ c. search needs)
+    mul-total-le-2 array-read-total-le-2 (λ c κs. search needs) (λ c. search needs) (λ c. search needs) loop-again returns returns-2)

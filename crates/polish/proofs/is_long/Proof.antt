@@ -1,4 +1,3 @@
--- `is_long` is its definition, by its test. Assumes nothing.
 use Rattle.polish.specs.Polish.{isLongOf}
 use borrow.Author.Needs.{needs}
 use Rattle.polish.proofs.is_long.Statement.{statement}

@@ -1,4 +1,3 @@
--- `is_small` is its definition. Assumes nothing.
 use Rattle.polish.specs.Polish.{isSmallOf}
 use borrow.Author.Needs.{needs}
 use Rattle.polish.proofs.is_small.Statement.{statement}

@@ -1,4 +1,4 @@
--- `polish` is its definition: the turns left, from the present place, lead to the result. Assumes nothing.
+-- `polish` is its definition: the turns left, from the present place, lead to the result.
 use mathlib.Core.Path.{_≡_, refl, sym, _∙_}
 use Prim.Native.Nat.{_-_, _≤_}
 use Rattle.horner.specs.Horner.{valueSlopeCompensatedOf}
@@ -25,62 +25,82 @@ returns c =
 
 returns-2 : tie.Need-returns-2 Inv-loop μ-loop
 returns-2 c =
-    let l = c .before .before .before .before .before .before .loop in
-    let steep = sym (c .before .before .before .before .flat .ensures) ∙ c .before .before .before .if1 .left in
+    let at-if1 = c .before .before .before in
+    let at-flat = at-if1 .before in
+    let at-loop = at-flat .before .before in
+    let l = at-loop .loop in
+    let steep = sym (at-flat .flat .ensures) ∙ at-if1 .if1 .left in
     sym (ends-long _ _ _ _ (l .inv .1) _ steep refl (sym (c .before .is-long .ensures) ∙ c .if2 .taken)) ∙ l .inv .2
 
 returns-3 : tie.Need-returns-3 Inv-loop μ-loop
 returns-3 c =
-    let l = c .before .before .before .before .before .before .before .loop in
-    let steep = sym (c .before .before .before .before .before .flat .ensures) ∙ c .before .before .before .before .if1 .left in
-    let short = sym (c .before .before .is-long .ensures) ∙ c .before .if2 .left in
+    let at-is-long = c .before .before in
+    let at-if1 = at-is-long .before .before in
+    let at-flat = at-if1 .before in
+    let at-loop = at-flat .before .before in
+    let l = at-loop .loop in
+    let steep = sym (at-flat .flat .ensures) ∙ at-if1 .if1 .left in
+    let short = sym (at-is-long .is-long .ensures) ∙ c .before .if2 .left in
     sym (ends-still _ _ _ _ (l .inv .1) _ steep refl short (c .if3 .taken)) ∙ l .inv .2
 
 returns-4 : tie.Need-returns-4 Inv-loop μ-loop
 returns-4 c =
-    let l = c .before .before .before .before .before .before .before .before .before .before .loop in
-    let steep = sym (c .before .before .before .before .before .before .before .before .flat .ensures) ∙ c .before .before .before .before .before .before .before .if1 .left in
-    let short = sym (c .before .before .before .before .before .is-long .ensures) ∙ c .before .before .before .before .if2 .left in
-    sym (ends-held _ _ _ _ (l .inv .1) _ steep refl short (c .before .before .before .if3 .left) (c .before .before .value-slope-compensated2 .ensures) (sym (c .before .no-gain .ensures) ∙ c .if4 .taken)) ∙ l .inv .2
+    let at-if3 = c .before .before .before in
+    let at-if2 = at-if3 .before in
+    let at-is-long = at-if2 .before in
+    let at-if1 = at-is-long .before .before in
+    let at-flat = at-if1 .before in
+    let at-loop = at-flat .before .before in
+    let l = at-loop .loop in
+    let steep = sym (at-flat .flat .ensures) ∙ at-if1 .if1 .left in
+    let short = sym (at-is-long .is-long .ensures) ∙ at-if2 .if2 .left in
+    sym (ends-held _ _ _ _ (l .inv .1) _ steep refl short (at-if3 .if3 .left) (c .before .before .value-slope-compensated2 .ensures)
+    (sym (c .before .no-gain .ensures) ∙ c .if4 .taken)) ∙ l .inv .2
 
 returns-5 : tie.Need-returns-5 Inv-loop μ-loop
 returns-5 c =
-    let l = c .before .before .before .before .before .before .before .before .before .before .before .before .loop in
-    let steep = sym (c .before .before .before .before .before .before .before .before .before .before .flat .ensures) ∙ c .before .before .before .before .before .before .before .before .before .if1 .left in
-    let short = sym (c .before .before .before .before .before .before .before .is-long .ensures) ∙ c .before .before .before .before .before .before .if2 .left in
-    let gains = sym (c .before .before .before .no-gain .ensures) ∙ c .before .before .if4 .left in
-    sym (ends-small _ _ _ _ (l .inv .1) _ steep refl short (c .before .before .before .before .before .if3 .left) (c .before .before .before .before .value-slope-compensated2 .ensures) gains 4 (search needs) (sym (c .before .is-small .ensures) ∙ c .if5 .taken)) ∙ l .inv .2
+    let at-no-gain = c .before .before .before in
+    let at-value-slope-compensated2 = at-no-gain .before in
+    let at-if3 = at-value-slope-compensated2 .before in
+    let at-if2 = at-if3 .before in
+    let at-is-long = at-if2 .before in
+    let at-if1 = at-is-long .before .before in
+    let at-flat = at-if1 .before in
+    let at-loop = at-flat .before .before in
+    let l = at-loop .loop in
+    let steep = sym (at-flat .flat .ensures) ∙ at-if1 .if1 .left in
+    let short = sym (at-is-long .is-long .ensures) ∙ at-if2 .if2 .left in
+    let gains = sym (at-no-gain .no-gain .ensures) ∙ c .before .before .if4 .left in
+    sym (ends-small _ _ _ _ (l .inv .1) _ steep refl short (at-if3 .if3 .left)
+    (at-value-slope-compensated2 .value-slope-compensated2 .ensures) gains 4 (search needs)
+    (sym (c .before .is-small .ensures) ∙ c .if5 .taken)) ∙ l .inv .2
 
 loop-again : tie.Need-loop-again Inv-loop μ-loop
 loop-again c =
-    let l = c .before .before .before .before .before .before .before .before .before .before .before .before .loop in
-    let steep = sym (c .before .before .before .before .before .before .before .before .before .before .flat .ensures) ∙ c .before .before .before .before .before .before .before .before .before .if1 .left in
-    let short = sym (c .before .before .before .before .before .before .before .is-long .ensures) ∙ c .before .before .before .before .before .before .if2 .left in
-    let gains = sym (c .before .before .before .no-gain .ensures) ∙ c .before .before .if4 .left in
-    (search needs, c .before .before .before .before .value-slope-compensated2 .ensures, sym (goes-on _ _ _ _ (l .inv .1) _ steep refl short (c .before .before .before .before .before .if3 .left) (c .before .before .before .before .value-slope-compensated2 .ensures) gains 4 (search needs) (sym (c .before .is-small .ensures) ∙ c .if5 .left)) ∙ l .inv .2)
+    let at-no-gain = c .before .before .before in
+    let at-value-slope-compensated2 = at-no-gain .before in
+    let at-if3 = at-value-slope-compensated2 .before in
+    let at-if2 = at-if3 .before in
+    let at-is-long = at-if2 .before in
+    let at-if1 = at-is-long .before .before in
+    let at-flat = at-if1 .before in
+    let at-loop = at-flat .before .before in
+    let l = at-loop .loop in
+    let steep = sym (at-flat .flat .ensures) ∙ at-if1 .if1 .left in
+    let short = sym (at-is-long .is-long .ensures) ∙ at-if2 .if2 .left in
+    let gains = sym (at-no-gain .no-gain .ensures) ∙ c .before .before .if4 .left in (
+      search needs,
+      at-value-slope-compensated2 .value-slope-compensated2 .ensures,
+      sym (goes-on _ _ _ _ (l .inv .1) _ steep refl short (at-if3 .if3 .left)
+          (at-value-slope-compensated2 .value-slope-compensated2 .ensures) gains 4 (search needs)
+          (sym (c .before .is-small .ensures) ∙ c .if5 .left)) ∙ l .inv .2,
+    )
 
 returns-6 : tie.Need-returns-6 Inv-loop μ-loop
 returns-6 c = sym (turns-over _ _ _ 4 _ _ (search needs)) ∙ c .before .loop .inv .2
 
 pub polish-spec : {M : Type 1} → statement M
 polish-spec =
-    tie.close
-    (tie.spec
-    Inv-loop
-    μ-loop
-    (λ c κs. search needs)
-    loop-holds
-    (λ c κs. search needs)
-    returns
-    (λ c κs. search needs)
-    returns-2
-    returns-3
-    (λ c κs. search needs)
-    (λ c κs. search needs)
-    returns-4
-    (λ c κs. search needs)
-    returns-5
-    (λ c. search needs)
-    (λ c. search needs)
-    loop-again
-    returns-6)
+    tie.close (tie.spec Inv-loop μ-loop (λ c κs. search needs) loop-holds (λ c κs. search needs) returns (λ c κs. search needs) returns-2
+    returns-3 (λ c κs. search needs) (λ c κs. search needs) returns-4 (λ c κs. search needs) returns-5 (λ c. search needs)
+    (λ c. search needs) loop-again returns-6)

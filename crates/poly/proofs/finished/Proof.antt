@@ -1,4 +1,3 @@
--- `poly::finished` meets its contract: part by part. Assumes nothing.
 use Rattle.poly.proofs.Sums.{candidates-fit}
 use Rattle.poly.proofs.Steps.{finished-is}
 use borrow.Author.Needs.{needs}

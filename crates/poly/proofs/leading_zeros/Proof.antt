@@ -1,4 +1,4 @@
--- `poly::leading_zeros` meets its contract: each turn passes a zero. Assumes nothing.
+-- Each turn passes a zero.
 use mathlib.Core.Path.{_≡_, sym, _∙_}
 use Prim.Native.Nat.{_+_, _-_, _≤_}
 use borrow.Author.Needs.{needs}
@@ -29,15 +29,5 @@ returns-2 c = sym (zeros-end _ _ (c .loop-test .left)) ∙ c .before .loop .inv 
 
 pub leading-zeros-spec : {M : Type 1} → statement M
 leading-zeros-spec =
-    tie.close
-    (tie.spec
-    Inv-loop
-    μ-loop
-    loop-holds
-    (λ c. search needs)
-    (λ c. search needs)
-    (λ c. search needs)
-    (λ c. search needs)
-    loop-again
-    returns
-    returns-2)
+    tie.close (tie.spec Inv-loop μ-loop loop-holds (λ c. search needs) (λ c. search needs) (λ c. search needs) (λ c. search needs)
+    loop-again returns returns-2)

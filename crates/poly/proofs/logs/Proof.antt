@@ -1,4 +1,4 @@
--- `poly::logs` meets its contract: `level` says that there is no gap.
+-- `level` says that there is no gap.
 use mathlib.Core.Path.{refl, sym, _∙_}
 use mathlib.Core.Bool.{false≢true}
 use mathlib.Core.Logic.{inl, inr}

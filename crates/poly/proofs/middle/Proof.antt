@@ -1,4 +1,3 @@
--- `poly::middle` meets its contract: place by place. Assumes nothing.
 use Rattle.poly.specs.Coefficients.{middleOf}
 use borrow.Author.Needs.{needs}
 use Rattle.poly.proofs.middle.Statement.{statement}
@@ -9,4 +8,6 @@ unfolding middleOf
 returns c = cc
 
 pub middle-spec : {M : Type 1} → statement M
-middle-spec = tie.close (tie.spec (λ c κs. search needs) (λ c κs. search needs) (λ c κs. search needs) (λ c κs. search needs) (λ c κs. search needs) returns)
+middle-spec =
+    tie.close (tie.spec (λ c κs. search needs) (λ c κs. search needs) (λ c κs. search needs) (λ c κs. search needs) (λ c κs. search needs)
+    returns)

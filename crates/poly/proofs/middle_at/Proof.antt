@@ -1,4 +1,4 @@
--- `poly::middle_at` meets its contract: by whether place i is in the range. Assumes nothing.
+-- By whether place i is in the range.
 use borrow.Author.Tests.{lt-ltb, le-ltb}
 use Rattle.poly.specs.Coefficients.{middleAt}
 use borrow.Author.Needs.{needs}
@@ -14,5 +14,4 @@ unfolding middleAt
 returns-2 c = simp (le-ltb _ _ (c .if1 .left))
 
 pub middle-at-spec : {M : Type 1} → statement M
-middle-at-spec =
-    tie.close (tie.spec (λ c. search needs) (λ c. search needs) (λ c. search needs) (λ c. search needs) returns returns-2)
+middle-at-spec = tie.close (tie.spec (λ c. search needs) (λ c. search needs) (λ c. search needs) (λ c. search needs) returns returns-2)

@@ -1,4 +1,4 @@
--- `poly::refusal` meets its contract: by the conditions, in their order. Assumes nothing.
+-- By the conditions, in their order.
 use borrow.Author.Tests.{le-leb, lt-leb}
 use Rattle.poly.specs.Coefficients.{refusalBy}
 use Rattle.poly.proofs.refusal.Statement.{statement}

@@ -1,4 +1,4 @@
--- `poly::refused` meets its contract: zeros all over. Assumes nothing.
+-- Zeros all over.
 use borrow.Author.Needs.{needs}
 use Rattle.poly.proofs.refused.Statement.{statement}
 use Rattle.poly.proofs.refused.Tie as tie

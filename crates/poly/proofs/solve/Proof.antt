@@ -1,4 +1,4 @@
--- `poly::solve` meets its contract: solved with all logarithms.
+-- Solved with all logarithms.
 use mathlib.Core.Path.{refl}
 use borrow.Author.Needs.{needs}
 use Rattle.poly.proofs.solve.Statement.{statement}

@@ -1,4 +1,4 @@
--- `poly::solve_by` meets its contract: the refusals, and the polynomial without its zeros, with as many logarithms as are asked for.
+-- The refusals, and the polynomial without its zeros, with as many logarithms as are asked for.
 use Rattle.poly.proofs.Coefficients.{room}
 use Rattle.poly.proofs.Steps.{new-degree, solve-refused, solve-answered}
 use borrow.Author.Needs.{needs}
@@ -60,24 +60,12 @@ returns-2 c =
     let f = i .before .before in
     let t = f .before .trimmed .ensures .0 in
     let r = room _ _ _ _ _ t (z .leading-zeros .ensures) (i .before .refusal .ensures) (i .if1 .left) in
-    solve-answered _ _ _ _ _ (f .all-finite .ensures) t (i .before .refusal .ensures) _ _ _ (i .if1 .left) (z .leading-zeros .ensures) (l .before .middle .ensures)
+    solve-answered _ _ _ _ _ (f .all-finite .ensures) t (i .before .refusal .ensures) _ _ _ (i .if1 .left) (z .leading-zeros .ensures)
+    (l .before .middle .ensures)
     (c .before .max .ensures) _ _ _ _ (search needs) (l .logs .ensures .1) (l .logs .ensures .2) (w .with-logs .ensures) (c .finished .ensures)
 
 pub solve-by-spec : {M : Type 1} → statement M
 solve-by-spec =
-    tie.close
-    (tie.spec
-    (λ c κs. search needs)
-    (λ c κs. search needs)
-    (λ c κs. search needs)
-    (λ c κs. search needs)
-    returns
-    (λ c κs. search needs)
-    middle-requires
-    sub-d
-    sub-d-2
-    logs-requires
-    with-logs-requires
-    (λ c κs. search needs)
-    finished-requires
+    tie.close (tie.spec (λ c κs. search needs) (λ c κs. search needs) (λ c κs. search needs) (λ c κs. search needs) returns
+    (λ c κs. search needs) middle-requires sub-d sub-d-2 logs-requires with-logs-requires (λ c κs. search needs) finished-requires
     returns-2)

@@ -1,4 +1,4 @@
--- `poly::trimmed` meets its contract: each turn drops a zero. Assumes nothing.
+-- Each turn drops a zero.
 use mathlib.Core.Path.{_≡_, refl, sym, _∙_}
 use Prim.Native.Nat.{_≤_}
 use borrow.Author.Needs.{needs}
@@ -29,16 +29,5 @@ returns-2 c = (sym (trim-end _ _ (search needs)) ∙ c .before .loop .inv .1, se
 
 pub trimmed-spec : {M : Type 1} → statement M
 trimmed-spec =
-    tie.close
-    (tie.spec
-    Inv-loop
-    μ-loop
-    loop-holds
-    (λ c. search needs)
-    (λ c. search needs)
-    (λ c. search needs)
-    (λ c. search needs)
-    (λ c. search needs)
-    loop-again
-    returns
-    returns-2)
+    tie.close (tie.spec Inv-loop μ-loop loop-holds (λ c. search needs) (λ c. search needs) (λ c. search needs) (λ c. search needs)
+    (λ c. search needs) loop-again returns returns-2)

@@ -18,5 +18,4 @@ returns c =
     ∙ first-turn (f .nlin) (withLinIn f) _
 
 pub with-lins-spec : {M : Type 1} → statement M
-with-lins-spec =
-    tie.close (tie.spec (λ c κs. search needs) (λ c κs. search needs) (λ c κs. search needs) (λ c κs. search needs) returns)
+with-lins-spec = tie.close (tie.spec (λ c κs. search needs) (λ c κs. search needs) (λ c κs. search needs) (λ c κs. search needs) returns)

@@ -1,4 +1,4 @@
--- `poly::zero_roots` meets its contract: by whether there are zeros. Assumes nothing.
+-- By whether there are zeros.
 use mathlib.Core.Path.{_∙_}
 use Rattle.poly.proofs.Arrays.{zeros-some, zeros-none}
 use borrow.Author.Needs.{needs}

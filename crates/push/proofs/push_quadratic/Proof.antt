@@ -1,4 +1,4 @@
--- `push_quadratic` is its definition: what `push_rooted` gives from the factor's own discriminant. Assumes nothing.
+-- `push_quadratic` is its definition: what `push_rooted` gives from the factor's own discriminant.
 use mathlib.Core.Path.{_∙_}
 use Rattle.push.proofs.Laws.{same-push}
 use borrow.Author.Needs.{needs}

@@ -1,4 +1,3 @@
--- `ferrari` is its definition: each way out of the test is an arm of it. Assumes nothing.
 use mathlib.Core.Path.{sym, _∙_}
 use borrow.Author.Needs.{needs}
 use Rattle.quartic.specs.Quartic.{ferrariOf}
@@ -11,17 +10,19 @@ returns c = simp (c .sqrt .ensures, sym (c .before .before .is-clear .ensures) �
 
 returns-2 : tie.Need-returns-2
 unfolding ferrariOf
-returns-2 c = simp (c .over-or .ensures, c .before .copysign .ensures, c .before .before .sqrt2 .ensures, c .before .before .before .max .ensures, sym (c .before .before .before .before .before .is-clear .ensures) ∙ c .before .before .before .before .if1 .left)
+returns-2 c =
+    let at-max = c .before .before .before in
+    let at-if1 = at-max .before in
+    let at-is-clear = at-if1 .before in
+    simp (
+      c .over-or .ensures,
+      c .before .copysign .ensures,
+      c .before .before .sqrt2 .ensures,
+      at-max .max .ensures,
+      sym (at-is-clear .is-clear .ensures) ∙ at-if1 .if1 .left,
+    )
 
 pub ferrari-spec : {M : Type 1} → statement M
 ferrari-spec =
-    tie.close
-    (tie.spec
-    (λ c κs. search needs)
-    (λ c κs. search needs)
-    returns
-    (λ c κs. search needs)
-    (λ c κs. search needs)
-    (λ c κs. search needs)
-    (λ c κs. search needs)
-    returns-2)
+    tie.close (tie.spec (λ c κs. search needs) (λ c κs. search needs) returns (λ c κs. search needs) (λ c κs. search needs)
+    (λ c κs. search needs) (λ c κs. search needs) returns-2)

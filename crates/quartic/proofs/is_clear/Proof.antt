@@ -1,4 +1,4 @@
--- `is_clear` is the test of two parts: the first alone decides where it fails. Assumes nothing.
+-- `is_clear` is the test of two parts: the first alone decides where it fails.
 use borrow.Author.Needs.{needs}
 use Rattle.quartic.specs.Quartic.{isClearOf}
 use Rattle.quartic.proofs.is_clear.Statement.{statement}
@@ -6,7 +6,10 @@ use Rattle.quartic.proofs.is_clear.Tie as tie
 
 returns : tie.Need-returns
 unfolding isClearOf
-returns c = simp (c .is-finite .ensures, simp (c .before .before .before .before .abs .ensures, c .before .before .before .abs2 .ensures, c .before .before .sqrt .ensures) at (c .before .if1 .taken))
+returns c =
+    let at-abs2 = c .before .before .before in
+    let at-abs = at-abs2 .before in
+    simp (c .is-finite .ensures, simp (at-abs .abs .ensures, at-abs2 .abs2 .ensures, c .before .before .sqrt .ensures) at (c .before .if1 .taken))
 
 returns-2 : tie.Need-returns-2
 unfolding isClearOf
@@ -14,5 +17,4 @@ returns-2 c = simp (simp (c .before .before .before .abs .ensures, c .before .be
 
 pub is-clear-spec : {M : Type 1} → statement M
 is-clear-spec =
-    tie.close
-    (tie.spec (λ c κs. search needs) (λ c κs. search needs) (λ c κs. search needs) (λ c κs. search needs) returns returns-2)
+    tie.close (tie.spec (λ c κs. search needs) (λ c κs. search needs) (λ c κs. search needs) (λ c κs. search needs) returns returns-2)

@@ -1,4 +1,4 @@
--- `resolvent` is its definition, over what its steps give; the closed form gives one root or three. Assumes nothing.
+-- `resolvent` is its definition, over what its steps give; the closed form gives one root or three.
 use borrow.Author.Needs.{needs}
 use Rattle.quartic.specs.Quartic.{resolventOf}
 use Rattle.cubic.proofs.Laws.{counts}
@@ -13,5 +13,4 @@ unfolding resolventOf
 returns c = rw (c .newton-cubic .ensures, c .before .largest .ensures, c .before .before .before .cubic-closed-form .ensures)
 
 pub resolvent-spec : {M : Type 1} → statement M
-resolvent-spec =
-    tie.close (tie.spec (λ c κs. search needs) largest-requires (λ c κs. search needs) returns)
+resolvent-spec = tie.close (tie.spec (λ c κs. search needs) largest-requires (λ c κs. search needs) returns)

@@ -1,4 +1,4 @@
--- `quotient::acc_at` is its definition: the products left, taken off the present number, give the result. Assumes nothing.
+-- `quotient::acc_at` is its definition: the products left, taken off the present number, give the result.
 use mathlib.Core.Path.{_≡_, sym, _∙_}
 use Prim.Native.Nat.{_+_, _-_, _≤_, _<_}
 use native.Mathlib.Nat.{add-sub-cancel}
@@ -26,21 +26,6 @@ returns c = rw (sym (c .before .before .before .smaller .ensures .0)) (sym (up-e
 
 pub acc-at-spec : {M : Type 1} → statement M
 acc-at-spec =
-    tie.close
-    (tie.spec
-    Inv-loop
-    μ-loop
-    (λ c κs. search needs)
-    (λ c. search needs)
-    (λ c. search needs)
-    loop-holds
-    (λ c. search needs)
-    (λ c. search needs)
-    (λ c. search needs)
-    (λ c. search needs)
-    (λ c. search needs)
-    (λ c. search needs)
-    (λ c. search needs)
-    (λ c. search needs)
-    loop-again
-    returns)
+    tie.close (tie.spec Inv-loop μ-loop (λ c κs. search needs) (λ c. search needs) (λ c. search needs) loop-holds (λ c. search needs)
+    (λ c. search needs) (λ c. search needs) (λ c. search needs) (λ c. search needs) (λ c. search needs) (λ c. search needs)
+    (λ c. search needs) loop-again returns)

@@ -1,4 +1,3 @@
--- `quotient::mul` is its definition. Assumes nothing.
 use Rattle.quotient.specs.Quotient.{mulOf}
 use borrow.Author.Needs.{needs}
 use Rattle.quotient.proofs.mul.Statement.{statement}
@@ -10,13 +9,5 @@ returns c = cc
 
 pub mul-spec : {M : Type 1} → statement M
 mul-spec =
-    tie.close
-    (tie.spec
-    (λ c κs. search needs)
-    (λ c κs. search needs)
-    (λ c κs. search needs)
-    (λ c κs. search needs)
-    (λ c κs. search needs)
-    (λ c. search needs)
-    (λ c. search needs)
-    returns)
+    tie.close (tie.spec (λ c κs. search needs) (λ c κs. search needs) (λ c κs. search needs) (λ c κs. search needs) (λ c κs. search needs)
+    (λ c. search needs) (λ c. search needs) returns)

@@ -1,4 +1,4 @@
--- `quotient::quotient` is its definition: the coefficients left, found from the present ones, give the quotient. Assumes nothing.
+-- `quotient::quotient` is its definition: the coefficients left, found from the present ones, give the quotient.
 use mathlib.Core.Path.{_≡_, sym, _∙_}
 use Prim.Native.Nat.{_+_, _-_, _≤_}
 use native.Mathlib.Nat.{sub-zero}
@@ -26,17 +26,5 @@ returns c = sym (up-end _ _ _ _ (search needs)) ∙ c .before .loop .inv .1
 
 pub quotient-spec : {M : Type 1} → statement M
 quotient-spec =
-    tie.close
-    (tie.spec
-    Inv-loop
-    μ-loop
-    loop-holds
-    (λ c. search needs)
-    (λ c κs. search needs)
-    (λ c. search needs)
-    (λ c. search needs)
-    (λ c. search needs)
-    (λ c. search needs)
-    (λ c. search needs)
-    loop-again
-    returns)
+    tie.close (tie.spec Inv-loop μ-loop loop-holds (λ c. search needs) (λ c κs. search needs) (λ c. search needs) (λ c. search needs)
+    (λ c. search needs) (λ c. search needs) (λ c. search needs) loop-again returns)

@@ -1,4 +1,3 @@
--- `quotient::usable` is its definition. Assumes nothing.
 use mathlib.Core.Path.{sym, _∙_}
 use Prim.Native.Nat.{_+_}
 use lib.Seq.{length-take-le}
@@ -24,15 +23,5 @@ returns-3 c = rw (sym (c .before .all-finite .ensures) ∙ c .if1 .left)
 
 pub usable-spec : {M : Type 1} → statement M
 usable-spec =
-    tie.close
-    (tie.spec
-    (λ c. search needs)
-    (λ c. search needs)
-    slice-aggregate-all-finite
-    (λ c κs. search needs)
-    (λ c. search needs)
-    (λ c. search needs)
-    (λ c. search needs)
-    returns
-    returns-2
-    returns-3)
+    tie.close (tie.spec (λ c. search needs) (λ c. search needs) slice-aggregate-all-finite (λ c κs. search needs) (λ c. search needs)
+    (λ c. search needs) (λ c. search needs) returns returns-2 returns-3)

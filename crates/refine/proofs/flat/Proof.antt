@@ -1,4 +1,3 @@
--- `flat` is its definition, by its tests. Assumes nothing.
 use Rattle.refine.specs.Newton.{flatOf}
 use Rattle.refine.proofs.flat.Statement.{statement}
 use Rattle.refine.proofs.flat.Tie as tie
@@ -12,8 +11,4 @@ unfolding flatOf
 returns-2 c = simp (c .if1 .left)
 
 pub flat-spec : {M : Type 1} → statement M
-flat-spec =
-    tie.close
-    (tie.spec
-    returns
-    returns-2)
+flat-spec = tie.close (tie.spec returns returns-2)

@@ -1,4 +1,3 @@
--- `is_settled` is its definition, by its test. Assumes nothing.
 use Rattle.refine.specs.Refine.{isSettledOf}
 use borrow.Author.Needs.{needs}
 use Rattle.refine.proofs.is_settled.Statement.{statement}
@@ -13,9 +12,4 @@ unfolding isSettledOf
 returns-2 c = simp (c .if1 .left)
 
 pub is-settled-spec : {M : Type 1} → statement M
-is-settled-spec =
-    tie.close
-    (tie.spec
-    (λ c κs. search needs)
-    returns
-    returns-2)
+is-settled-spec = tie.close (tie.spec (λ c κs. search needs) returns returns-2)

@@ -1,4 +1,4 @@
--- `newton_cubic` is its definition: the turns left, from the present place, give the result. Assumes nothing.
+-- `newton_cubic` is its definition: the turns left, from the present place, give the result.
 use mathlib.Core.Path.{_≡_, refl, sym, _∙_}
 use Prim.Native.Nat.{_-_, _≤_}
 use Rattle.facts.specs.Turns.{turnsOf, turns-stop, turns-go, turns-end}
@@ -26,33 +26,34 @@ returns c =
 
 returns-2 : tie.Need-returns-2 Inv-loop μ-loop
 returns-2 c =
-    let l = c .before .before .before .before .before .before .before .loop in
-    let steep = sym (c .before .before .before .before .before .flat .ensures) ∙ c .before .before .before .before .if1 .left in
-    sym (turns-stop _ _ _ (newton-held _ _ (l .inv .1) steep (c .before .before .value-slope2 .ensures) (sym (c .before .no-gain .ensures) ∙ c .if2 .taken))) ∙ l .inv .2
+    let at-value-slope2 = c .before .before in
+    let at-if1 = at-value-slope2 .before .before in
+    let at-flat = at-if1 .before in
+    let at-loop = at-flat .before .before in
+    let l = at-loop .loop in
+    let steep = sym (at-flat .flat .ensures) ∙ at-if1 .if1 .left in
+    sym (turns-stop _ _ _ (newton-held _ _ (l .inv .1) steep (at-value-slope2 .value-slope2 .ensures)
+    (sym (c .before .no-gain .ensures) ∙ c .if2 .taken))) ∙ l .inv .2
 
 loop-again : tie.Need-loop-again Inv-loop μ-loop
 loop-again c =
-    let l = c .before .before .before .before .before .before .before .loop in
-    let steep = sym (c .before .before .before .before .before .flat .ensures) ∙ c .before .before .before .before .if1 .left in
-    (search needs, c .before .before .value-slope2 .ensures, sym (turns-go _ 4 _ _ _ (search needs) (newton-moved _ _ (l .inv .1) steep (c .before .before .value-slope2 .ensures) (sym (c .before .no-gain .ensures) ∙ c .if2 .left))) ∙ l .inv .2)
+    let at-value-slope2 = c .before .before in
+    let at-if1 = at-value-slope2 .before .before in
+    let at-flat = at-if1 .before in
+    let at-loop = at-flat .before .before in
+    let l = at-loop .loop in
+    let steep = sym (at-flat .flat .ensures) ∙ at-if1 .if1 .left in (
+      search needs,
+      at-value-slope2 .value-slope2 .ensures,
+      sym
+          (turns-go _ 4 _ _ _ (search needs) (newton-moved _ _ (l .inv .1) steep (at-value-slope2 .value-slope2 .ensures)
+          (sym (c .before .no-gain .ensures) ∙ c .if2 .left))) ∙ l .inv .2,
+    )
 
 returns-3 : tie.Need-returns-3 Inv-loop μ-loop
 returns-3 c = sym (turns-end _ 4 _ _ (search needs)) ∙ c .before .loop .inv .2
 
 pub newton-cubic-spec : {M : Type 1} → statement M
 newton-cubic-spec =
-    tie.close
-    (tie.spec
-    Inv-loop
-    μ-loop
-    (λ c κs. search needs)
-    loop-holds
-    (λ c κs. search needs)
-    returns
-    (λ c κs. search needs)
-    (λ c κs. search needs)
-    returns-2
-    (λ c. search needs)
-    (λ c. search needs)
-    loop-again
-    returns-3)
+    tie.close (tie.spec Inv-loop μ-loop (λ c κs. search needs) loop-holds (λ c κs. search needs) returns (λ c κs. search needs)
+    (λ c κs. search needs) returns-2 (λ c. search needs) (λ c. search needs) loop-again returns-3)

@@ -1,4 +1,3 @@
--- `no_gain` is its definition, by its test. Assumes nothing.
 use Rattle.refine.specs.Newton.{noGainOf}
 use borrow.Author.Needs.{needs}
 use Rattle.refine.proofs.no_gain.Statement.{statement}
@@ -13,11 +12,4 @@ unfolding noGainOf
 returns-2 c = simp (c .is-nan .ensures, simp (c .before .before .before .abs .ensures, c .before .before .abs2 .ensures) at (c .before .if1 .left))
 
 pub no-gain-spec : {M : Type 1} → statement M
-no-gain-spec =
-    tie.close
-    (tie.spec
-    (λ c κs. search needs)
-    (λ c κs. search needs)
-    returns
-    (λ c κs. search needs)
-    returns-2)
+no-gain-spec = tie.close (tie.spec (λ c κs. search needs) (λ c κs. search needs) returns (λ c κs. search needs) returns-2)

@@ -1,4 +1,3 @@
--- `no_less` is its definition, by its test. Assumes nothing.
 use Rattle.refine.specs.Refine.{noLessOf}
 use borrow.Author.Needs.{needs}
 use Rattle.refine.proofs.no_less.Statement.{statement}
@@ -13,9 +12,4 @@ unfolding noLessOf
 returns-2 c = simp (c .before .if1 .left, c .is-nan .ensures)
 
 pub no-less-spec : {M : Type 1} → statement M
-no-less-spec =
-    tie.close
-    (tie.spec
-    returns
-    (λ c κs. search needs)
-    returns-2)
+no-less-spec = tie.close (tie.spec returns (λ c κs. search needs) returns-2)

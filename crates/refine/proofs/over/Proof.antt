@@ -1,4 +1,3 @@
--- `over` is its definition, by its test. Assumes nothing.
 use Rattle.refine.specs.Refine.{overOf}
 use Rattle.refine.proofs.over.Statement.{statement}
 use Rattle.refine.proofs.over.Tie as tie
@@ -12,8 +11,4 @@ unfolding overOf
 returns-2 c = simp (c .if1 .left)
 
 pub over-spec : {M : Type 1} → statement M
-over-spec =
-    tie.close
-    (tie.spec
-    returns
-    returns-2)
+over-spec = tie.close (tie.spec returns returns-2)

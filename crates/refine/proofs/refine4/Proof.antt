@@ -1,4 +1,4 @@
--- `refine4` is its definition: before each turn, the turns left give the result. Assumes nothing.
+-- `refine4` is its definition: before each turn, the turns left give the result.
 use Prim.Native.Nat.{_-_}
 use Rattle.square.proofs.Steps.{no-step4, a-step4}
 use Rattle.refine.specs.Refine.{refineOf}
@@ -22,40 +22,35 @@ returns c = stop-settled (c .before .before .before .loop .inv) (c .before .is-s
 
 returns-2 : tie.Need-returns-2 Inv-loop μ-loop
 returns-2 c =
-    let p = c .before .before .before .before in
-    stop-stuck (p .before .before .before .loop .inv) (p .before .is-settled .ensures) (p .if1 .left) (c .before .before .before .jacobian4 .ensures) (no-step4 _ (c .before .before .trial4 .ensures) (c .if2 .taken))
+    let at-jacobian4 = c .before .before .before in
+    let at-if1 = at-jacobian4 .before in
+    stop-stuck (at-if1 .before .before .before .loop .inv) (at-if1 .before .is-settled .ensures) (at-if1 .if1 .left)
+    (at-jacobian4 .jacobian4 .ensures) (no-step4 _ (c .before .before .trial4 .ensures) (c .if2 .taken))
 
 returns-3 : tie.Need-returns-3 Inv-loop μ-loop
 returns-3 c =
-    let q = c .before .before .before .before in
-    let p = q .before .before .before .before in
-    stop-held (p .before .before .before .loop .inv) (p .before .is-settled .ensures) (p .if1 .left) (q .before .before .before .jacobian4 .ensures) (a-step4 _ (q .before .before .trial4 .ensures) (q .if2 .left)) (known4 (c .before .before .at4 .ensures)) (c .before .no-less .ensures) (c .if3 .taken)
+    let after-at4 = c .before .before in
+    let at-if2 = after-at4 .before .before in
+    let at-jacobian4 = at-if2 .before .before .before in
+    let at-if1 = at-jacobian4 .before in
+    stop-held (at-if1 .before .before .before .loop .inv) (at-if1 .before .is-settled .ensures) (at-if1 .if1 .left)
+    (at-jacobian4 .jacobian4 .ensures) (a-step4 _ (at-if2 .before .before .trial4 .ensures) (at-if2 .if2 .left))
+    (known4 (after-at4 .at4 .ensures)) (c .before .no-less .ensures) (c .if3 .taken)
 
 loop-again : tie.Need-loop-again Inv-loop μ-loop
 loop-again c =
-    let q = c .before .before .before .before in
-    let p = q .before .before .before .before in
-    next-turn (p .before .before .before .loop .inv) (p .before .is-settled .ensures) (p .if1 .left) (q .before .before .before .jacobian4 .ensures) (a-step4 _ (q .before .before .trial4 .ensures) (q .if2 .left)) (known4 (c .before .before .at4 .ensures)) (c .before .no-less .ensures) (search needs) (c .if3 .left)
+    let after-at4 = c .before .before in
+    let at-if2 = after-at4 .before .before in
+    let at-jacobian4 = at-if2 .before .before .before in
+    let at-if1 = at-jacobian4 .before in
+    next-turn (at-if1 .before .before .before .loop .inv) (at-if1 .before .is-settled .ensures) (at-if1 .if1 .left)
+    (at-jacobian4 .jacobian4 .ensures) (a-step4 _ (at-if2 .before .before .trial4 .ensures) (at-if2 .if2 .left))
+    (known4 (after-at4 .at4 .ensures)) (c .before .no-less .ensures) (search needs) (c .if3 .left)
 
 returns-4 : tie.Need-returns-4 Inv-loop μ-loop
 returns-4 c = after-turns (c .before .loop .inv) (search needs)
 
 pub refine4-spec : {M : Type 1} → statement M
 refine4-spec =
-    tie.close
-    (tie.spec
-    Inv-loop
-    μ-loop
-    loop-holds
-    (λ c κs. search needs)
-    returns
-    (λ c κs. search needs)
-    (λ c κs. search needs)
-    returns-2
-    (λ c κs. search needs)
-    (λ c κs. search needs)
-    returns-3
-    (λ c. search needs)
-    (λ c. search needs)
-    loop-again
-    returns-4)
+    tie.close (tie.spec Inv-loop μ-loop loop-holds (λ c κs. search needs) returns (λ c κs. search needs) (λ c κs. search needs) returns-2
+    (λ c κs. search needs) (λ c κs. search needs) returns-3 (λ c. search needs) (λ c. search needs) loop-again returns-4)

@@ -1,4 +1,4 @@
--- `weigh_row` is its definition: the places left, done to the present row, give the result. Assumes nothing.
+-- `weigh_row` is its definition: the places left, done to the present row, give the result.
 use mathlib.Core.Path.{_≡_, refl, sym, _∙_}
 use Prim.Native.Nat.{_-_}
 use native.Mathlib.Nat.{sub-zero}
@@ -11,7 +11,8 @@ use Rattle.refine.proofs.weigh_row.Statement.{statement}
 use Rattle.refine.proofs.weigh_row.Tie as tie
 
 abbrev Inv-loop : tie.InvT-loop
-Inv-loop row₀ m i₀ row i = (length row ≡ length row₀) × (countUp (length row₀) (weighRowStep m) (length row₀ - i) row ≡ countUp (length row₀) (weighRowStep m) (length row₀) row₀)
+Inv-loop row₀ m i₀ row i =
+    (length row ≡ length row₀) × (countUp (length row₀) (weighRowStep m) (length row₀ - i) row ≡ countUp (length row₀) (weighRowStep m) (length row₀) row₀)
 
 abbrev μ-loop : tie.MeasureT-loop
 μ-loop row₀ m i₀ row i = length row₀ - i
@@ -32,18 +33,5 @@ returns-2 c = if-left _ _ (c .if1 .left) refl
 
 pub weigh-row-spec : {M : Type 1} → statement M
 weigh-row-spec =
-    tie.close
-    (tie.spec
-    Inv-loop
-    μ-loop
-    loop-holds
-    (λ c. search needs)
-    (λ c. search needs)
-    (λ c. search needs)
-    (λ c. search needs)
-    (λ c. search needs)
-    (λ c. search needs)
-    loop-again
-    (λ c. search needs)
-    returns
-    returns-2)
+    tie.close (tie.spec Inv-loop μ-loop loop-holds (λ c. search needs) (λ c. search needs) (λ c. search needs) (λ c. search needs)
+    (λ c. search needs) (λ c. search needs) loop-again (λ c. search needs) returns returns-2)

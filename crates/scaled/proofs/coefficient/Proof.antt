@@ -1,4 +1,4 @@
--- `scaled::coefficient` meets its contract: by the place and the degree. Assumes nothing.
+-- By the place and the degree.
 use mir.Facts.{toZ-ofZ}
 use borrow.Author.Tests.{le-leb, lt-leb}
 use Rattle.scaled.proofs.Signed.{read}
@@ -11,7 +11,14 @@ returns : tie.Need-returns
 unfolding coefficientOf
 returns c =
     let f = c .before .before .before .fits in
-    rw (le-leb _ _ (c .before .before .if1 .taken), c .ldexp .ensures, read _ (c .before .shift .ok), c .before .shift .ensures, toZ-ofZ (f .e), toZ-ofZ (f .top))
+    rw (
+      le-leb _ _ (c .before .before .if1 .taken),
+      c .ldexp .ensures,
+      read _ (c .before .shift .ok),
+      c .before .shift .ensures,
+      toZ-ofZ (f .e),
+      toZ-ofZ (f .top),
+    )
 
 returns-2 : tie.Need-returns-2
 unfolding coefficientOf

@@ -1,4 +1,3 @@
--- `scaled::coefficients` meets its contract: place by place. Assumes nothing.
 use mir.Facts.{toZ-ofZ}
 use Rattle.scaled.proofs.Built.{coefficients-are}
 use borrow.Author.Needs.{needs}
@@ -16,4 +15,6 @@ returns c =
     (l1 .coefficient .ensures) (l2 .coefficient2 .ensures) (l3 .coefficient3 .ensures) (l4 .coefficient4 .ensures) (c .coefficient5 .ensures)
 
 pub coefficients-spec : {M : Type 1} → statement M
-coefficients-spec = tie.close (tie.spec (λ c κs. search needs) (λ c κs. search needs) (λ c κs. search needs) (λ c κs. search needs) (λ c κs. search needs) returns)
+coefficients-spec =
+    tie.close (tie.spec (λ c κs. search needs) (λ c κs. search needs) (λ c κs. search needs) (λ c κs. search needs) (λ c κs. search needs)
+    returns)

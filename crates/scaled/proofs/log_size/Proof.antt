@@ -1,4 +1,4 @@
--- `scaled::log_size` meets its contract: by the place and the degree. Assumes nothing.
+-- By the place and the degree.
 use mir.Facts.{toZ-ofZ}
 use borrow.Author.Tests.{le-leb, lt-leb}
 use Rattle.scaled.proofs.Signed.{read}
@@ -18,5 +18,4 @@ unfolding logSizeOf
 returns-2 c = rw (lt-leb _ _ (c .before .if1 .left), c .infinity .ensures)
 
 pub log-size-spec : {M : Type 1} → statement M
-log-size-spec =
-    tie.close (tie.spec (λ c κs. search needs) (λ c. search needs) returns (λ c κs. search needs) returns-2)
+log-size-spec = tie.close (tie.spec (λ c κs. search needs) (λ c. search needs) returns (λ c κs. search needs) returns-2)

@@ -1,4 +1,3 @@
--- `scaled::monic` meets its contract: place by place. Assumes nothing.
 use Rattle.scaled.specs.Scaled.{monicOf}
 use borrow.Author.Needs.{needs}
 use Rattle.scaled.proofs.monic.Statement.{statement}
@@ -9,4 +8,6 @@ unfolding monicOf
 returns c = cc
 
 pub monic-spec : {M : Type 1} → statement M
-monic-spec = tie.close (tie.spec (λ c κs. search needs) (λ c κs. search needs) (λ c κs. search needs) (λ c κs. search needs) (λ c κs. search needs) returns)
+monic-spec =
+    tie.close (tie.spec (λ c κs. search needs) (λ c κs. search needs) (λ c κs. search needs) (λ c κs. search needs) (λ c κs. search needs)
+    returns)

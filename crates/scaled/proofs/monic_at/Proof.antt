@@ -1,4 +1,4 @@
--- `scaled::monic_at` meets its contract: by the place and the degree. Assumes nothing.
+-- By the place and the degree.
 use borrow.Author.Tests.{lt-ltb, le-ltb, eq-eqb, ne-eqb}
 use Rattle.scaled.specs.Scaled.{monicAt}
 use borrow.Author.Needs.{needs}
@@ -18,4 +18,5 @@ unfolding monicAt
 returns-3 c = rw (le-ltb _ _ (c .before .if1 .left), ne-eqb _ _ (c .if2 .left))
 
 pub monic-at-spec : {M : Type 1} → statement M
-monic-at-spec = tie.close (tie.spec (λ c. search needs) (λ c. search needs) (λ c. search needs) (λ c. search needs) returns returns-2 returns-3)
+monic-at-spec =
+    tie.close (tie.spec (λ c. search needs) (λ c. search needs) (λ c. search needs) (λ c. search needs) returns returns-2 returns-3)

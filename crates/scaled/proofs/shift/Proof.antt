@@ -1,4 +1,4 @@
--- `scaled::shift` meets its contract: small numbers, computed in an i32. Assumes nothing.
+-- Small numbers, computed in an i32.
 use borrow.Author.Needs.{needs}
 use Rattle.scaled.specs.Scaled.{shiftOf}
 use Rattle.scaled.proofs.Signed.{product, difference}

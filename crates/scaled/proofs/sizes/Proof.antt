@@ -1,4 +1,3 @@
--- `scaled::sizes` meets its contract: place by place. Assumes nothing.
 use Rattle.scaled.specs.Scaled.{sizesOf}
 use borrow.Author.Needs.{needs}
 use Rattle.scaled.proofs.sizes.Statement.{statement}
@@ -10,16 +9,5 @@ returns c = cc
 
 pub sizes-spec : {M : Type 1} → statement M
 sizes-spec =
-    tie.close
-    (tie.spec
-    (λ c. search needs)
-    (λ c κs. search needs)
-    (λ c. search needs)
-    (λ c κs. search needs)
-    (λ c. search needs)
-    (λ c κs. search needs)
-    (λ c. search needs)
-    (λ c κs. search needs)
-    (λ c. search needs)
-    (λ c κs. search needs)
-    returns)
+    tie.close (tie.spec (λ c. search needs) (λ c κs. search needs) (λ c. search needs) (λ c κs. search needs) (λ c. search needs)
+    (λ c κs. search needs) (λ c. search needs) (λ c κs. search needs) (λ c. search needs) (λ c κs. search needs) returns)

@@ -1,4 +1,4 @@
--- `scaled::top_of` meets its contract: small numbers, computed in an i32. Assumes nothing.
+-- Small numbers, computed in an i32.
 use mathlib.Core.Path.{sym, subst}
 use Prim.Native.Nat.{_≤_, _^_}
 use lib.IntN.{ℤ, natAbs}

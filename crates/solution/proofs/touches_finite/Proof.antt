@@ -1,4 +1,4 @@
--- `solution::touches_finite` meets its contract: the reply decides where the vertex is finite. Assumes nothing.
+-- The reply decides where the vertex is finite.
 use mathlib.Core.Path.{sym, _∙_}
 use borrow.Author.Needs.{needs}
 use Rattle.solution.proofs.touches_finite.Statement.{statement}

@@ -1,4 +1,4 @@
--- `split::exp2` meets its contract, by whether x is a NaN.
+-- By whether x is a NaN.
 use mathlib.Core.Path.{sym, _∙_}
 use Rattle.split.specs.Gap.{exp2Of}
 use borrow.Author.Needs.{needs}

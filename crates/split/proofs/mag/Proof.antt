@@ -1,4 +1,3 @@
--- `split::mag` meets its contract: the formula as it stands. Assumes nothing.
 use Rattle.split.specs.Hull.{magOf}
 use borrow.Author.Needs.{needs}
 use Rattle.split.proofs.mag.Statement.{statement}
@@ -10,16 +9,5 @@ returns c = rw (c .width .ensures)
 
 pub mag-spec : {M : Type 1} → statement M
 mag-spec =
-    tie.close
-    (tie.spec
-    (λ c. search needs)
-    (λ c. search needs)
-    (λ c. search needs)
-    (λ c. search needs)
-    (λ c. search needs)
-    (λ c. search needs)
-    (λ c. search needs)
-    (λ c. search needs)
-    (λ c. search needs)
-    (λ c κs. search needs)
-    returns)
+    tie.close (tie.spec (λ c. search needs) (λ c. search needs) (λ c. search needs) (λ c. search needs) (λ c. search needs)
+    (λ c. search needs) (λ c. search needs) (λ c. search needs) (λ c. search needs) (λ c κs. search needs) returns)

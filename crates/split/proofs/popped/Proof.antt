@@ -1,4 +1,4 @@
--- `split::popped` meets its contract. The loop's invariant: what stays of the first k points is what stays of all. Assumes nothing.
+-- The loop's invariant: what stays of the first k points is what stays of all.
 use mathlib.Core.Path.{_≡_, refl, sym, ap, _∙_}
 use Prim.Native.Nat.{_≤_}
 use native.Mathlib.Omega.{arith}
@@ -22,39 +22,34 @@ loop-holds c = (search needs, refl)
 
 cross-requires : tie.Need-cross-requires Inv-loop μ-loop
 cross-requires c κs =
-    let p = c .before .before .before .before .pre in
-    let l = c .before .before in
-    let t = last-two _ _ (p .0) (l .before .loop .k) (l .loop-test .taken) (l .before .loop .inv .0) in
+    let at-loop-test = c .before .before in
+    let at-start = at-loop-test .before .before in
+    let p = at-start .pre in
+    let t = last-two _ _ (p .0) (at-loop-test .before .loop .k) (at-loop-test .loop-test .taken) (at-loop-test .before .loop .inv .0) in
     (t .0, (omega (arith, t .1), p .1))
 
 loop-again : tie.Need-loop-again Inv-loop μ-loop
 loop-again c =
-    let l = c .before .before .before .before in
-    (search needs, sym (pop-go _ _ _ _ (l .loop-test .taken) (ap (λ (y : Float). le zero64 y) (sym (c .before .cross .ensures)) ∙ c .if1 .taken)) ∙ l .before .loop .inv .1)
+    let at-cross = c .before in
+    let at-loop-test = at-cross .before .before .before in (
+      search needs,
+      sym (pop-go _ _ _ _ (at-loop-test .loop-test .taken)
+          (ap (λ (y : Float). le zero64 y) (sym (at-cross .cross .ensures)) ∙ c .if1 .taken)) ∙ at-loop-test .before .loop .inv .1,
+    )
 
 returns : tie.Need-returns Inv-loop μ-loop
 returns c =
-    let l = c .before .before .before .before in
-    (pop-stop _ _ _ _ (l .loop-test .taken) (ap (λ (y : Float). le zero64 y) (sym (c .before .cross .ensures)) ∙ c .if1 .left) ∙ l .before .loop .inv .1, search needs)
+    let at-cross = c .before in
+    let at-loop-test = at-cross .before .before .before in (
+      pop-stop _ _ _ _ (at-loop-test .loop-test .taken) (ap (λ (y : Float). le zero64 y) (sym (at-cross .cross .ensures)) ∙ c .if1 .left)
+          ∙ at-loop-test .before .loop .inv .1,
+      search needs,
+    )
 
 returns-2 : tie.Need-returns-2 Inv-loop μ-loop
 returns-2 c = (pop-end _ _ _ _ (c .loop-test .left) ∙ c .before .loop .inv .1, search needs)
 
 pub popped-spec : {M : Type 1} → statement M
 popped-spec =
-    tie.close
-    (tie.spec
-    Inv-loop
-    μ-loop
-    loop-holds
-    (λ c. search needs)
-    (λ c. search needs)
-    (λ c. search needs)
-    (λ c. search needs)
-    (λ c. search needs)
-    cross-requires
-    (λ c. search needs)
-    (λ c. search needs)
-    loop-again
-    returns
-    returns-2)
+    tie.close (tie.spec Inv-loop μ-loop loop-holds (λ c. search needs) (λ c. search needs) (λ c. search needs) (λ c. search needs)
+    (λ c. search needs) cross-requires (λ c. search needs) (λ c. search needs) loop-again returns returns-2)

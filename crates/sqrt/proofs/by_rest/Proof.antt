@@ -18,8 +18,9 @@ returns-2 c = λ h. absurd (omega arith)
 
 add-result : tie.Need-add-result
 add-result c =
-    let b = c .before .before .before .before in
-    omega (arith, b .before .before .before .pre)
+    let at-struct-known = c .before .before .before in
+    let at-borrow = at-struct-known .before in
+    omega (arith, at-borrow .before .before .before .pre)
 
 returns-3 : tie.Need-returns-3
 returns-3 c =
@@ -45,16 +46,5 @@ returns-4 c =
 
 pub by-rest-spec : {M : Type 1} → statement M
 by-rest-spec =
-    tie.close
-    (tie.spec
-    (λ c. search needs)
-    (λ c κs. search needs)
-    (λ c κs. search needs)
-    (λ c κs. search needs)
-    add-if1
-    returns
-    (λ c. search needs)
-    returns-2
-    add-result
-    returns-3
-    returns-4)
+    tie.close (tie.spec (λ c. search needs) (λ c κs. search needs) (λ c κs. search needs) (λ c κs. search needs) add-if1 returns
+    (λ c. search needs) returns-2 add-result returns-3 returns-4)

@@ -1,4 +1,4 @@
--- `lose` is its definition: the places left, done to the present row, give the result. Assumes nothing.
+-- `lose` is its definition: the places left, done to the present row, give the result.
 use mathlib.Core.Path.{_≡_, refl, sym, _∙_}
 use Prim.Native.Nat.{_-_}
 use lib.ListN.{length}
@@ -26,19 +26,5 @@ returns c = sym (up-end _ _ _ _ (search needs)) ∙ c .before .loop .inv .1
 
 pub lose-spec : {M : Type 1} → statement M
 lose-spec =
-    tie.close
-    (tie.spec
-    Inv-loop
-    μ-loop
-    loop-holds
-    (λ c. search needs)
-    (λ c. search needs)
-    (λ c. search needs)
-    (λ c. search needs)
-    (λ c. search needs)
-    (λ c. search needs)
-    (λ c. search needs)
-    (λ c. search needs)
-    loop-again
-    (λ c. search needs)
-    returns)
+    tie.close (tie.spec Inv-loop μ-loop loop-holds (λ c. search needs) (λ c. search needs) (λ c. search needs) (λ c. search needs)
+    (λ c. search needs) (λ c. search needs) (λ c. search needs) (λ c. search needs) loop-again (λ c. search needs) returns)

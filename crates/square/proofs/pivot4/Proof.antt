@@ -20,10 +20,12 @@ loop-holds c = (search needs, search needs, refl)
 
 loop-again : tie.Need-loop-again Inv-loop μ-loop
 loop-again c =
+    let at-loop-test = c .before .before .before in
+    let at-loop = at-loop-test .before in
     let e = c .larger .ensures in (
       search needs,
       rw e (larger-below _ _ _ _ _ (search needs) (search needs)),
-      rw e (sym (up-turn _ _ _ _ (search needs)) ∙ c .before .before .before .before .loop .inv .2),
+      rw e (sym (up-turn _ _ _ _ (search needs)) ∙ at-loop .loop .inv .2),
     )
 
 returns : tie.Need-returns Inv-loop μ-loop
@@ -31,22 +33,6 @@ returns c = (sym (up-end _ _ _ _ (search needs)) ∙ c .before .loop .inv .2, c 
 
 pub pivot4-spec : {M : Type 1} → statement M
 pivot4-spec =
-    tie.close
-    (tie.spec
-    Inv-loop
-    μ-loop
-    (λ c. search needs)
-    loop-holds
-    (λ c. search needs)
-    (λ c. search needs)
-    (λ c. search needs)
-    (λ c. search needs)
-    (λ c. search needs)
-    (λ c. search needs)
-    (λ c. search needs)
-    (λ c. search needs)
-    (λ c κs. search needs)
-    (λ c. search needs)
-    (λ c. search needs)
-    loop-again
-    returns)
+    tie.close (tie.spec Inv-loop μ-loop (λ c. search needs) loop-holds (λ c. search needs) (λ c. search needs) (λ c. search needs)
+    (λ c. search needs) (λ c. search needs) (λ c. search needs) (λ c. search needs) (λ c. search needs) (λ c κs. search needs)
+    (λ c. search needs) (λ c. search needs) loop-again returns)

@@ -1,4 +1,4 @@
--- `rest` is its definition: the terms left, taken from the present value, give the result. Assumes nothing.
+-- `rest` is its definition: the terms left, taken from the present value, give the result.
 use mathlib.Core.Path.{_≡_, refl, sym, _∙_}
 use Prim.Native.Nat.{_-_}
 use lib.ListN.{length}
@@ -26,16 +26,5 @@ returns c = sym (up-end _ _ _ _ (search needs)) ∙ c .before .loop .inv
 
 pub rest-spec : {M : Type 1} → statement M
 rest-spec =
-    tie.close
-    (tie.spec
-    Inv-loop
-    μ-loop
-    loop-holds
-    (λ c. search needs)
-    (λ c. search needs)
-    (λ c. search needs)
-    (λ c. search needs)
-    (λ c. search needs)
-    (λ c. search needs)
-    loop-again
-    returns)
+    tie.close (tie.spec Inv-loop μ-loop loop-holds (λ c. search needs) (λ c. search needs) (λ c. search needs) (λ c. search needs)
+    (λ c. search needs) (λ c. search needs) loop-again returns)

@@ -1,4 +1,4 @@
--- `sizes` is its definition: the numbers left, added to the present sum, give the result. Assumes nothing.
+-- `sizes` is its definition: the numbers left, added to the present sum, give the result.
 use mathlib.Core.Path.{_≡_, sym, _∙_}
 use Prim.Native.Nat.{_-_, _≤_}
 use native.Mathlib.Nat.{sub-zero}
@@ -27,15 +27,5 @@ returns c = sym (up-end _ _ _ _ (search needs)) ∙ c .before .loop .inv .1
 
 pub sizes-spec : {M : Type 1} → statement M
 sizes-spec =
-    tie.close
-    (tie.spec
-    Inv-loop
-    μ-loop
-    loop-holds
-    (λ c. search needs)
-    (λ c. search needs)
-    (λ c κs. search needs)
-    (λ c. search needs)
-    (λ c. search needs)
-    loop-again
-    returns)
+    tie.close (tie.spec Inv-loop μ-loop loop-holds (λ c. search needs) (λ c. search needs) (λ c κs. search needs) (λ c. search needs)
+    (λ c. search needs) loop-again returns)

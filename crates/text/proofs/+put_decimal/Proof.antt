@@ -1,5 +1,4 @@
--- `text::put_decimal` meets its contract, by recursion on n: the digits of n / 10, and the last one.
--- Assumes nothing.
+-- By recursion on n: the digits of n / 10, and the last one.
 use native.Mathlib.Omega.{arith}
 use native.Mathlib.Nat.{div-add-mod}
 use mathlib.Core.Path.{sym, ap, _∙_}
@@ -52,26 +51,34 @@ module _ (t : ℕ) where
   put-byte-requires-2 : lts.Need-put-byte-requires-2 called given reads.Post
   put-byte-requires-2 c κs =
       let after = c .before .before .before in
-      let start = after .before .before .before .before in
-      omega (arith, decimal-longer (start .args .n) (after .before .before .if1 .left), start .pre .1, after .put-decimal .ensures .place)
+      let at-if1 = after .before .before in
+      let start = at-if1 .before .before in
+      omega (arith, decimal-longer (start .args .n) (at-if1 .if1 .left), start .pre .1, after .put-decimal .ensures .place)
 
   same-length : lts.Need-same-length called given reads.Post
   same-length c = c .before .before .put-byte .kept .0
 
   returns : lts.Need-returns called given reads.Post
   returns c =
-      let low = c .before .before .before .before in
-      written-as (sym (decimal-low (low .before .before .args .n) (low .if1 .taken))) (c .before .before .put-byte .ensures)
+      let at-put-byte = c .before .before in
+      let low = at-put-byte .before .before in
+      written-as (sym (decimal-low (low .before .before .args .n) (low .if1 .taken))) (at-put-byte .put-byte .ensures)
 
   same-length-2 : lts.Need-same-length-2 called given reads.Post
-  same-length-2 c = c .before .before .put-byte2 .kept .0 ∙ c .before .before .before .before .before .before .put-decimal .kept .0
+  same-length-2 c =
+      let at-put-byte2 = c .before .before in
+      let at-out2 = at-put-byte2 .before .before .before in
+      let at-put-decimal = at-out2 .before in
+      at-put-byte2 .put-byte2 .kept .0 ∙ at-put-decimal .put-decimal .kept .0
 
   returns-2 : lts.Need-returns-2 called given reads.Post
   returns-2 c =
-      let after = c .before .before .before .before .before .before in
+      let at-put-byte2 = c .before .before in
+      let at-out2 = at-put-byte2 .before .before .before in
+      let after = at-out2 .before in
       let high = after .before .before in
       written-as (sym (decimal-step (high .before .before .args .n) (high .if1 .left)))
-      (written-then (after .put-decimal .ensures) (c .before .before .put-byte2 .ensures))
+      (written-then (after .put-decimal .ensures) (at-put-byte2 .put-byte2 .ensures))
 
 pub +put-decimal-spec : {M : Type 1} → statement M
 +put-decimal-spec =

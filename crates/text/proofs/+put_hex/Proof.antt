@@ -1,5 +1,4 @@
--- `text::put_hex` meets its contract, by recursion on the number of digits: those of n / 16, and the last one.
--- Assumes nothing.
+-- By recursion on the number of digits: those of n / 16, and the last one.
 use borrow.Author.Needs.{needs}
 use native.Mathlib.Omega.{arith}
 use mathlib.Core.Path.{sym, ap, _∙_}
@@ -45,8 +44,11 @@ module _ (t : ℕ) where
 
   put-byte-requires : lts.Need-put-byte-requires called given reads.Post
   put-byte-requires c κs =
-      let after = c .before .before .before .before in
-      let a = after .before .before .before .before .args in
+      let at-out = c .before .before .before in
+      let after = at-out .before in
+      let at-slice-known = after .before .before .before in
+      let at-start = at-slice-known .before in
+      let a = at-start .args in
       omega (arith, hex-length (a .digits - 1) (a .n / 16), after .put-hex .ensures .place)
 
   returns : lts.Need-returns called given reads.Post
@@ -55,12 +57,17 @@ module _ (t : ℕ) where
       written-as (sym (hex-none (a .digits) (a .n) (c .if1 .taken))) (written-none (a .out .now) (a .at))
 
   same-length : lts.Need-same-length called given reads.Post
-  same-length c = c .before .before .put-byte .kept .0 ∙ c .before .before .before .before .before .before .before .put-hex .kept .0
+  same-length c =
+      let at-put-byte = c .before .before in
+      let at-slice-known2 = at-put-byte .before .before .before in
+      let at-put-hex = at-slice-known2 .before .before in
+      at-put-byte .put-byte .kept .0 ∙ at-put-hex .put-hex .kept .0
 
   returns-2 : lts.Need-returns-2 called given reads.Post
   returns-2 c =
       let last = c .before .before .before in
-      let after = last .before .before .before .before in
+      let at-out = last .before .before .before in
+      let after = at-out .before in
       let some = after .before .before in
       let a = some .before .before .args in
       written-as (sym (hex-step (a .digits) (a .n) (some .if1 .left)))

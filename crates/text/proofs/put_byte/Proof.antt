@@ -1,5 +1,4 @@
--- `text::put_byte` meets its contract: past the end a list stays as it is.
--- Assumes nothing.
+-- Past the end a list stays as it is.
 use borrow.Author.Needs.{needs}
 use native.Mathlib.Omega.{arith}
 use mathlib.Core.Path.{_≡_, refl, sym, ap, _∙_}

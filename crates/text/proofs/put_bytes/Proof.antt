@@ -1,5 +1,4 @@
--- `text::put_bytes` meets its contract: after i turns the first i bytes of s are stored.
--- Assumes nothing.
+-- After i turns the first i bytes of s are stored.
 use native.Mathlib.Omega.{arith}
 use Prim.Native.Nat.{_≤_, _<_, _-_}
 use lib.ListN.{length, take}
@@ -36,10 +35,12 @@ loop-less c = omega arith
 
 loop-again : tie.Need-loop-again Inv-loop μ-loop
 loop-again c =
-    let at-loop = c .before .before .before .before .before .before in
+    let at-put-byte = c .before .before in
+    let at-loop-test = at-put-byte .before .before .before in
+    let at-loop = at-loop-test .before in
     let s = at-loop .before .before .before .args .s .now in
     let h : at-loop .loop .i < length s = omega arith in
-    (omega arith, written-next s (at-loop .loop .i) h (at-loop .loop .inv .1) (c .before .before .put-byte .ensures))
+    (omega arith, written-next s (at-loop .loop .i) h (at-loop .loop .inv .1) (at-put-byte .put-byte .ensures))
 
 same-length : tie.Need-same-length Inv-loop μ-loop
 same-length c = written-length (c .before .loop .inv .1)
@@ -51,15 +52,5 @@ returns c =
 
 pub put-bytes-spec : {M : Type 1} → statement M
 put-bytes-spec =
-    tie.close
-    (tie.spec
-    Inv-loop
-    μ-loop
-    loop-holds
-    shared-slice-read-put-byte
-    put-byte-requires
-    add-i
-    loop-less
-    loop-again
-    same-length
+    tie.close (tie.spec Inv-loop μ-loop loop-holds shared-slice-read-put-byte put-byte-requires add-i loop-less loop-again same-length
     returns)

@@ -1,5 +1,4 @@
--- `text::put_signed` meets its contract: a number k below zero is -(n + 1), and `-1 - k` is n.
--- Assumes nothing.
+-- A number k below zero is -(n + 1), and `-1 - k` is n.
 use borrow.Author.Needs.{needs}
 use native.Mathlib.Omega.{arith}
 use native.Mathlib.Numerals.{add-one}
@@ -68,13 +67,22 @@ put-byte-requires : tie.Need-put-byte-requires
 put-byte-requires c κs = omega (arith, ap length (at-below (c .before) .says))
 
 sub-put-decimal : tie.Need-sub-put-decimal
-sub-put-decimal c = at-below (c .before .before .before .before .before) .less
+sub-put-decimal c =
+    let at-put-byte = c .before .before .before in
+    let at-if1 = at-put-byte .before .before in
+    at-below at-if1 .less
 
 cast-put-decimal : tie.Need-cast-put-decimal
-cast-put-decimal c = at-below (c .before .before .before .before .before) .cast
+cast-put-decimal c =
+    let at-put-byte = c .before .before .before in
+    let at-if1 = at-put-byte .before .before in
+    at-below at-if1 .cast
 
 add-put-decimal : tie.Need-add-put-decimal
-add-put-decimal c = omega (arith, at-below (c .before .before .before .before .before) .short)
+add-put-decimal c =
+    let at-put-byte = c .before .before .before in
+    let at-if1 = at-put-byte .before .before in
+    omega (arith, at-below at-if1 .short)
 
 put-decimal-requires : tie.Need-put-decimal-requires
 put-decimal-requires c κs =
@@ -89,24 +97,18 @@ put-decimal-requires-2 c κs = omega (arith, ap length (at-not-below (c .before)
 
 returns : tie.Need-returns
 returns c =
-    let after = c .before .before .before .before .before .before in
-    written-as (sym (at-below (after .before .before) .says)) (written-then (after .put-byte .ensures) (c .before .before .put-decimal .ensures))
+    let at-put-decimal = c .before .before in
+    let at-out = at-put-decimal .before .before .before in
+    let after = at-out .before in
+    written-as (sym (at-below (after .before .before) .says)) (written-then (after .put-byte .ensures) (at-put-decimal .put-decimal .ensures))
 
 returns-2 : tie.Need-returns-2
-returns-2 c = written-as (sym (at-not-below (c .before .before .before .before) .says)) (c .before .before .put-decimal2 .ensures)
+returns-2 c =
+    let at-put-decimal2 = c .before .before in
+    let at-if1 = at-put-decimal2 .before .before in
+    written-as (sym (at-not-below at-if1 .says)) (at-put-decimal2 .put-decimal2 .ensures)
 
 pub put-signed-spec : {M : Type 1} → statement M
 put-signed-spec =
-    tie.close
-    (tie.spec
-    put-byte-requires
-    sub-put-decimal
-    cast-put-decimal
-    add-put-decimal
-    put-decimal-requires
-    cast-put-decimal-2
-    put-decimal-requires-2
-    (λ c. search needs)
-    returns
-    (λ c. search needs)
-    returns-2)
+    tie.close (tie.spec put-byte-requires sub-put-decimal cast-put-decimal add-put-decimal put-decimal-requires cast-put-decimal-2
+    put-decimal-requires-2 (λ c. search needs) returns (λ c. search needs) returns-2)

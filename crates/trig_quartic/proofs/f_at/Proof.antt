@@ -1,4 +1,3 @@
--- `front::f_at` meets its contract: the formula as it stands. Assumes nothing.
 use Rattle.trig_quartic.specs.Crank.{fAtOf}
 use borrow.Author.Needs.{needs}
 use Rattle.trig_quartic.proofs.f_at.Statement.{statement}

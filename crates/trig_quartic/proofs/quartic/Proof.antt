@@ -1,4 +1,3 @@
--- `front::quartic` meets its contract: the formula as it stands. Assumes nothing.
 use Rattle.trig_quartic.specs.Crank.{quarticOf}
 use borrow.Author.Needs.{needs}
 use Rattle.trig_quartic.proofs.quartic.Statement.{statement}

@@ -1,4 +1,4 @@
--- `front::sample` meets its contract: the samples that are left, taken from (k, largest), give the k that all give. Assumes nothing.
+-- The samples that are left, taken from (k, largest), give the k that all give.
 use mathlib.Core.Path.{_≡_, sym, _∙_}
 use Rattle.trig_quartic.proofs.Samples.{chosen, first-sample, next-sample, last-sample}
 use mathlib.Core.Logic.{⊎-elim}
@@ -26,12 +26,14 @@ loop-again c =
     (λ w. (
       search needs,
       search needs,
-      rw (w .1, w .2) (next-sample _ _ _ _ _ _ _ _ (search needs) (at .f-at2 .ensures) (size .abs2 .ensures) (c .before .total-le .ensures) (w .0 .taken) ∙ before),
+      rw (w .1, w .2) (next-sample _ _ _ _ _ _ _ _ (search needs) (at .f-at2 .ensures) (size .abs2 .ensures) (c .before .total-le .ensures)
+          (w .0 .taken) ∙ before),
     ))
     (λ w. (
       search needs,
       search needs,
-      rw (w .1, w .2) (next-sample _ _ _ _ _ _ _ _ (search needs) (at .f-at2 .ensures) (size .abs2 .ensures) (c .before .total-le .ensures) (w .0 .left) ∙ before),
+      rw (w .1, w .2) (next-sample _ _ _ _ _ _ _ _ (search needs) (at .f-at2 .ensures) (size .abs2 .ensures) (c .before .total-le .ensures)
+          (w .0 .left) ∙ before),
     ))
     (c .if1 .came)
 
@@ -40,18 +42,5 @@ returns c = (sym (last-sample _ _ _ _ _ _ _ _ (c .loop-test .left)) ∙ c .befor
 
 pub sample-spec : {M : Type 1} → statement M
 sample-spec =
-    tie.close
-    (tie.spec
-    Inv-loop
-    μ-loop
-    (λ c κs. search needs)
-    (λ c κs. search needs)
-    loop-holds
-    (λ c. search needs)
-    (λ c κs. search needs)
-    (λ c κs. search needs)
-    (λ c κs. search needs)
-    (λ c. search needs)
-    (λ c. search needs)
-    loop-again
-    returns)
+    tie.close (tie.spec Inv-loop μ-loop (λ c κs. search needs) (λ c κs. search needs) loop-holds (λ c. search needs) (λ c κs. search needs)
+    (λ c κs. search needs) (λ c κs. search needs) (λ c. search needs) (λ c. search needs) loop-again returns)

@@ -1,4 +1,3 @@
--- `front::unit` meets its contract: by the entries. Assumes nothing.
 use mathlib.Core.Path.{_≡_}
 use Prim.Native.Nat.{_<_}
 use native.Mathlib.Omega.{arith}
@@ -43,6 +42,4 @@ returns-8 c =
     rw last
 
 pub unit-spec : {M : Type 1} → statement M
-unit-spec =
-    tie.close
-    (tie.spec returns returns-2 returns-3 returns-4 returns-5 returns-6 returns-7 returns-8)
+unit-spec = tie.close (tie.spec returns returns-2 returns-3 returns-4 returns-5 returns-6 returns-7 returns-8)

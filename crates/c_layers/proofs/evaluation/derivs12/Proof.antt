@@ -1,5 +1,4 @@
--- `layers::evaluation::derivs12` meets its contract: all the numbers of the answer, or none.
--- Assumes nothing.
+-- All the numbers of the answer, or none.
 use mathlib.Core.Path.{ap}
 use Rattle.c_layers.specs.Numbers.{derivsNumbers}
 use Rattle.lent_bytes.proofs.Five.{accepted}
@@ -19,9 +18,13 @@ derivs12-requires c κs = accepted _ _ (c .before .before .lacks-five .ensures) 
 
 returns-2 : tie.Need-returns-2
 returns-2 c =
-    let five = c .before .before .before .before .before .before in
-    let is = rw (five .five-at .ensures) at (ap derivsNumbers (c .before .before .before .before .before .derivs12 .ensures)) in
-    held _ _ (five .before .before .lacks-five .ensures) (five .before .if1 .left) is (c .before .before .store .ensures)
+    let at-store = c .before .before in
+    let at-derivs12 = at-store .before .before .before in
+    let five = at-derivs12 .before in
+    let is = rw (five .five-at .ensures) at (ap derivsNumbers (at-derivs12 .derivs12 .ensures)) in
+    held _ _ (five .before .before .lacks-five .ensures) (five .before .if1 .left) is (at-store .store .ensures)
 
 pub derivs12-spec : {M : Type 1} → statement M
-derivs12-spec = tie.close (tie.spec (λ c κs. search needs) returns five-at-requires derivs12-requires (λ c. search needs) (λ c κs. search needs) (λ c. search needs) returns-2)
+derivs12-spec =
+    tie.close (tie.spec (λ c κs. search needs) returns five-at-requires derivs12-requires (λ c. search needs) (λ c κs. search needs)
+    (λ c. search needs) returns-2)

@@ -1,5 +1,4 @@
--- `layers::evaluation::taylor` meets its contract: all the numbers of the answer, or none.
--- Assumes nothing.
+-- All the numbers of the answer, or none.
 use Rattle.lent_bytes.proofs.Five.{accepted}
 use Rattle.lent_bytes.proofs.Whole.{lacking, held}
 use borrow.Author.Needs.{needs}
@@ -17,8 +16,15 @@ taylor-requires c κs = accepted _ _ (c .before .before .before .lacks-five .ens
 
 returns-2 : tie.Need-returns-2
 returns-2 c =
-    let is = rw (c .before .before .before .before .before .five-at .ensures) at (c .before .before .before .before .taylor .ensures) in
-    held _ _ (c .before .before .before .before .before .before .before .before .lacks-five .ensures) (c .before .before .before .before .before .before .before .if1 .left) is (c .before .before .store .ensures)
+    let at-store = c .before .before in
+    let at-taylor = at-store .before .before in
+    let at-five-at = at-taylor .before in
+    let at-if1 = at-five-at .before .before in
+    let at-lacks-five = at-if1 .before in
+    let is = rw (at-five-at .five-at .ensures) at (at-taylor .taylor .ensures) in
+    held _ _ (at-lacks-five .lacks-five .ensures) (at-if1 .if1 .left) is (at-store .store .ensures)
 
 pub taylor-spec : {M : Type 1} → statement M
-taylor-spec = tie.close (tie.spec (λ c κs. search needs) returns five-at-requires taylor-requires (λ c. search needs) (λ c κs. search needs) (λ c. search needs) returns-2)
+taylor-spec =
+    tie.close (tie.spec (λ c κs. search needs) returns five-at-requires taylor-requires (λ c. search needs) (λ c κs. search needs)
+    (λ c. search needs) returns-2)

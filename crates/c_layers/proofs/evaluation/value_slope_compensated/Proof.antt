@@ -1,5 +1,4 @@
--- `layers::evaluation::value_slope_compensated` meets its contract: all the numbers of the answer, or none.
--- Assumes nothing.
+-- All the numbers of the answer, or none.
 use mathlib.Core.Path.{ap}
 use Rattle.c_layers.specs.Numbers.{slopeNumbers}
 use Rattle.lent_bytes.proofs.Five.{accepted}
@@ -19,9 +18,13 @@ value-slope-compensated-requires c κs = accepted _ _ (c .before .before .lacks-
 
 returns-2 : tie.Need-returns-2
 returns-2 c =
-    let five = c .before .before .before .before .before .before in
-    let is = rw (five .five-at .ensures) at (ap slopeNumbers (c .before .before .before .before .before .value-slope-compensated .ensures)) in
-    held _ _ (five .before .before .lacks-five .ensures) (five .before .if1 .left) is (c .before .before .store .ensures)
+    let at-store = c .before .before in
+    let at-value-slope-compensated = at-store .before .before .before in
+    let five = at-value-slope-compensated .before in
+    let is = rw (five .five-at .ensures) at (ap slopeNumbers (at-value-slope-compensated .value-slope-compensated .ensures)) in
+    held _ _ (five .before .before .lacks-five .ensures) (five .before .if1 .left) is (at-store .store .ensures)
 
 pub value-slope-compensated-spec : {M : Type 1} → statement M
-value-slope-compensated-spec = tie.close (tie.spec (λ c κs. search needs) returns five-at-requires value-slope-compensated-requires (λ c. search needs) (λ c κs. search needs) (λ c. search needs) returns-2)
+value-slope-compensated-spec =
+    tie.close (tie.spec (λ c κs. search needs) returns five-at-requires value-slope-compensated-requires (λ c. search needs)
+    (λ c κs. search needs) (λ c. search needs) returns-2)

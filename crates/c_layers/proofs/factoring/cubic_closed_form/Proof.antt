@@ -1,5 +1,4 @@
--- `layers::factoring::cubic_closed_form` meets its contract: all the numbers of the answer, or none.
--- Assumes nothing.
+-- All the numbers of the answer, or none.
 use Rattle.c_layers.specs.Numbers.{rootsNumbers}
 use native.Mathlib.Omega.{arith}
 use mathlib.Core.Path.{subst⁻¹, ap}
@@ -18,7 +17,9 @@ use Rattle.c_layers.proofs.factoring.cubic_closed_form.Tie as tie
 
 depressed-few : (shift p q disc : Float) → depressedRootsOf shift p q disc .n ≤ 3
 unfolding depressedRootsOf oneRootOf threeRootsOf
-depressed-few shift p q disc = either-way (λ (s : CubicRoots). s .n ≤ 3) (lt zero64 disc || le zero64 p) {x = oneRootOf shift p q disc} {y = threeRootsOf shift p q} (omega arith) (omega arith)
+depressed-few shift p q disc =
+    either-way (λ (s : CubicRoots). s .n ≤ 3) (lt zero64 disc || le zero64 p) {x = oneRootOf shift p q disc} {y = threeRootsOf shift p q}
+    (omega arith) (omega arith)
 
 few : (b c d : Float) → cubicClosedFormOf b c d .n ≤ 3
 unfolding cubicClosedFormOf
@@ -31,7 +32,13 @@ n-exact c =
     whole-exact _ (omega arith)
 
 returns : tie.Need-returns
-returns c = stored-as (ap rootsNumbers (c .before .before .before .before .before .before .before .cubic-closed-form .ensures)) (c .before .before .store .ensures)
+returns c =
+    let at-store = c .before .before in
+    let at-store-arg = at-store .before .before .before in
+    let at-cubic-closed-form = at-store-arg .before .before in
+    stored-as (ap rootsNumbers (at-cubic-closed-form .cubic-closed-form .ensures)) (at-store .store .ensures)
 
 pub cubic-closed-form-spec : {M : Type 1} → statement M
-cubic-closed-form-spec = tie.close (tie.spec (λ c κs. search needs) n-exact (λ c. search needs) (λ c. search needs) (λ c. search needs) (λ c. search needs) (λ c κs. search needs) (λ c. search needs) returns)
+cubic-closed-form-spec =
+    tie.close (tie.spec (λ c κs. search needs) n-exact (λ c. search needs) (λ c. search needs) (λ c. search needs) (λ c. search needs)
+    (λ c κs. search needs) (λ c. search needs) returns)

@@ -1,5 +1,4 @@
--- `layers::factoring::lone_numbers` meets its contract: it tells the variants apart.
--- Assumes nothing.
+-- It tells the variants apart.
 use lib.Ieee.{ofBits, div}
 use Rattle.c_layers.specs.Numbers.{loneNumbers}
 use borrow.Author.Needs.{needs}

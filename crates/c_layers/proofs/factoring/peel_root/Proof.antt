@@ -1,5 +1,4 @@
--- `layers::factoring::peel_root` meets its contract: all the numbers of the answer, or none.
--- Assumes nothing.
+-- All the numbers of the answer, or none.
 use mathlib.Core.Path.{ap}
 use Rattle.c_layers.specs.Numbers.{peeledNumbers}
 use Rattle.lent_bytes.proofs.Whole.{stored-as}
@@ -8,7 +7,10 @@ use Rattle.c_layers.proofs.factoring.peel_root.Statement.{statement}
 use Rattle.c_layers.proofs.factoring.peel_root.Tie as tie
 
 returns : tie.Need-returns
-returns c = stored-as (ap peeledNumbers (c .before .before .before .before .before .peel-root .ensures)) (c .before .before .store .ensures)
+returns c =
+    let at-store = c .before .before in
+    let at-peel-root = at-store .before .before .before in
+    stored-as (ap peeledNumbers (at-peel-root .peel-root .ensures)) (at-store .store .ensures)
 
 pub peel-root-spec : {M : Type 1} → statement M
 peel-root-spec = tie.close (tie.spec (λ c κs. search needs) (λ c. search needs) (λ c κs. search needs) (λ c. search needs) returns)

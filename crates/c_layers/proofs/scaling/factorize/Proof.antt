@@ -1,5 +1,4 @@
--- `layers::scaling::factorize` meets its contract: all the numbers of the answer, or none.
--- Assumes nothing.
+-- All the numbers of the answer, or none.
 use Rattle.c_layers.specs.Numbers.{factorNumbers}
 use borrow.Author.Needs.{needs}
 use mathlib.Core.Path.{_≡_, subst⁻¹, ap, _∙_}
@@ -42,13 +41,21 @@ factor-numbers-requires : tie.Need-factor-numbers-requires
 factor-numbers-requires c κs =
     let new = c .before .before in
     let tested = new .before .before in
-    subst⁻¹ Sized (c .before .factorize .ensures) (sized _ _ (few _ _ _ (new .new .ensures) (accepted _ _ (tested .before .lacks-five .ensures) (tested .if1 .left) .1)))
+    subst⁻¹ Sized (c .before .factorize .ensures) (sized _ _ (few _ _ _ (new .new .ensures)
+    (accepted _ _ (tested .before .lacks-five .ensures) (tested .if1 .left) .1)))
 
 returns-2 : tie.Need-returns-2
 returns-2 c =
-    let five = c .before .before .before .before .before .before .before .before in
-    let is = rw (c .before .before .before .before .before .before .before .new .ensures, five .five-at .ensures) at (c .before .before .before .before .factor-numbers .ensures ∙ ap factorNumbers (c .before .before .before .before .before .before .factorize .ensures)) in
-    held _ _ (five .before .before .lacks-five .ensures) (five .before .if1 .left) is (c .before .before .store .ensures)
+    let at-store = c .before .before in
+    let at-factor-numbers = at-store .before .before in
+    let at-factorize = at-factor-numbers .before .before in
+    let at-new = at-factorize .before in
+    let five = at-new .before in
+    let is = rw (at-new .new .ensures, five .five-at .ensures) at (at-factor-numbers .factor-numbers .ensures
+    ∙ ap factorNumbers (at-factorize .factorize .ensures)) in
+    held _ _ (five .before .before .lacks-five .ensures) (five .before .if1 .left) is (at-store .store .ensures)
 
 pub factorize-spec : {M : Type 1} → statement M
-factorize-spec = tie.close (tie.spec (λ c κs. search needs) returns five-at-requires new-requires factorize-requires factor-numbers-requires (λ c. search needs) (λ c κs. search needs) (λ c. search needs) returns-2)
+factorize-spec =
+    tie.close (tie.spec (λ c κs. search needs) returns five-at-requires new-requires factorize-requires factor-numbers-requires
+    (λ c. search needs) (λ c κs. search needs) (λ c. search needs) returns-2)

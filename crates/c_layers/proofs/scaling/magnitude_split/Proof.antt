@@ -1,5 +1,4 @@
--- `layers::scaling::magnitude_split` meets its contract: all the numbers of the answer, or none.
--- Assumes nothing.
+-- All the numbers of the answer, or none.
 use Rattle.c_layers.specs.Numbers.{splitNumbers}
 use mathlib.Core.Path.{subst⁻¹, ap, _∙_}
 use Rattle.split.specs.Gap.{Inside, magnitudeSplitOf}
@@ -27,9 +26,14 @@ split-numbers-requires c κs =
 
 returns-2 : tie.Need-returns-2
 returns-2 c =
-    let five = c .before .before .before .before .before .before .before in
-    let is = rw (five .five-at .ensures) at (c .before .before .before .before .split-numbers .ensures ∙ ap splitNumbers (c .before .before .before .before .before .before .magnitude-split .ensures)) in
-    held _ _ (five .before .before .lacks-five .ensures) (five .before .if1 .left) is (c .before .before .store .ensures)
+    let at-store = c .before .before in
+    let at-split-numbers = at-store .before .before in
+    let at-magnitude-split = at-split-numbers .before .before in
+    let five = at-magnitude-split .before in
+    let is = rw (five .five-at .ensures) at (at-split-numbers .split-numbers .ensures ∙ ap splitNumbers (at-magnitude-split .magnitude-split .ensures)) in
+    held _ _ (five .before .before .lacks-five .ensures) (five .before .if1 .left) is (at-store .store .ensures)
 
 pub magnitude-split-spec : {M : Type 1} → statement M
-magnitude-split-spec = tie.close (tie.spec (λ c κs. search needs) returns five-at-requires magnitude-split-requires split-numbers-requires (λ c. search needs) (λ c κs. search needs) (λ c. search needs) returns-2)
+magnitude-split-spec =
+    tie.close (tie.spec (λ c κs. search needs) returns five-at-requires magnitude-split-requires split-numbers-requires (λ c. search needs)
+    (λ c κs. search needs) (λ c. search needs) returns-2)

@@ -1,5 +1,4 @@
--- `layers::scaling::scaled_new` meets its contract: all the numbers of the answer, or none.
--- Assumes nothing.
+-- All the numbers of the answer, or none.
 use Rattle.c_layers.specs.Numbers.{scaledNumbers}
 use mathlib.Core.Path.{subst⁻¹, ap, _∙_}
 use Prim.Native.Nat.{_≤_}
@@ -27,9 +26,14 @@ scaled-numbers-requires c κs =
 
 returns-2 : tie.Need-returns-2
 returns-2 c =
-    let five = c .before .before .before .before .before .before .before in
-    let is = rw (five .five-at .ensures) at (c .before .before .before .before .scaled-numbers .ensures ∙ ap scaledNumbers (c .before .before .before .before .before .before .new .ensures)) in
-    held _ _ (five .before .before .lacks-five .ensures) (five .before .if1 .left) is (c .before .before .store .ensures)
+    let at-store = c .before .before in
+    let at-scaled-numbers = at-store .before .before in
+    let at-new = at-scaled-numbers .before .before in
+    let five = at-new .before in
+    let is = rw (five .five-at .ensures) at (at-scaled-numbers .scaled-numbers .ensures ∙ ap scaledNumbers (at-new .new .ensures)) in
+    held _ _ (five .before .before .lacks-five .ensures) (five .before .if1 .left) is (at-store .store .ensures)
 
 pub scaled-new-spec : {M : Type 1} → statement M
-scaled-new-spec = tie.close (tie.spec (λ c κs. search needs) returns five-at-requires new-requires scaled-numbers-requires (λ c. search needs) (λ c κs. search needs) (λ c. search needs) returns-2)
+scaled-new-spec =
+    tie.close (tie.spec (λ c κs. search needs) returns five-at-requires new-requires scaled-numbers-requires (λ c. search needs)
+    (λ c κs. search needs) (λ c. search needs) returns-2)

@@ -1,5 +1,4 @@
--- `layers::scaling::scaled_numbers` meets its contract, number by number.
--- Assumes nothing.
+-- Number by number.
 use native.Mathlib.Omega.{arith}
 use mir.Syntax.{w32}
 use mir.Facts.{toZ-ofZ}
@@ -14,7 +13,13 @@ int-to-float-t50 c = whole-exact _ (omega arith)
 
 returns : tie.Need-returns
 unfolding scaledNumbers
-returns c = rw (toZ-ofZ {w = w32} {z = c .before .before .before .before .before .before .args .s .e} (record { sfits = c .struct-told .given .1 .1 .1 .1 .0 .1 }))
+returns c =
+    let at-lg = c .before .before .before in
+    let at-start = at-lg .before .before .before in
+    rw (toZ-ofZ {w = w32} {z = at-start .args .s .e} (record { sfits = c .struct-told .given .1 .1 .1 .1 .0 .1 }))
 
 pub scaled-numbers-spec : {M : Type 1} → statement M
-scaled-numbers-spec = tie.close (tie.spec (λ c. search needs) (λ c. search needs) (λ c. search needs) (λ c. search needs) (λ c. search needs) (λ c. search needs) (λ c. search needs) (λ c. search needs) (λ c. search needs) (λ c. search needs) (λ c. search needs) (λ c. search needs) (λ c. search needs) (λ c. search needs) (λ c. search needs) int-to-float-t50 (λ c. search needs) returns)
+scaled-numbers-spec =
+    tie.close (tie.spec (λ c. search needs) (λ c. search needs) (λ c. search needs) (λ c. search needs) (λ c. search needs)
+    (λ c. search needs) (λ c. search needs) (λ c. search needs) (λ c. search needs) (λ c. search needs) (λ c. search needs)
+    (λ c. search needs) (λ c. search needs) (λ c. search needs) (λ c. search needs) int-to-float-t50 (λ c. search needs) returns)

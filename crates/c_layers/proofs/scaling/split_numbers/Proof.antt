@@ -1,4 +1,4 @@
--- `layers::scaling::split_numbers` meets its contract: it tells the variants apart.
+-- It tells the variants apart.
 use mathlib.Core.Path.{subst}
 use Prim.Native.Nat.{_<_}
 use native.Mathlib.Omega.{arith}

@@ -1,5 +1,4 @@
--- `layers::systems::refine_peel` meets its contract: all the numbers of the answer, or none.
--- Assumes nothing.
+-- All the numbers of the answer, or none.
 use mathlib.Core.Path.{refl, sym}
 use borrow.Author.Tests.{lt-ltb, le-ltb}
 use Rattle.lent_bytes.proofs.Whole.{lacking, held}
@@ -12,8 +11,14 @@ returns c = lacking _ _ (sym (lt-ltb _ _ (c .if1 .taken))) refl
 
 returns-2 : tie.Need-returns-2
 returns-2 c =
-    let is = rw (c .before .before .before .before .before .four-at .ensures) at (c .before .before .before .before .refine-peel .ensures) in
-    held _ _ (sym (le-ltb _ _ (c .before .before .before .before .before .before .before .if1 .left))) refl is (c .before .before .store .ensures)
+    let at-store = c .before .before in
+    let at-refine-peel = at-store .before .before in
+    let at-four-at = at-refine-peel .before in
+    let at-if1 = at-four-at .before .before in
+    let is = rw (at-four-at .four-at .ensures) at (at-refine-peel .refine-peel .ensures) in
+    held _ _ (sym (le-ltb _ _ (at-if1 .if1 .left))) refl is (at-store .store .ensures)
 
 pub refine-peel-spec : {M : Type 1} → statement M
-refine-peel-spec = tie.close (tie.spec returns (λ c κs. search needs) (λ c κs. search needs) (λ c. search needs) (λ c κs. search needs) (λ c. search needs) returns-2)
+refine-peel-spec =
+    tie.close (tie.spec returns (λ c κs. search needs) (λ c κs. search needs) (λ c. search needs) (λ c κs. search needs) (λ c. search needs)
+    returns-2)

@@ -1,5 +1,3 @@
--- `leaves::floats::float_powi` meets its contract: its test is that of the definition.
--- Assumes nothing.
 use borrow.Author.Needs.{needs}
 use mathlib.Core.Path.{_∙_}
 use lib.Ieee.{ofBits, div}

@@ -1,5 +1,4 @@
--- `exports::inquiries::shown_numbers` meets its contract, number by number.
--- Assumes nothing.
+-- Number by number.
 use borrow.Author.Needs.{needs}
 use Rattle.c_roots.proofs.Feeding.{shown-is}
 use Rattle.c_roots.proofs.inquiries.shown_numbers.Statement.{statement}
@@ -9,4 +8,7 @@ returns : tie.Need-returns
 returns c = shown-is _ _ _ _ _ _ (c .before .before .flag .ensures) (c .before .root-numbers .ensures)
 
 pub shown-numbers-spec : {M : Type 1} → statement M
-shown-numbers-spec = tie.close (tie.spec (λ c κs. search needs) (λ c κs. search needs) (λ c. search needs) (λ c. search needs) (λ c. search needs) (λ c. search needs) (λ c. search needs) (λ c. search needs) (λ c. search needs) (λ c. search needs) (λ c. search needs) (λ c. search needs) returns)
+shown-numbers-spec =
+    tie.close (tie.spec (λ c κs. search needs) (λ c κs. search needs) (λ c. search needs) (λ c. search needs) (λ c. search needs)
+    (λ c. search needs) (λ c. search needs) (λ c. search needs) (λ c. search needs) (λ c. search needs) (λ c. search needs)
+    (λ c. search needs) returns)

@@ -1,5 +1,4 @@
--- `exports::lists::real_roots` meets its contract: the test says which case of the definition holds.
--- Assumes nothing.
+-- The test says which case of the definition holds.
 use borrow.Author.Needs.{needs}
 use mathlib.Core.Path.{subst⁻¹, ap, _∙_}
 use Rattle.roots.specs.Listed.{Fits}
@@ -32,15 +31,5 @@ returns-2 c =
 
 pub real-roots-spec : {M : Type 1} → statement M
 real-roots-spec =
-    tie.close
-    (tie.spec
-    (λ c κs. search needs)
-    returns
-    (λ c κs. search needs)
-    (λ c. search needs)
-    (λ c κs. search needs)
-    root-numbers-requires
-    (λ c. search needs)
-    (λ c κs. search needs)
-    (λ c. search needs)
-    returns-2)
+    tie.close (tie.spec (λ c κs. search needs) returns (λ c κs. search needs) (λ c. search needs) (λ c κs. search needs)
+    root-numbers-requires (λ c. search needs) (λ c κs. search needs) (λ c. search needs) returns-2)

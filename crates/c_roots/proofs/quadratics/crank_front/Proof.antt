@@ -1,5 +1,4 @@
--- `exports::quadratics::crank_front` meets its contract: all the numbers of the answer, or the refusal.
--- Assumes nothing.
+-- All the numbers of the answer, or the refusal.
 use Rattle.c_roots.specs.Quadratics.{frontNumbers}
 use native.Mathlib.Omega.{arith}
 use mathlib.Core.Path.{subst⁻¹, ap}
@@ -14,13 +13,19 @@ use Rattle.c_roots.proofs.quadratics.crank_front.Tie as tie
 
 k-exact : tie.Need-int-to-float-t12
 k-exact c =
-    let below : c .before .before .before .crank-front .result .k < 8 = subst⁻¹ (λ (f : Crank). f .k < 8) (c .before .before .before .crank-front .ensures) (front-below _ _ _ _ _) in
+    let below : c .before .before .before .crank-front .result .k
+    < 8 = subst⁻¹ (λ (f : Crank). f .k < 8) (c .before .before .before .crank-front .ensures) (front-below _ _ _ _ _) in
     whole-exact _ (omega arith)
 
 returns : tie.Need-returns
 returns c =
-    let is = c .before .before .before .before .before .before .before .crank-front .ensures in
-    answered-as (ap (λ (f : Crank). f .number) is) (ap frontNumbers is) (c .before .before .answer .ensures)
+    let at-answer = c .before .before in
+    let at-answer-arg = at-answer .before .before .before in
+    let at-crank-front = at-answer-arg .before .before in
+    let is = at-crank-front .crank-front .ensures in
+    answered-as (ap (λ (f : Crank). f .number) is) (ap frontNumbers is) (at-answer .answer .ensures)
 
 pub crank-front-spec : {M : Type 1} → statement M
-crank-front-spec = tie.close (tie.spec (λ c κs. search needs) k-exact (λ c. search needs) (λ c. search needs) (λ c. search needs) (λ c. search needs) (λ c. search needs) (λ c. search needs) (λ c κs. search needs) (λ c. search needs) returns)
+crank-front-spec =
+    tie.close (tie.spec (λ c κs. search needs) k-exact (λ c. search needs) (λ c. search needs) (λ c. search needs) (λ c. search needs)
+    (λ c. search needs) (λ c. search needs) (λ c κs. search needs) (λ c. search needs) returns)

@@ -1,5 +1,4 @@
--- `exports::quadratics::quadratic` meets its contract: all the numbers of the answer, or the refusal.
--- Assumes nothing.
+-- All the numbers of the answer, or the refusal.
 use mathlib.Core.Path.{ap, _∙_}
 use Rattle.equation.specs.declared.QuadraticAnswer.{QuadraticAnswer}
 use Rattle.c_roots.specs.Quadratics.{solutionNumbers}
@@ -10,8 +9,14 @@ use Rattle.c_roots.proofs.quadratics.quadratic.Tie as tie
 
 returns : tie.Need-returns
 returns c =
-    let is = c .before .before .before .before .before .before .quadratic .ensures in
-    answered-as (ap (λ (x : QuadraticAnswer). x .number) is) (c .before .before .before .before .solution-numbers .ensures ∙ ap (λ (x : QuadraticAnswer). solutionNumbers (x .solution)) is) (c .before .before .answer .ensures)
+    let at-answer = c .before .before in
+    let at-solution-numbers = at-answer .before .before in
+    let at-quadratic = at-solution-numbers .before .before in
+    let is = at-quadratic .quadratic .ensures in
+    answered-as (ap (λ (x : QuadraticAnswer). x .number) is) (at-solution-numbers .solution-numbers .ensures
+    ∙ ap (λ (x : QuadraticAnswer). solutionNumbers (x .solution)) is) (at-answer .answer .ensures)
 
 pub quadratic-spec : {M : Type 1} → statement M
-quadratic-spec = tie.close (tie.spec (λ c κs. search needs) (λ c κs. search needs) (λ c. search needs) (λ c κs. search needs) (λ c. search needs) returns)
+quadratic-spec =
+    tie.close (tie.spec (λ c κs. search needs) (λ c κs. search needs) (λ c. search needs) (λ c κs. search needs) (λ c. search needs)
+    returns)

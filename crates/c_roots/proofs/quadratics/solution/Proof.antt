@@ -1,5 +1,3 @@
--- `exports::quadratics::solution` meets its contract: by its numbers.
--- Assumes nothing.
 use borrow.Author.Tests.{ne-eqb}
 use Rattle.c_roots.specs.Quadratics.{solutionOf}
 use Rattle.c_roots.proofs.quadratics.solution.Statement.{statement}

@@ -1,5 +1,3 @@
--- `exports::quadratics::solution_numbers` meets its contract: by its cases.
--- Assumes nothing.
 use lib.Ieee.{ofBits, div, ofInt}
 use Rattle.solution.specs.Solution.{numberOf, valuesOf}
 use Rattle.c_roots.specs.Quadratics.{solutionNumbers}
@@ -28,4 +26,6 @@ unfolding solutionNumbers numberOf valuesOf ofBits div ofInt
 returns-5 c = rw (c .enum-told2 .given .1)
 
 pub solution-numbers-spec : {M : Type 1} → statement M
-solution-numbers-spec = tie.close (tie.spec (λ c. search needs) (λ c. search needs) (λ c. search needs) (λ c. search needs) (λ c. search needs) returns returns-2 returns-3 returns-4 returns-5)
+solution-numbers-spec =
+    tie.close (tie.spec (λ c. search needs) (λ c. search needs) (λ c. search needs) (λ c. search needs) (λ c. search needs) returns
+    returns-2 returns-3 returns-4 returns-5)

@@ -1,5 +1,4 @@
--- `exports::quadratics::solve_quadratic` meets its contract: all the numbers of the answer, or none.
--- Assumes nothing.
+-- All the numbers of the answer, or none.
 use mathlib.Core.Path.{ap, _∙_}
 use Rattle.c_roots.specs.Quadratics.{solutionNumbers}
 use Rattle.lent_bytes.proofs.Whole.{stored-as}
@@ -8,7 +7,13 @@ use Rattle.c_roots.proofs.quadratics.solve_quadratic.Statement.{stateme
 use Rattle.c_roots.proofs.quadratics.solve_quadratic.Tie as tie
 
 returns : tie.Need-returns
-returns c = stored-as (c .before .before .before .before .solution-numbers .ensures ∙ ap solutionNumbers (c .before .before .before .before .before .before .solve-quadratic .ensures)) (c .before .before .store .ensures)
+returns c =
+    let at-store = c .before .before in
+    let at-solution-numbers = at-store .before .before in
+    let at-solve-quadratic = at-solution-numbers .before .before in
+    stored-as (at-solution-numbers .solution-numbers .ensures ∙ ap solutionNumbers (at-solve-quadratic .solve-quadratic .ensures)) (at-store .store .ensures)
 
 pub solve-quadratic-spec : {M : Type 1} → statement M
-solve-quadratic-spec = tie.close (tie.spec (λ c κs. search needs) (λ c κs. search needs) (λ c. search needs) (λ c κs. search needs) (λ c. search needs) returns)
+solve-quadratic-spec =
+    tie.close (tie.spec (λ c κs. search needs) (λ c κs. search needs) (λ c. search needs) (λ c κs. search needs) (λ c. search needs)
+    returns)

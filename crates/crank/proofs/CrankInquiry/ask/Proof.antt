@@ -1,4 +1,4 @@
--- `ask` is its definition: what the quartic's inquiry shows, and k. Assumes nothing.
+-- `ask` is its definition: what the quartic's inquiry shows, and k.
 use Rattle.crank.specs.Crank.{crankAskedOf}
 use borrow.Author.Needs.{needs}
 use Rattle.crank.proofs.CrankInquiry.ask.Statement.{statement}

@@ -1,4 +1,4 @@
--- `reply` is its definition: what the quartic's inquiry replies, and k. Assumes nothing.
+-- `reply` is its definition: what the quartic's inquiry replies, and k.
 use Rattle.crank.specs.Crank.{crankRepliedOf}
 use borrow.Author.Needs.{needs}
 use Rattle.crank.proofs.CrankInquiry.reply.Statement.{statement}

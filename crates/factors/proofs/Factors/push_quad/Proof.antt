@@ -1,4 +1,3 @@
--- `factors::Factors::push_quad` is its definition. Assumes nothing.
 use borrow.Author.Tests.{lt-ltb, le-ltb}
 use Rattle.factors.specs.Factors.{pushQuadOf}
 use borrow.Author.Needs.{needs}

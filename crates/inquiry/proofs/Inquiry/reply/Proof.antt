@@ -1,4 +1,4 @@
--- `reply` is its definition: by whether something is being asked. While it is, there is room for one reply more. Assumes nothing.
+-- `reply` is its definition: by whether something is being asked. While it is, there is room for one reply more.
 use mathlib.Core.Path.{sym, ap, _∙_}
 use native.Mathlib.Omega.{arith}
 use Rattle.facts.specs.Lists.{length-mapped}

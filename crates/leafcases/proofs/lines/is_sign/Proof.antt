@@ -1,5 +1,4 @@
--- `leafcases::lines::is_sign` meets its contract: the second test is asked where the first fails.
--- Assumes nothing.
+-- The second test is asked where the first fails.
 use borrow.Author.Tests.{eq-eqb, ne-eqb}
 use Rattle.leafcases.proofs.lines.is_sign.Statement.{statement}
 use Rattle.leafcases.proofs.lines.is_sign.Tie as tie

@@ -1,5 +1,4 @@
--- `leafcases::lines::put_lines` meets its contract: a turn writes the line of one record, of 60 bytes at most, or the last line.
--- Assumes nothing.
+-- A turn writes the line of one record, of 60 bytes at most, or the last line.
 use native.Mathlib.Omega.{arith}
 use borrow.Author.Needs.{needs}
 use Prim.Native.Nat.{_+_, _*_, _-_, _<_, _≤_}
@@ -19,13 +18,19 @@ abbrev μ-loop : tie.MeasureT-loop
 
 -- what is written where a record is bad
 ended : (c : tie.After-slice-known3 Inv-loop μ-loop)
-    → let a = c .before .before .before .before .before .before .before .before .before .before .before .before .before .before .args in
-    Written (a .out .now) 0 (linesOf (a .s .now)) (c .before .before .put-bytes .last .0) (c .before .before .put-bytes .result)
-ended c =
-    let tested = c .before .before .before .before .before in
+    → let at-put-bytes = c .before .before in
+    let tested = at-put-bytes .before .before .before in
     let put = tested .before .before .before in
     let at-loop = put .before .before .before in
-    sofar-bad (at-loop .loop .inv .0) (put .before .before .loop-test .taken) (put .put-record .ensures .0) (tested .if1 .taken) (c .before .before .put-bytes .ensures)
+    let a = at-loop .before .before .before .args in
+    Written (a .out .now) 0 (linesOf (a .s .now)) (at-put-bytes .put-bytes .last .0) (at-put-bytes .put-bytes .result)
+ended c =
+    let at-put-bytes = c .before .before in
+    let tested = at-put-bytes .before .before .before in
+    let put = tested .before .before .before in
+    let at-loop = put .before .before .before in
+    sofar-bad (at-loop .loop .inv .0) (put .before .before .loop-test .taken) (put .put-record .ensures .0) (tested .if1 .taken)
+    (at-put-bytes .put-bytes .ensures)
 
 loop-holds : tie.Need-loop-holds Inv-loop μ-loop
 loop-holds c = (sofar-none _ _, omega arith, omega arith)
@@ -62,18 +67,5 @@ returns-2 c = (sofar-end (c .before .loop .inv .0) (c .loop-test .left), omega a
 
 pub put-lines-spec : {M : Type 1} → statement M
 put-lines-spec =
-    tie.close
-    (tie.spec
-    Inv-loop
-    μ-loop
-    loop-holds
-    put-record-requires
-    (λ c. search needs)
-    put-bytes-requires
-    same-length
-    returns
-    add-at
-    loop-less
-    loop-again
-    same-length-2
-    returns-2)
+    tie.close (tie.spec Inv-loop μ-loop loop-holds put-record-requires (λ c. search needs) put-bytes-requires same-length returns add-at
+    loop-less loop-again same-length-2 returns-2)

@@ -1,5 +1,4 @@
--- `leafcases::lines::put_word` meets its contract, by the word's kind: a blank, and then the digits.
--- Assumes nothing.
+-- By the word's kind: a blank, and then the digits.
 use borrow.Author.Needs.{needs}
 use native.Mathlib.Omega.{arith}
 use mathlib.Core.Path.{_≡_, sym, ap}
@@ -65,20 +64,27 @@ put-byte-requires-2 c κs = omega arith
 
 put-signed-requires : tie.Need-put-signed-requires
 put-signed-requires c κs =
-    let told = c .before .before .before .before .before in
+    let at-put-byte2 = c .before .before .before in
+    let told = at-put-byte2 .before .before in
     rw (plain told) (omega (arith, short-whole told))
 
 returns : tie.Need-returns
 returns c =
-    let put = c .before .before .before .before .before .before .before in
-    let digits = written-as (ap (hexDigits 16) (c .before .before .before .to-bits .ensures)) (c .before .before .put-hex .ensures) in
-    (written-as (sym (of-double (put .before .before .before))) (written-then (put .put-byte .ensures) digits), omega (arith, hex-length 16 (c .before .before .before .to-bits .result)))
+    let at-to-bits = c .before .before .before in
+    let at-out = at-to-bits .before .before .before in
+    let put = at-out .before in
+    let digits = written-as (ap (hexDigits 16) (at-to-bits .to-bits .ensures)) (c .before .before .put-hex .ensures) in (
+      written-as (sym (of-double (put .before .before .before))) (written-then (put .put-byte .ensures) digits),
+      omega (arith, hex-length 16 (at-to-bits .to-bits .result)),
+    )
 
 returns-2 : tie.Need-returns-2
 returns-2 c =
-    let put = c .before .before .before .before .before .before in
+    let at-put-signed = c .before .before in
+    let at-out3 = at-put-signed .before .before .before in
+    let put = at-out3 .before in
     let told = put .before .before in
-    let digits = written-as (ap signedDecimal (plain told)) (c .before .before .put-signed .ensures) in
+    let digits = written-as (ap signedDecimal (plain told)) (at-put-signed .put-signed .ensures) in
     (written-as (sym (of-whole (told .before))) (written-then (put .put-byte2 .ensures) digits), omega (arith, short-whole told, digits .place))
 
 returns-3 : tie.Need-returns-3
@@ -88,18 +94,5 @@ returns-3 c =
 
 pub put-word-spec : {M : Type 1} → statement M
 put-word-spec =
-    tie.close
-    (tie.spec
-    (λ c. search needs)
-    put-byte-requires
-    (λ c κs. search needs)
-    put-hex-requires
-    (λ c. search needs)
-    put-byte-requires-2
-    put-signed-requires
-    (λ c. search needs)
-    (λ c. search needs)
-    returns
-    (λ c. search needs)
-    returns-2
-    returns-3)
+    tie.close (tie.spec (λ c. search needs) put-byte-requires (λ c κs. search needs) put-hex-requires (λ c. search needs)
+    put-byte-requires-2 put-signed-requires (λ c. search needs) (λ c. search needs) returns (λ c. search needs) returns-2 returns-3)

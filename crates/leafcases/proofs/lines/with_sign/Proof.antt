@@ -1,5 +1,4 @@
--- `leafcases::lines::with_sign` meets its contract: `-n` is 0 less n, and both fit.
--- Assumes nothing.
+-- `-n` is 0 less n, and both fit.
 use borrow.Author.Needs.{needs}
 use native.Mathlib.Omega.{arith}
 use mathlib.Core.Path.{_≡_, sym, ap, subst, _∙_}

@@ -1,4 +1,4 @@
--- `log2::table::thresholds` meets its contract: the rule, tested at every entry.
+-- The rule, tested at every entry.
 use mathlib.Core.Path.{refl}
 use Rattle.log2.proofs.Rule.{rule}
 use Rattle.log2.proofs.table.thresholds.Statement.{statement}

@@ -1,4 +1,4 @@
--- `roots::Pairs::push` meets its contract: by whether the centre is finite, and by the place that is next. Assumes nothing.
+-- By whether the centre is finite, and by the place that is next.
 use mathlib.Core.Path.{sym, _∙_}
 use native.Mathlib.Omega.{arith}
 use Rattle.facts.specs.Lists.{length-mapped}

@@ -1,4 +1,4 @@
--- `roots::Roots::keep` meets its contract: by whether the place is finite. Assumes nothing.
+-- By whether the place is finite.
 use mathlib.Core.Path.{sym, _∙_}
 use Rattle.facts.specs.Cond.{if-taken}
 use Rattle.roots.specs.Roots.{keptIn}

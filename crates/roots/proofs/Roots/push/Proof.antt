@@ -1,4 +1,4 @@
--- `roots::Roots::push` meets its contract: by the place that is next. Assumes nothing.
+-- By the place that is next.
 use native.Mathlib.Omega.{arith}
 use Rattle.facts.specs.Lists.{length-mapped}
 use Rattle.roots.proofs.Laws.{pushed-at, pushed-not}
@@ -23,5 +23,5 @@ returns-5 c = pushed-not _ _ (omega arith)
 
 pub push-spec : {M : Type 1} → statement M
 push-spec =
-    tie.close
-    (tie.spec (λ c. search needs) (λ c. search needs) (λ c. search needs) (λ c. search needs) returns returns-2 returns-3 returns-4 returns-5)
+    tie.close (tie.spec (λ c. search needs) (λ c. search needs) (λ c. search needs) (λ c. search needs) returns returns-2 returns-3
+    returns-4 returns-5)

@@ -1,4 +1,4 @@
--- `scaled::Scaled::new` meets its contract: with all its logarithms.
+-- With all its logarithms.
 use mathlib.Core.Path.{_∙_, refl}
 use Rattle.scaled.specs.Scaled.{scaledOf, withLogsOf}
 use borrow.Author.Needs.{needs}

@@ -1,4 +1,3 @@
--- `scaled::Scaled::with_logs` meets its contract: part by part. Assumes nothing.
 use mathlib.Core.Path.{_≡_, sym, subst}
 use Prim.Native.Nat.{ℕ, _≤_, _<_, _^_}
 use mathlib.Core.List.{List}
@@ -29,33 +28,40 @@ top-of-requires : tie.Need-top-of-requires
 top-of-requires c κs = (small (c .scale-exponent .result) _ _ (c .scale-exponent .ok) (c .scale-exponent .ensures), search needs)
 
 coefficients-requires : tie.Need-coefficients-requires
-coefficients-requires c κs = (search needs, (small (c .before .scale-exponent .result) _ _ (c .before .scale-exponent .ok) (c .before .scale-exponent .ensures), same (c .top-of .result) (c .top-of .ok) (c .top-of .ensures .1)))
+coefficients-requires c κs = (
+  search needs,
+  (
+    small (c .before .scale-exponent .result) _ _ (c .before .scale-exponent .ok) (c .before .scale-exponent .ensures),
+    same (c .top-of .result) (c .top-of .ok) (c .top-of .ensures .1),
+  ),
+)
 
 log-sizes-requires : tie.Need-log-sizes-requires
-log-sizes-requires c κs = let b = c .before .before in (search needs, (small (b .before .scale-exponent .result) _ _ (b .before .scale-exponent .ok) (b .before .scale-exponent .ensures), same (b .top-of .result) (b .top-of .ok) (b .top-of .ensures .1)))
+log-sizes-requires c κs =
+    let b = c .before .before in (
+      search needs,
+      (
+        small (b .before .scale-exponent .result) _ _ (b .before .scale-exponent .ok) (b .before .scale-exponent .ensures),
+        same (b .top-of .result) (b .top-of .ok) (b .top-of .ensures .1),
+      ),
+    )
 
 sub-ldexp : tie.Need-sub-ldexp
-sub-ldexp c = let s = c .before .before .before .before .scale-exponent in negated (s .result) (bounded (s .result) _ _ (s .ensures)) .fits
+sub-ldexp c =
+    let at-top-of = c .before .before .before in
+    let at-scale-exponent = at-top-of .before in
+    let s = at-scale-exponent .scale-exponent in negated (s .result) (bounded (s .result) _ _ (s .ensures)) .fits
 
 returns : tie.Need-returns
 returns c =
     let f = c .before .before .before in
     let t = f .before in
     let s = t .before .scale-exponent in
-    built _ _ _ _ _ _ _ _ _ _ _ _ (s .ensures) (read (s .result) (s .ok)) (t .top-of .ensures .0) (read (t .top-of .result) (t .top-of .ok)) (f .coefficients .ensures) (c .before .before .monic .ensures) (c .before .log-sizes .ensures)
+    built _ _ _ _ _ _ _ _ _ _ _ _ (s .ensures) (read (s .result) (s .ok)) (t .top-of .ensures .0) (read (t .top-of .result) (t .top-of .ok))
+    (f .coefficients .ensures) (c .before .before .monic .ensures) (c .before .log-sizes .ensures)
     (negated (s .result) (bounded (s .result) _ _ (s .ensures)) .is) (c .ldexp .ensures)
 
 pub with-logs-spec : {M : Type 1} → statement M
 with-logs-spec =
-    tie.close
-    (tie.spec
-    (λ c κs. search needs)
-    (λ c. search needs)
-    (λ c. search needs)
-    top-of-requires
-    coefficients-requires
-    (λ c κs. search needs)
-    log-sizes-requires
-    sub-ldexp
-    (λ c κs. search needs)
-    returns)
+    tie.close (tie.spec (λ c κs. search needs) (λ c. search needs) (λ c. search needs) top-of-requires coefficients-requires
+    (λ c κs. search needs) log-sizes-requires sub-ldexp (λ c κs. search needs) returns)

@@ -1,4 +1,3 @@
--- `solution::QuadraticSolution::is_finite` meets its contract: by its cases. Assumes nothing.
 use Rattle.solution.specs.Solution.{valuesOf}
 use Rattle.float.proofs.Finite.{one-finite}
 use borrow.Author.Needs.{needs}
@@ -26,4 +25,6 @@ unfolding valuesOf
 returns-5 c = search needs
 
 pub is-finite-spec : {M : Type 1} → statement M
-is-finite-spec = tie.close (tie.spec (λ c. search needs) (λ c. search needs) (λ c κs. search needs) (λ c. search needs) (λ c κs. search needs) (λ c. search needs) (λ c κs. search needs) (λ c. search needs) (λ c. search needs) returns returns-2 returns-3 returns-4 returns-5)
+is-finite-spec =
+    tie.close (tie.spec (λ c. search needs) (λ c. search needs) (λ c κs. search needs) (λ c. search needs) (λ c κs. search needs)
+    (λ c. search needs) (λ c κs. search needs) (λ c. search needs) (λ c. search needs) returns returns-2 returns-3 returns-4 returns-5)

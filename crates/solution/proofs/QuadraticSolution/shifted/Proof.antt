@@ -1,4 +1,3 @@
--- `solution::QuadraticSolution::shifted` meets its contract: by its cases. Assumes nothing.
 use Rattle.solution.specs.Solution.{shiftedOf}
 use borrow.Author.Needs.{needs}
 use Rattle.solution.proofs.QuadraticSolution.shifted.Statement.{statement}
@@ -25,4 +24,6 @@ unfolding shiftedOf
 returns-5 c = search needs
 
 pub shifted-spec : {M : Type 1} → statement M
-shifted-spec = tie.close (tie.spec (λ c. search needs) (λ c. search needs) (λ c. search needs) (λ c. search needs) (λ c. search needs) returns returns-2 returns-3 returns-4 returns-5)
+shifted-spec =
+    tie.close (tie.spec (λ c. search needs) (λ c. search needs) (λ c. search needs) (λ c. search needs) (λ c. search needs) returns
+    returns-2 returns-3 returns-4 returns-5)

@@ -1,4 +1,4 @@
--- `solution::QuadraticSolution::touching_at` meets its contract: by its cases, and by whether the vertex counts. Assumes nothing.
+-- By its cases, and by whether the vertex counts.
 use mathlib.Core.Path.{sym, _∙_}
 use Rattle.solution.specs.Solution.{touchingAtOf}
 use borrow.Author.Needs.{needs}
@@ -42,4 +42,6 @@ returns-7 c =
     simp (arm .enum-told2 .given .1, sym (arm .before .before .touches-finite .ensures) ∙ c .if2 .left)
 
 pub touching-at-spec : {M : Type 1} → statement M
-touching-at-spec = tie.close (tie.spec (λ c κs. search needs) (λ c. search needs) returns (λ c. search needs) (λ c. search needs) (λ c. search needs) (λ c. search needs) returns-2 returns-3 returns-4 returns-5 returns-6 returns-7)
+touching-at-spec =
+    tie.close (tie.spec (λ c κs. search needs) (λ c. search needs) returns (λ c. search needs) (λ c. search needs) (λ c. search needs)
+    (λ c. search needs) returns-2 returns-3 returns-4 returns-5 returns-6 returns-7)

@@ -1,4 +1,4 @@
--- `Replies::with` is its definition: one reply is stored, and one counted. Assumes nothing.
+-- `Replies::with` is its definition: one reply is stored, and one counted.
 use mathlib.Core.Path.{refl}
 use borrow.Author.Needs.{needs}
 use Rattle.touching.proofs.Replies.with.Statement.{statement}

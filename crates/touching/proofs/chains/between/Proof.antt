@@ -1,4 +1,3 @@
--- `between` is its definition, by one test after the other. Assumes nothing.
 use Rattle.touching.proofs.chains.between.Statement.{statement}
 use Rattle.touching.proofs.chains.between.Tie as tie
 

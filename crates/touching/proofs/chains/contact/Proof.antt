@@ -1,4 +1,4 @@
--- `contact` is its definition, by how many points touch. Assumes nothing.
+-- `contact` is its definition, by how many points touch.
 use borrow.Author.Tests.{eq-eqb, ne-eqb}
 use Rattle.touching.specs.Touching.{contactOf}
 use Rattle.touching.proofs.chains.contact.Statement.{statement}

@@ -1,4 +1,3 @@
--- `double` is its definition, by its test. Assumes nothing.
 use borrow.Author.Tests.{lt-ltb, le-ltb}
 use native.Mathlib.Omega.{arith}
 use Rattle.touching.proofs.chains.double.Statement.{statement}

@@ -1,4 +1,4 @@
--- `extended` is its definition: the sums are small. Assumes nothing.
+-- `extended` is its definition: the sums are small.
 use native.Mathlib.Omega.{arith}
 use borrow.Author.Needs.{needs}
 use Rattle.touching.proofs.chains.extended.Statement.{statement}

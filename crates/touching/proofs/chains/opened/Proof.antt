@@ -1,4 +1,3 @@
--- `opened` is its definition, from the call. Assumes nothing.
 use borrow.Author.Needs.{needs}
 use Rattle.touching.proofs.chains.opened.Statement.{statement}
 use Rattle.touching.proofs.chains.opened.Tie as tie

@@ -1,4 +1,4 @@
--- `reach` is its definition: what is left of the items, from the present value on, gives the result. Assumes nothing.
+-- `reach` is its definition: what is left of the items, from the present value on, gives the result.
 use mathlib.Core.Path.{_≡_, refl, sym, _∙_}
 use Prim.Native.Nat.{_-_, _≤_}
 use lib.ListN.{drop}
@@ -20,23 +20,20 @@ loop-holds : tie.Need-loop-holds Inv-loop μ-loop
 loop-holds c = (search needs, c .pre, refl)
 
 loop-again : tie.Need-loop-again Inv-loop μ-loop
-loop-again c = let at = c .before .before .before .before .before in (search needs, at .loop .inv .1, rw (c .min .ensures, c .before .abs .ensures) (sym (reach-turn (at .before .args .t1) (at .loop .k) (at .loop .inv .1) _ _ (search needs)) ∙ at .loop .inv .2))
+loop-again c =
+    let at-abs = c .before in
+    let at-loop-test = at-abs .before .before .before in
+    let at-loop = at-loop-test .before in (
+      search needs,
+      at-loop .loop .inv .1,
+      rw (c .min .ensures, at-abs .abs .ensures)
+          (sym (reach-turn (at-loop .before .args .t1) (at-loop .loop .k) (at-loop .loop .inv .1) _ _ (search needs)) ∙ at-loop .loop .inv .2),
+    )
 
 returns : tie.Need-returns Inv-loop μ-loop
 returns c = let at = c .before in sym (reach-end (at .before .args .t1) (at .loop .k) (at .loop .inv .1) _ _ (search needs)) ∙ at .loop .inv .2
 
 pub reach-spec : {M : Type 1} → statement M
 reach-spec =
-    tie.close
-    (tie.spec
-    Inv-loop
-    μ-loop
-    loop-holds
-    (λ c. search needs)
-    (λ c. search needs)
-    (λ c κs. search needs)
-    (λ c κs. search needs)
-    (λ c. search needs)
-    (λ c. search needs)
-    loop-again
-    returns)
+    tie.close (tie.spec Inv-loop μ-loop loop-holds (λ c. search needs) (λ c. search needs) (λ c κs. search needs) (λ c κs. search needs)
+    (λ c. search needs) (λ c. search needs) loop-again returns)
