@@ -23,22 +23,22 @@ put-byte-requires c κs = omega arith
 
 returns : tie.Need-returns
 unfolding leafLineOf
-returns c =
-    let at-put-byte = c .before .before in
-    let at-out4 = at-put-byte .before .before .before in
-    let word3 = at-out4 .before in
-    let at-out3 = word3 .before .before .before in
-    let word2 = at-out3 .before in
-    let at-out2 = word2 .before .before .before in
-    let word1 = at-out2 .before in
-    let at-out = word1 .before .before .before in
-    let name = at-out .before in (
+returns c = (
+  (let at-put-byte = c .before .before in
+      let at-out4 = at-put-byte .before .before .before in
+      let word3 = at-out4 .before in
+      let at-out3 = word3 .before .before .before in
+      let word2 = at-out3 .before in
+      let at-out2 = word2 .before .before .before in
+      let word1 = at-out2 .before in
+      let at-out = word1 .before .before .before in
+      let name = at-out .before in
       written-then (name .put-bytes .ensures)
-          (written-then (word1 .put-word .ensures .0)
-          (written-then (word2 .put-word2 .ensures .0)
-          (written-then (word3 .put-word3 .ensures .0) (at-put-byte .put-byte .ensures)))),
-      omega arith,
-    )
+      (written-then (word1 .put-word .ensures .0)
+      (written-then (word2 .put-word2 .ensures .0)
+      (written-then (word3 .put-word3 .ensures .0) (at-put-byte .put-byte .ensures))))),
+  omega arith,
+)
 
 pub put-line-spec : {M : Type 1} → statement M
 put-line-spec =
