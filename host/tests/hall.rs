@@ -3,7 +3,7 @@ mod run;
 
 use host::compare::{bits, say};
 use host::port;
-use run::{hall, scratch, text};
+use run::{hall, said, scratch, text};
 use std::fs;
 
 const COMMANDS: [&str; 18] = [
@@ -86,7 +86,7 @@ fn version() {
 
 #[test]
 fn words_not_known() {
-    let said = [
+    let known = [
         (&["lanes"][..], "unknown word `lanes`"),
         (&["stored", "pins"], "unknown word `pins`"),
         (&["bench", "twice"], "unknown word `twice`"),
@@ -105,10 +105,10 @@ fn words_not_known() {
         (&["mutants", "0", "1"], "nothing was compared: COUNT is 0"),
         (&[], "a word is missing after `hall`"),
     ];
-    for (words, line) in said {
+    for (words, line) in known {
         let out = hall(words, b"");
         assert_eq!(out.status.code(), Some(2), "{words:?}");
-        assert!(text(&out.stderr).contains(line), "{words:?}");
+        assert!(said(&out).contains(line), "{words:?}");
         assert_eq!(out.stdout, b"", "{words:?}");
     }
 }
@@ -119,7 +119,7 @@ fn a_folder_that_cannot_be_written() {
     fs::write(&dir, "").unwrap();
     let out = hall(&["stored", "leaves", dir.to_str().unwrap()], b"");
     assert_eq!(out.status.code(), Some(1));
-    assert!(text(&out.stderr).contains("a_file"));
+    assert!(said(&out).contains("a_file"));
 }
 
 /// The answer of the port for a record of 14 bytes, as a line.

@@ -2,14 +2,14 @@
 mod run;
 
 use host::truth::hall_file::items;
-use run::{hall, made, scratch, text};
+use run::{hall, made, said, scratch, text};
 use std::fs;
 
 #[test]
 fn a_fault_writes_nothing() {
     let out = hall(&["make"], b"list 1 2\nlist 1 2 three\n");
     assert_eq!((out.status.code(), &out.stdout[..]), (Some(1), &b""[..]));
-    assert!(text(&out.stderr).starts_with("hall: line 2: `three`: no number"));
+    assert!(said(&out).starts_with("hall: line 2: `three`: no number"));
 }
 
 /// What is typed, and what is said of it.
@@ -36,7 +36,7 @@ fn typed() {
     for (typed, why) in refused {
         let out = hall(&["make"], typed.as_bytes());
         assert_eq!((out.status.code(), &out.stdout[..]), (Some(1), &b""[..]), "{typed}");
-        assert!(text(&out.stderr).contains(why), "{typed}: {}", text(&out.stderr));
+        assert!(said(&out).contains(why), "{typed}: {}", said(&out));
     }
 }
 
@@ -166,8 +166,8 @@ fn files_as_text() {
     }
     let out = hall(&["text"], &[&bytes[..], b"XX"].concat());
     assert_eq!((text(&out.stdout), out.status.code()), (lines, Some(1)));
-    let said = "hall: standard input: reading ends at record 7: byte 223: unknown mark `XX`\n";
-    assert_eq!(text(&out.stderr), said);
+    let line = "hall: standard input: reading ends at record 7: byte 223: unknown mark `XX`\n";
+    assert_eq!(said(&out), line);
 }
 
 /// The listing alone on standard output; status 1 where the file is not read to its end.
@@ -193,7 +193,7 @@ fn listings() {
             line => format!("{listing}{line}"),
         };
         assert_eq!((text(&out.stdout), out.status.code()), (whole, Some(1)), "{why}");
-        assert!(text(&out.stderr).contains(why), "{}", text(&out.stderr));
+        assert!(said(&out).contains(why), "{}", said(&out));
     }
     let out = hall(&["list"], b"");
     assert_eq!((&out.stdout[..], out.status.code()), (&b""[..], Some(0)));
@@ -223,7 +223,7 @@ fn random_files() {
     assert_eq!(hall(&["random", "0", "7"], b"").stdout, b"");
     let out = hall(&["random", "5000", "7"], b"");
     assert_eq!((out.status.code(), &out.stdout[..]), (Some(2), &b""[..]));
-    assert!(text(&out.stderr).contains("at most 65,536 bytes"));
+    assert!(said(&out).contains("at most 65,536 bytes"));
 }
 
 #[test]
@@ -244,7 +244,7 @@ fn faults_are_named() {
     for (words, status, message) in known {
         let out = hall(words, b"");
         assert_eq!((out.status.code(), &out.stdout[..]), (Some(status), &b""[..]), "{words:?}");
-        assert!(text(&out.stderr).contains(message), "{words:?}: {}", text(&out.stderr));
+        assert!(said(&out).contains(message), "{words:?}: {}", said(&out));
     }
 }
 
@@ -264,7 +264,7 @@ fn nothing_to_compare_with() {
     for words in commands {
         let out = hall(words, &made(LINES));
         assert_eq!((out.status.code(), &out.stdout[..]), (Some(2), &b""[..]), "{words:?}");
-        assert!(text(&out.stderr).contains("skipped, no geomcore at hand"), "{words:?}");
+        assert!(said(&out).contains("skipped, no geomcore at hand"), "{words:?}");
     }
 }
 
@@ -280,7 +280,7 @@ fn features() {
     for (what, _) in known.into_iter().filter(|known| !known.1) {
         let out = hall(&[what, "5", "1"], b"");
         assert_eq!((out.status.code(), &out.stdout[..]), (Some(2), &b""[..]), "{what}");
-        let said = format!("hall: {what}: needs a build with `--features {what}`");
-        assert!(text(&out.stderr).starts_with(&said), "{}", text(&out.stderr));
+        let front = format!("hall: {what}: needs a build with `--features {what}`");
+        assert!(said(&out).starts_with(&front), "{}", said(&out));
     }
 }

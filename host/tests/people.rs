@@ -3,7 +3,7 @@
 mod run;
 
 use host::stored::files::DOCUMENT_LISTING;
-use run::{hall, made, scratch, text};
+use run::{hall, made, said, scratch, text};
 use std::fs;
 
 #[test]
@@ -41,6 +41,27 @@ untouched Rust: 3 equal to the reference build, 1 not
     assert_eq!(lines.lines().count(), 5);
 }
 
+/// Of all that is told, no line has over 100 columns.
+#[test]
+fn columns() {
+    let long =
+        "list 2^-30 -1.8e1 21.000000000000004 -7.999999999999999 1.0000000000000002 0 0 0 0 0";
+    let bytes = made(&format!("{long} 0 0 0 0 0 0 0 0 0 0 0 0 0 0 0\nlist 2^-30 -18 21 -8 1"));
+    let told = [
+        hall(&["compare", "-"], &bytes).stdout,
+        hall(&["compare", "-"], b"list 1 2").stderr,
+        hall(&["make"], b"list 1 2 three").stderr,
+        hall(&["lists", "1000", "1"], b"").stdout,
+        hall(&["damage", "0", "1"], b"").stdout,
+    ];
+    for all in told.map(|all| text(&all)) {
+        assert!(!all.is_empty());
+        for line in all.lines() {
+            assert!(line.chars().count() <= 100, "{line}");
+        }
+    }
+}
+
 /// Text, junk or nothing: status 2. Behind a whole record it is a refusal like another.
 #[test]
 fn nothing_to_compare() {
@@ -55,14 +76,13 @@ fn nothing_to_compare() {
         for words in [&["compare", "-"][..], &["compare", "-", "--csv"]] {
             let out = hall(words, bytes);
             assert_eq!((out.status.code(), &out.stdout[..]), (Some(2), &b""[..]), "{why}");
-            let said = text(&out.stderr);
             let front = format!("hall: standard input: nothing was compared: {why}");
-            assert!(said.starts_with(&front), "{said}");
+            assert!(said(&out).starts_with(&front), "{}", said(&out));
         }
     }
     let out = hall(&["compare", "/no/such/file"], b"");
     assert_eq!((out.status.code(), &out.stdout[..]), (Some(1), &b""[..]));
-    assert!(text(&out.stderr).starts_with("hall: /no/such/file: "));
+    assert!(said(&out).starts_with("hall: /no/such/file: "));
     let out = hall(&["compare", "-"], &[&made("list 1 1 1")[..], b"XX"].concat());
     assert_eq!(out.status.code(), Some(0));
     assert!(text(&out.stdout).starts_with("2 records: 1 answered, 1 refused\n"));
@@ -70,15 +90,15 @@ fn nothing_to_compare() {
 
 #[test]
 fn long_runs() {
-    let said = |words: &[&str]| {
+    let ran = |words: &[&str]| {
         let out = hall(words, b"");
         assert_eq!(out.status.code(), Some(0), "{out:?}");
         text(&out.stdout)
     };
-    assert!(said(&["files", "2000", "1"]).contains("2000 files, 0 differ"));
+    assert!(ran(&["files", "2000", "1"]).contains("2000 files, 0 differ"));
     // in no time, the stored files alone, on two threads
     let all = 2 * host::stored::files::files().len();
-    assert!(said(&["damage", "0", "1"]).contains(&format!("{all} files, 0 differ")));
+    assert!(ran(&["damage", "0", "1"]).contains(&format!("{all} files, 0 differ")));
 }
 
 #[test]
@@ -98,5 +118,5 @@ fn stored_files() {
     fs::write(&taken, "").unwrap();
     let out = hall(&["stored", "files", taken.to_str().unwrap()], b"");
     assert_eq!(out.status.code(), Some(1));
-    assert!(text(&out.stderr).contains("taken"));
+    assert!(said(&out).contains("taken"));
 }

@@ -27,8 +27,9 @@ fn counted(text: &str) -> (usize, usize) {
         let indent = part.len() - part.trim_start().len();
         let end = format!("\n{}}}\n", &part[..indent]);
         let until = part.find(&end).unwrap_or(0);
-        let before = part.trim_start().starts_with("#[test]") || part[..until].contains("mod ");
-        if before { tests(&part[..until]) } else { 0 }
+        let first = part.lines().next().unwrap_or_default().trim();
+        let of_tests = first == "#[test]" || (first.starts_with("mod ") && first.ends_with('{'));
+        if of_tests { tests(&part[..until]) } else { 0 }
     });
     (all, marked.sum())
 }
@@ -76,4 +77,6 @@ fn counts() {
         "#[cfg(geomcore)]\nmod m {\n    #[test]\n    fn a() {\n    }\n}\n#[test]\nfn b() {\n}\n";
     assert_eq!(counted(inside), (2, 1));
     assert_eq!(counted("#[cfg(geomcore)]\nfn f() {\n}\n#[test]\nfn b() {\n}\n"), (1, 0));
+    let macros = "#[cfg(geomcore)]\nm!(x);\nmod tests {\n    #[test]\n    fn a() {\n    }\n}\n";
+    assert_eq!(counted(macros), (1, 0));
 }

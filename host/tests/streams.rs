@@ -3,7 +3,7 @@
 #![cfg(target_os = "linux")]
 mod run;
 
-use run::{hallroots, made, scratch, text};
+use run::{hallroots, made, said, scratch};
 use std::fs::{File, OpenOptions};
 use std::io::Read;
 use std::os::unix::fs::OpenOptionsExt;
@@ -46,7 +46,7 @@ fn full() {
         command.args(words).arg(&path);
         let out = ended(command);
         assert_eq!(out.status.code(), Some(1), "{words:?}");
-        assert!(text(&out.stderr).starts_with("hall: standard output: No space"), "{words:?}");
+        assert!(said(&out).starts_with("hall: standard output: No space"), "{words:?}");
     }
     let mut help = Command::new(env!("CARGO_BIN_EXE_hall"));
     help.arg("--help");
@@ -54,7 +54,7 @@ fn full() {
     if let Some(command) = hallroots_of(&path) {
         let out = ended(command);
         assert_eq!(out.status.code(), Some(0));
-        assert!(text(&out.stderr).starts_with("writing the listing: No space"));
+        assert!(said(&out).starts_with("writing the listing: No space"));
     }
 }
 
@@ -71,7 +71,7 @@ fn closed() {
     if let Some(program) = hallroots() {
         let out = by_shell(program.to_str().unwrap(), "");
         assert_eq!(out.status.code(), Some(0));
-        assert!(text(&out.stderr).starts_with("writing the listing: Bad file descriptor"));
+        assert!(said(&out).starts_with("writing the listing: Bad file descriptor"));
     }
 }
 
@@ -123,7 +123,7 @@ fn nonblocking_pipe() {
     if let Some(command) = hallroots_of(&path) {
         let (n, out) = read_late(command, "hallroots.pipe");
         assert_eq!((n, out.status.code()), (65_536, Some(0)));
-        let said = "writing the listing: Resource temporarily unavailable";
-        assert!(text(&out.stderr).starts_with(said), "{}", text(&out.stderr));
+        let line = "writing the listing: Resource temporarily unavailable";
+        assert!(said(&out).starts_with(line), "{}", said(&out));
     }
 }

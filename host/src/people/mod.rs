@@ -83,7 +83,7 @@ pub fn tell(text: &str) -> ExitCode {
 
 fn ended(outcome: Outcome) -> ExitCode {
     outcome.unwrap_or_else(|Failure(message, status)| {
-        eprintln!("hall: {message}");
+        eprint!("{}", table::wrapped(&format!("hall: {message}")));
         ExitCode::from(status)
     })
 }

@@ -99,6 +99,11 @@ pub fn wrapped(text: &str) -> String {
     all + line.trim_end() + "\n"
 }
 
+/// Lines, each of them wrapped; the last one has no end.
+pub fn in_columns(text: &str) -> String {
+    text.lines().map(wrapped).collect::<String>().trim_end().to_string()
+}
+
 const NAMES: &str = "record,byte,kind,tolerances,question,answer,refused,why,place,bits,times,\
                      degrees,radians,doubt\n";
 

@@ -30,6 +30,11 @@ pub fn text(bytes: &[u8]) -> String {
     String::from_utf8(bytes.to_vec()).unwrap()
 }
 
+/// What stands on standard error, its wrapped lines joined.
+pub fn said(out: &Output) -> String {
+    text(&out.stderr).replace("\n    ", " ")
+}
+
 /// A place that nothing is at.
 pub fn scratch(name: &str) -> PathBuf {
     let path = Path::new(env!("CARGO_TARGET_TMPDIR")).join(name);
