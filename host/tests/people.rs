@@ -65,8 +65,9 @@ fn columns() {
 /// Text, junk or nothing: status 2. Behind a whole record it is a refusal like another.
 #[test]
 fn nothing_to_compare() {
-    let known: [(&[u8], &str); 5] = [
+    let known: [(&[u8], &str); 6] = [
         (b"", "the file is empty"),
+        (b"Slider 1 3 3\n", "byte 0: unknown mark `Sl`; for lines of text, `hall make`"),
         (b"list 2^-30 2 -3 1\n", "byte 0: unknown mark `li`; for lines of text, `hall make`"),
         (b"\x7FELF", "byte 0: unknown mark `\\x7fE`"),
         (b"TG\0", "byte 0: the file ends inside this crank"),

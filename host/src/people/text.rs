@@ -121,7 +121,11 @@ fn crank_of_slider(words: &[&str], numbers: &[f64]) -> Result<Record, Fault> {
         }
     }
     let terms = slider::terms(lengths);
+    let gone = |of: f64, term: f64| of != 0.0 && term == 0.0;
     match terms.iter().all(|x| x.is_finite()) {
+        true if gone(lengths[2], terms[2]) || gone(lengths[3], terms[3]) => {
+            fault(words[0], "a number of its equation is below the smallest double")
+        }
         true => Ok(Record::Crank { confusion, terms }),
         false => fault(words[0], "a number of its equation is beyond the largest double"),
     }
