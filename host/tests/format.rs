@@ -38,24 +38,41 @@ fn file_to_text_and_back() {
     }
 }
 
+/// A text, and the line, the word and the reason of its first fault.
+const FAULTS: [(&str, usize, &str, &str); 28] = [
+    ("lst 1 2", 1, "lst", "no kind of record"),
+    ("list 1\n\nPL 1", 3, "PL", "no kind of record"),
+    ("list", 1, "list", "the tolerance is missing"),
+    ("list 1 2,5", 1, "2,5", "no number: `,`: a decimal has a point"),
+    ("list 1 2, -3", 1, "2,", "no number: `,`: a decimal has a point, and numbers stand apart"),
+    ("list 1 \u{2212}3", 1, "\u{2212}3", "no number: `\u{2212}` (U+2212): the minus sign is `-`"),
+    ("# x\nlist 1 2 not", 2, "not", "no number"),
+    ("list 1 1e-400", 1, "1e-400", "below the smallest double"),
+    ("list 10^-400 1", 1, "10^-400", "below the smallest double"),
+    ("list 1 1/0", 1, "1/0", "no number: a fraction over 0"),
+    ("list 1\n\u{FEFF}list 1", 2, "\u{FEFF}list", "no kind of record"),
+    ("list 1 1e999", 1, "1e999", "beyond the largest double"),
+    ("list 2^1024", 1, "2^1024", "no double"),
+    ("list 0x3FF", 1, "0x3FF", "no bits"),
+    ("quad 1 2 3 4", 1, "4", "a number is missing behind it: quad CONFUSION"),
+    ("quad", 1, "quad", "a number is missing behind it"),
+    ("quad 1 2 3 4 5 6", 1, "6", "one number too many"),
+    ("crank 1 2 3 4 5 # 6", 1, "5", "a number is missing behind it: crank CONFUSION"),
+    ("crank 1 2 3 4 5 6 7 8", 1, "7", "one number too many"),
+    ("slider 1 3", 1, "3", "a number is missing behind it: slider R L X"),
+    ("slider 1 2 3 4 5 6", 1, "6", "one number too many: slider R L X"),
+    ("slider 0 3 3", 1, "0", "the lengths R and L are above 0"),
+    ("slider 2^-30 1 -3 3 0", 1, "-3", "the lengths R and L are above 0"),
+    ("slider 1 3 inf", 1, "inf", "no length"),
+    ("slider 1 3 3 nan", 1, "nan", "no length"),
+    ("slider 1e200 3 3", 1, "slider", "a number of its equation is beyond"),
+    ("slider 1e-200 3 1e-200", 1, "slider", "a number of its equation is below"),
+    ("slider 1e-200 3 0 1e-200", 1, "slider", "a number of its equation is below"),
+];
+
 #[test]
 fn errors_name_line_and_word() {
-    let known = [
-        ("lst 1 2", 1, "lst", "no kind of record"),
-        ("list 1\n\nPL 1", 3, "PL", "no kind of record"),
-        ("list", 1, "list", "the tolerance is missing"),
-        ("list 1 2,5", 1, "2,5", "no number"),
-        ("# x\nlist 1 2 NaN", 2, "NaN", "no number"),
-        ("list 1 1e999", 1, "1e999", "beyond the largest double"),
-        ("list 2^1024", 1, "2^1024", "no double"),
-        ("list 0x3FF", 1, "0x3FF", "no bits"),
-        ("quad 1 2 3 4", 1, "4", "a number is missing behind it: quad CONFUSION"),
-        ("quad", 1, "quad", "a number is missing behind it"),
-        ("quad 1 2 3 4 5 6", 1, "6", "one number too many"),
-        ("crank 1 2 3 4 5 # 6", 1, "5", "a number is missing behind it: crank CONFUSION"),
-        ("crank 1 2 3 4 5 6 7 8", 1, "7", "one number too many"),
-    ];
-    for (text, line, word, why) in known {
+    for (text, line, word, why) in FAULTS {
         let error = read(text).unwrap_err();
         assert_eq!((error.line, &error.word[..]), (line, word), "{text}");
         assert!(error.why.starts_with(why), "{text}: {error}");
@@ -63,6 +80,43 @@ fn errors_name_line_and_word() {
     }
     let error = text::read(b"list 1\nlist \xFF").unwrap_err();
     assert_eq!((error.line, &error.why[..]), (2, "not UTF-8"));
+    for mark in [&b"\xFF\xFE"[..], b"\xFE\xFF"] {
+        let error = text::read(&[mark, b"l\0i\0"].concat()).unwrap_err();
+        assert_eq!((error.line, &error.why[..]), (1, "the text is UTF-16: save it as UTF-8"));
+    }
+}
+
+/// Where the meaning is sure, what people type is taken.
+#[test]
+fn other_ways_to_type() {
+    let same = [
+        ("\u{FEFF}list 2^-30 2 -3 1", "list 2^-30 2 -3 1"),
+        ("List 2^-30 2 -3 1", "list 2^-30 2 -3 1"),
+        ("CRANK 2^-30 0 0 1E0 0 NaN", "crank 2^-30 0 0 1 0 nan"),
+        ("Quad 10^-9 1/2 1 -3/2 +Inf", "quad 1e-9 0.5 1 -1.5 inf"),
+        ("list 0X3E10000000000000 1", "list 2^-30 1"),
+    ];
+    for (typed, plain) in same {
+        assert_eq!(read(typed), read(plain), "{typed}");
+        assert!(read(typed).is_ok(), "{typed}");
+    }
+}
+
+/// c1 = -2XR, d1 = -2YR, e = R² + X² + Y² - L².
+#[test]
+fn sliders() {
+    let same = [
+        ("slider 1 3 3", "crank 2^-30 0 0 -6 0 1"),
+        ("Slider 1 3 3 0", "crank 2^-30 0 0 -6 0 1"),
+        ("slider 2 5 4 1", "crank 2^-30 0 0 -16 -4 -4"),
+        ("slider 10^-7 2 5 4 -1", "crank 1e-7 0 0 -16 4 -4"),
+        ("slider 3 5 4", "crank 2^-30 0 0 -24 0 0"),
+        ("slider 1 3 -3", "crank 2^-30 0 0 6 0 1"),
+    ];
+    for (typed, plain) in same {
+        assert_eq!(read(typed), read(plain), "{typed}");
+        assert!(read(typed).is_ok(), "{typed}");
+    }
 }
 
 #[test]

@@ -1,29 +1,92 @@
 //! The program `hall`, as people call it.
+mod run;
+
 use host::compare::{bits, say};
 use host::port;
-use std::path::{Path, PathBuf};
-use std::process::{Command, Output};
-use std::{env, fs};
+use run::{hall, said, scratch, text};
+use std::fs;
 
-fn hall(words: &[&str]) -> Output {
-    let program = env!("CARGO_BIN_EXE_hall");
-    Command::new(program).args(words).output().unwrap()
+const COMMANDS: [&str; 18] = [
+    "make",
+    "list",
+    "show",
+    "text",
+    "compare",
+    "random",
+    "bench",
+    "lists",
+    "inquiries",
+    "cranks",
+    "quadratics",
+    "files",
+    "damage",
+    "coverage",
+    "mutants",
+    "causes",
+    "stored",
+    "documents",
+];
+
+/// The whole page, and after every command the part on it; status 0, nothing else done.
+#[test]
+fn help() {
+    let all = hall(&["--help"], b"");
+    assert_eq!((all.status.code(), &all.stderr[..]), (Some(0), &b""[..]));
+    for words in [&["-h"][..], &["help"]] {
+        assert_eq!(hall(words, b"").stdout, all.stdout);
+    }
+    let all = text(&all.stdout);
+    for command in COMMANDS {
+        for words in [&[command, "--help"][..], &[command, "-h"], &["help", command]] {
+            let out = hall(words, b"");
+            assert_eq!((out.status.code(), &out.stderr[..]), (Some(0), &b""[..]), "{words:?}");
+            let part = text(&out.stdout);
+            assert!(part.starts_with(&format!("hall {command}")), "{words:?}: {part}");
+            assert!(part.lines().all(|line| all.contains(line)), "{words:?}");
+        }
+    }
+    assert_eq!(hall(&["stored", "files", "--help"], b"").status.code(), Some(0));
+    let commands = all.lines().filter_map(|line| line.strip_prefix("hall "));
+    let commands = commands.filter_map(|line| line.split(' ').next());
+    assert!(commands.clone().all(|c| COMMANDS.contains(&c) || c.starts_with("--")));
+    assert!(all.lines().all(|line| line.chars().count() <= 100));
 }
 
-fn text(bytes: &[u8]) -> String {
-    String::from_utf8(bytes.to_vec()).unwrap()
+/// The marks, the three equations, the tolerances, the slider-crank, the statuses.
+#[test]
+fn help_explains() {
+    let all = text(&hall(&["--help"], b"").stdout);
+    let made = text(&hall(&["make", "--help"], b"").stdout);
+    let of_records = [
+        "list TOL c0 c1 ..              PL   c0 + c1 x + c2 x^2 .. = 0",
+        "quad CONFUSION ANGULAR a b c   QD   a x^2 + b x + c = 0",
+        "TG   a2 cos 2t + b2 sin 2t + c1 cos t + d1 sin t + e = 0",
+        "slider R L X ",
+        "tol        of a list",
+        "confusion  of a quad",
+        "angular    of a quad",
+        "2^-30, about 1e-9, is usual",
+    ];
+    for part in of_records {
+        assert!(all.contains(part) && made.contains(part), "{part}");
+    }
+    for status in ["\n  0  ", "\n  1  ", "\n  2  "] {
+        assert!(all.contains(status), "{status}");
+    }
 }
 
 #[test]
-fn help() {
-    let out = hall(&["--help"]);
-    assert_eq!(out.status.code(), Some(0));
-    assert!(text(&out.stdout).contains("hall stored leaves DIR"));
+fn version() {
+    for word in ["--version", "-V"] {
+        let out = hall(&[word], b"");
+        let line = concat!("hall ", env!("CARGO_PKG_VERSION"), "\n");
+        assert_eq!((text(&out.stdout), out.status.code()), (line.to_string(), Some(0)));
+    }
 }
 
 #[test]
 fn words_not_known() {
-    let said = [
+    let known = [
         (&["lanes"][..], "unknown word `lanes`"),
         (&["stored", "pins"], "unknown word `pins`"),
         (&["bench", "twice"], "unknown word `twice`"),
@@ -33,29 +96,30 @@ fn words_not_known() {
         (&["cranks", "5"], "a word is missing after `hall cranks 5`"),
         (&["files", "5"], "a word is missing after `hall files 5`"),
         (&["damage", "ten", "1"], "`ten` is no number"),
+        (&["lanes", "--help"], "unknown word `lanes`"),
+        (&["show", "--cvs"], "unknown word `--cvs`"),
+        (&["show", "a", "b"], "unknown word `b`"),
+        (&["make", "--csv"], "unknown word `--csv`"),
+        (&["compare", "--csv"], "a word is missing after `hall compare --csv`"),
+        (&["lists", "0", "1"], "nothing was compared: COUNT is 0"),
+        (&["mutants", "0", "1"], "nothing was compared: COUNT is 0"),
         (&[], "a word is missing after `hall`"),
     ];
-    for (words, line) in said {
-        let out = hall(words);
+    for (words, line) in known {
+        let out = hall(words, b"");
         assert_eq!(out.status.code(), Some(2), "{words:?}");
-        assert!(text(&out.stderr).contains(line), "{words:?}");
+        assert!(said(&out).contains(line), "{words:?}");
         assert_eq!(out.stdout, b"", "{words:?}");
     }
-}
-
-fn scratch(name: &str) -> PathBuf {
-    let dir = Path::new(env!("CARGO_TARGET_TMPDIR")).join(name);
-    let _ = fs::remove_dir_all(&dir);
-    dir
 }
 
 #[test]
 fn a_folder_that_cannot_be_written() {
     let dir = scratch("a_file");
     fs::write(&dir, "").unwrap();
-    let out = hall(&["stored", "leaves", dir.to_str().unwrap()]);
+    let out = hall(&["stored", "leaves", dir.to_str().unwrap()], b"");
     assert_eq!(out.status.code(), Some(1));
-    assert!(text(&out.stderr).contains("a_file"));
+    assert!(said(&out).contains("a_file"));
 }
 
 /// The answer of the port for a record of 14 bytes, as a line.
@@ -82,7 +146,7 @@ fn line_by_port(record: &[u8]) -> String {
 #[test]
 fn stored_leaves() {
     let dir = scratch("stored");
-    let out = hall(&["stored", "leaves", dir.to_str().unwrap()]);
+    let out = hall(&["stored", "leaves", dir.to_str().unwrap()], b"");
     assert_eq!(out.status.code(), Some(0));
     let data = fs::read(dir.join("data/leaves")).unwrap();
     let lines = fs::read_to_string(dir.join("stdout")).unwrap();

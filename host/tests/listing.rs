@@ -1,6 +1,8 @@
 //! Whole hall files: their listings by the port, and by the program itself, against the host's own
 //! lister over the reference build.
 #![cfg(geomcore)]
+mod run;
+
 use host::compare::outcome::Outcome;
 use host::compare::say;
 use host::compare::ways::{OF_LISTS, WAYS};
@@ -13,10 +15,8 @@ use host::runs::files::made;
 use host::stored::files::{DOCUMENT_LISTING, files, of_size};
 use host::truth::hall_file::MOST_BYTES;
 use host::truth::lister::{Reference, listing};
-use std::env;
-use std::io::Write;
-use std::path::Path;
-use std::process::{Command, Output, Stdio};
+use run::{hallroots, piped};
+use std::process::{Command, Stdio};
 
 fn by_port(bytes: &[u8]) -> Vec<u8> {
     whole_listing(bytes, port::list_file)
@@ -100,36 +100,9 @@ fn short_buffers() {
     say(&format!("short buffers: {lengths} lengths"));
 }
 
-/// The program, where it is built; where CI is true, it must be.
-fn program() -> Option<&'static Path> {
-    let path = Path::new(concat!(env!("CARGO_MANIFEST_DIR"), "/../target/bin/hallroots"));
-    if path.exists() {
-        return Some(path);
-    }
-    let missing = format!("{} is missing: run `rt check hallroots`", path.display());
-    assert!(env::var("CI").as_deref() != Ok("true"), "{missing}");
-    say(&format!("{missing}; the program is not tried"));
-    None
-}
-
-fn piped(program: &Path, input: &[u8]) -> Output {
-    let mut child = Command::new(program)
-        .stdin(Stdio::piped())
-        .stdout(Stdio::piped())
-        .stderr(Stdio::piped())
-        .spawn()
-        .unwrap();
-    let mut stdin = child.stdin.take().unwrap();
-    std::thread::scope(|scope| {
-        // of a file that is too long the program does not read the end
-        scope.spawn(move || drop(stdin.write_all(input)));
-        child.wait_with_output().unwrap()
-    })
-}
-
 #[test]
 fn the_program_by_pipe() {
-    let Some(program) = program() else {
+    let Some(program) = hallroots() else {
         return;
     };
     let mut r = Random::new(735);
@@ -137,7 +110,8 @@ fn the_program_by_pipe() {
     all.extend((0..300).map(|_| any_file(&mut r)));
     all.extend([65_536, 65_537, 70_000, 200_000, 1_000_000].map(|len| vec![b'P'; len]));
     for bytes in &all {
-        let out = piped(program, bytes);
+        // of a file that is too long the program does not read the end
+        let out = piped(&mut Command::new(program), bytes);
         assert!(out.stdout == listing(bytes, &Reference), "{bytes:?}");
         assert_eq!((out.status.code(), &out.stderr[..]), (Some(0), &b""[..]));
     }
@@ -147,7 +121,7 @@ fn the_program_by_pipe() {
 /// A read that fails lists nothing, and a write that fails is said.
 #[test]
 fn the_program_without_a_file() {
-    let Some(program) = program() else {
+    let Some(program) = hallroots() else {
         return;
     };
     let run = |stdin: Stdio, stdout: Stdio| {

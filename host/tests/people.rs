@@ -1,156 +1,105 @@
-//! What the program `hall` does with hall files, as people call it.
+//! What the program `hall` compares with the Rust, as people call it.
 #![cfg(geomcore)]
-use host::stored::files::{DOCUMENT, DOCUMENT_LISTING};
-use host::truth::hall_file::items;
+mod run;
+
+use host::stored::files::DOCUMENT_LISTING;
+use run::{hall, made, said, scratch, text};
 use std::fs;
-use std::io::Write;
-use std::path::{Path, PathBuf};
-use std::process::{Command, Output, Stdio};
-
-/// The program with these words, and what it reads.
-fn hall(words: &[&str], input: &[u8]) -> Output {
-    let mut child = Command::new(env!("CARGO_BIN_EXE_hall"))
-        .args(words)
-        .stdin(Stdio::piped())
-        .stdout(Stdio::piped())
-        .stderr(Stdio::piped())
-        .spawn()
-        .unwrap();
-    let mut stdin = child.stdin.take().unwrap();
-    std::thread::scope(|scope| {
-        // a program that refuses its words does not read
-        scope.spawn(move || drop(stdin.write_all(input)));
-        child.wait_with_output().unwrap()
-    })
-}
-
-fn text(bytes: &[u8]) -> String {
-    String::from_utf8(bytes.to_vec()).unwrap()
-}
-
-fn scratch(name: &str) -> PathBuf {
-    let path = Path::new(env!("CARGO_TARGET_TMPDIR")).join(name);
-    let _ = fs::remove_dir_all(&path);
-    path
-}
-
-fn made(text: &str) -> Vec<u8> {
-    let out = hall(&["make"], text.as_bytes());
-    assert_eq!(out.status.code(), Some(0), "{out:?}");
-    out.stdout
-}
-
-#[test]
-fn help_names_every_command() {
-    let out = hall(&["--help"], b"");
-    let help = text(&out.stdout);
-    for command in ["make", "show", "compare", "random", "stored files", "files", "damage"] {
-        assert!(help.contains(&format!("hall {command}")), "{command}");
-    }
-}
-
-#[test]
-fn a_fault_writes_nothing() {
-    let out = hall(&["make"], b"list 1 2\nlist 1 2 three\n");
-    assert_eq!((out.status.code(), &out.stdout[..]), (Some(1), &b""[..]));
-    assert!(text(&out.stderr).starts_with("hall: line 2: `three`: no number"));
-}
-
-#[test]
-fn the_documents_file_as_a_table() {
-    let bytes = [&made(DOCUMENT)[..], b"XX"].concat();
-    let table = "\
-record  kind   answer        place  bits              times  t in degrees
-1       list   2 roots       1      3FF0000000000000  1
-                             2      4000000000000000  1
-2       list   refused 2: no equation: once trailing zeros are dropped, a constant at most is left
-3       quad   two           1      3FF0000000000000
-                             2      4000000000000000
-4       crank  k 4, 2 roots  -1     BFF0000000000000  1      90
-                             1      3FF0000000000000  1      270
-5       --     refused 6: byte 138: unknown mark `XX`
-";
-    let out = hall(&["show"], &bytes);
-    assert_eq!((text(&out.stdout), out.status.code()), (table.to_string(), Some(0)));
-    let path = scratch("document.hall");
-    fs::write(&path, &bytes).unwrap();
-    assert_eq!(hall(&["show", path.to_str().unwrap()], b"").stdout, table.as_bytes());
-}
-
-#[test]
-fn roots_that_cannot_be_ones_are_marked() {
-    let marked = |line: &str| {
-        let table = text(&hall(&["show"], &made(line)).stdout);
-        table.lines().filter(|row| row.contains("no root")).count()
-    };
-    assert_eq!(marked("list 2^-30 1 0 2 2^-25 1"), 4);
-    assert_eq!(marked("list 2^-30 1 0 16 2^-21 64"), 4);
-    assert_eq!(marked("list 2^-30 24 -50 35 -10 1"), 0);
-    assert_eq!(marked("quad 2^-30 2^-30 1 2 1"), 0);
-    assert_eq!(marked("quad 2^-30 1 0.5 2 -4"), 0);
-    assert_eq!(marked("crank 2^-30 1 0 0 0 0.5"), 0);
-}
 
 #[test]
 fn comparison() {
     let path = scratch("compared.hall");
-    let lines = "list 2^-30 2 -3 1\nlist 2^-30 -18 21 -8 1\ncrank 2^-30 1 0 0 0 0.5\n";
+    let lines = "list 2^-30 2 -3 1\nlist 2^-30 -18 21 -8 1\ncrank 2^-30 1 0 0 0 0.5\nlist 1 5\n";
     fs::write(&path, made(lines)).unwrap();
     let path = path.to_str().unwrap();
     let out = hall(&["compare", path], b"");
-    assert_eq!(out.status.code(), Some(0));
-    let shown = text(&out.stdout);
-    assert!(shown.starts_with("record 2 at byte 35: list 2^-30 -18 21 -8 1\n"), "{shown}");
-    assert!(shown.contains("4007FFFFFFFFFFFE 2   [bits, steps 0 4]\n"), "{shown}");
-    assert_eq!(shown.lines().count(), 5);
+    assert_eq!((out.status.code(), &out.stderr[..]), (Some(0), &b""[..]));
+    let shown = "\
+record 2 at byte 35: list 2^-30 -18 21 -8 1
+  x^3 - 8 x^2 + 21 x - 18 = 0
+  reference  ok
+    2                         4000000000000000  1
+    3.000000000000001         4008000000000002  2
+  port       the same
+  untouched  ok  [bits, steps 0 4]
+    2                         4000000000000000  1
+    2.999999999999999         4007FFFFFFFFFFFE  2
+4 records: 3 answered, 1 refused
+port: 4 equal to the reference build, 0 not
+untouched Rust: 3 equal to the reference build, 1 not
+";
+    assert_eq!(text(&out.stdout), shown);
+    assert_eq!(hall(&["compare", "-"], &made(lines)).stdout, out.stdout);
     let rows = text(&hall(&["compare", path, "--differences"], b"").stdout);
     assert_eq!(rows.lines().count(), 3);
     assert!(rows.lines().all(|row| row.matches('|').count() == 5), "{rows}");
+    let csv = hall(&["compare", path, "--csv"], b"");
+    assert_eq!(csv.status.code(), Some(0));
+    let lines = text(&csv.stdout);
+    assert!(lines.starts_with("record,byte,input,reference,port,untouched,"), "{lines}");
+    assert!(lines.ends_with("\n4,128,list 1 5,refused 2,refused 2,refused 2,,\n"), "{lines}");
+    assert_eq!(lines.lines().count(), 5);
 }
 
+/// Of all that is told, no line has over 100 columns.
 #[test]
-fn random_files() {
-    let out = hall(&["random", "300", "7"], b"");
-    let found = items(&out.stdout);
-    assert!(found.len() == 300 && found.iter().all(|item| item.record.is_ok()));
-    assert_eq!(out.stdout, hall(&["random", "300", "7"], b"").stdout);
-    assert_ne!(out.stdout, hall(&["random", "300", "7", "--damage"], b"").stdout);
-    assert_eq!(hall(&["random", "0", "7"], b"").stdout, b"");
-    let out = hall(&["random", "5000", "7"], b"");
-    assert_eq!((out.status.code(), &out.stdout[..]), (Some(2), &b""[..]));
-    assert!(text(&out.stderr).contains("at most 65,536 bytes"));
-}
-
-#[test]
-fn faults_are_named() {
-    let known: [(&[&str], i32, &str); 8] = [
-        (&["show", "/no/such/file"], 1, "hall: /no/such/file: "),
-        (&["compare", "/no/such/file"], 1, "hall: /no/such/file: "),
-        (&["compare"], 2, "a word is missing after `hall compare`"),
-        (&["compare", "x", "--all"], 2, "unknown word `--all`"),
-        (&["make", "x"], 2, "unknown word `x`"),
-        (&["random", "ten", "1"], 2, "`ten` is no whole number"),
-        (&["random", "10", "1", "--break"], 2, "unknown word `--break`"),
-        (&["stored", "files"], 2, "a word is missing after `hall stored files`"),
+fn columns() {
+    let long =
+        "list 2^-30 -1.8e1 21.000000000000004 -7.999999999999999 1.0000000000000002 0 0 0 0 0";
+    let bytes = made(&format!("{long} 0 0 0 0 0 0 0 0 0 0 0 0 0 0 0\nlist 2^-30 -18 21 -8 1"));
+    let told = [
+        hall(&["compare", "-"], &bytes).stdout,
+        hall(&["compare", "-"], b"list 1 2").stderr,
+        hall(&["make"], b"list 1 2 three").stderr,
+        hall(&["lists", "1000", "1"], b"").stdout,
+        hall(&["damage", "0", "1"], b"").stdout,
     ];
-    for (words, status, message) in known {
-        let out = hall(words, b"");
-        assert_eq!((out.status.code(), &out.stdout[..]), (Some(status), &b""[..]), "{words:?}");
-        assert!(text(&out.stderr).contains(message), "{words:?}: {}", text(&out.stderr));
+    for all in told.map(|all| text(&all)) {
+        assert!(!all.is_empty());
+        for line in all.lines() {
+            assert!(line.chars().count() <= 100, "{line}");
+        }
     }
+}
+
+/// Text, junk or nothing: status 2. Behind a whole record it is a refusal like another.
+#[test]
+fn nothing_to_compare() {
+    let known: [(&[u8], &str); 6] = [
+        (b"", "the file is empty"),
+        (b"Slider 1 3 3\n", "byte 0: unknown mark `Sl`; for lines of text, `hall make`"),
+        (b"list 2^-30 2 -3 1\n", "byte 0: unknown mark `li`; for lines of text, `hall make`"),
+        (b"\x7FELF", "byte 0: unknown mark `\\x7fE`"),
+        (b"TG\0", "byte 0: the file ends inside this crank"),
+        (&[0; 70_000], "the file has 70000 bytes, more than 65,536"),
+    ];
+    for (bytes, why) in known {
+        for words in [&["compare", "-"][..], &["compare", "-", "--csv"]] {
+            let out = hall(words, bytes);
+            assert_eq!((out.status.code(), &out.stdout[..]), (Some(2), &b""[..]), "{why}");
+            let front = format!("hall: standard input: nothing was compared: {why}");
+            assert!(said(&out).starts_with(&front), "{}", said(&out));
+        }
+    }
+    let out = hall(&["compare", "/no/such/file"], b"");
+    assert_eq!((out.status.code(), &out.stdout[..]), (Some(1), &b""[..]));
+    assert!(said(&out).starts_with("hall: /no/such/file: "));
+    let out = hall(&["compare", "-"], &[&made("list 1 1 1")[..], b"XX"].concat());
+    assert_eq!(out.status.code(), Some(0));
+    assert!(text(&out.stdout).starts_with("2 records: 1 answered, 1 refused\n"));
 }
 
 #[test]
 fn long_runs() {
-    let said = |words: &[&str]| {
+    let ran = |words: &[&str]| {
         let out = hall(words, b"");
         assert_eq!(out.status.code(), Some(0), "{out:?}");
         text(&out.stdout)
     };
-    assert!(said(&["files", "2000", "1"]).contains("2000 files, 0 differ"));
+    assert!(ran(&["files", "2000", "1"]).contains("2000 files, 0 differ"));
     // in no time, the stored files alone, on two threads
     let all = 2 * host::stored::files::files().len();
-    assert!(said(&["damage", "0", "1"]).contains(&format!("{all} files, 0 differ")));
+    assert!(ran(&["damage", "0", "1"]).contains(&format!("{all} files, 0 differ")));
 }
 
 #[test]
@@ -170,5 +119,5 @@ fn stored_files() {
     fs::write(&taken, "").unwrap();
     let out = hall(&["stored", "files", taken.to_str().unwrap()], b"");
     assert_eq!(out.status.code(), Some(1));
-    assert!(text(&out.stderr).contains("taken"));
+    assert!(said(&out).contains("taken"));
 }

@@ -1,31 +1,9 @@
 //! The test host's program for people.
-use host::people::{self, bench, documents};
+use host::people::{self, bench, documents, help};
 use host::stored::leaves;
 use std::io;
 use std::path::Path;
 use std::process::ExitCode;
-
-const HELP: &str = "\
-hall bench                how long a call of each proved function takes, beside Rust's
-hall lists COUNT SEED     compare COUNT made lists with geomcore's Rust, on two threads
-hall inquiries COUNT SEED the same for inquiries: always no, always yes, and by a hash
-hall cranks COUNT SEED    the same for crank equations
-hall quadratics COUNT SEED
-                          the same for quadratics, their centres, shifted and touching ones
-hall files COUNT SEED     the same for whole hall files, every other one damaged
-hall damage MINUTES SEED  damage stored and made files, those again that met something new
-hall coverage COUNT SEED  how often each branch of the reference build was taken, COUNT inputs of
-                          each sort; with the feature `coverage`
-hall mutants COUNT SEED   after how many made inputs the comparison notices each mistake in a copy of
-                          the reference build; with the feature `mutants`. Status 1 where one of
-                          them is not noticed
-hall causes COUNT SEED    which leaf makes the untouched Rust depart, over COUNT made lists; with the
-                          feature `causes`
-hall stored leaves DIR    write inputs of the leaves to DIR/data/leaves, and the exact
-                          answers to DIR/stdout: what the crate leafcases reads and prints
-hall documents            write the documents that are made from the repository's own text
-hall --help               this page
-";
 
 /// The long runs, and what their first number says.
 const RUNS: [(&str, &str); 9] = [
@@ -44,7 +22,15 @@ fn main() -> ExitCode {
     let words: Vec<String> = std::env::args().skip(1).collect();
     let words: Vec<&str> = words.iter().map(String::as_str).collect();
     match words[..] {
-        ["--help" | "-h" | "help"] => print!("{}{HELP}", people::HELP),
+        ["--help" | "-h" | "help"] => return people::tell(&help::all()),
+        ["--version" | "-V"] => {
+            return people::tell(concat!("hall ", env!("CARGO_PKG_VERSION"), "\n"));
+        }
+        ["help", command] | [command, .., "--help" | "-h"]
+            if !help::of_command(command).is_empty() =>
+        {
+            return people::tell(&help::with_topics(command));
+        }
         ["bench"] => bench::run(),
         ["documents"] => return written(documents::write()),
         [what, count, seed] if RUNS.iter().any(|run| run.0 == what) => {
@@ -56,7 +42,7 @@ fn main() -> ExitCode {
     ExitCode::SUCCESS
 }
 
-/// Status 1 where port and reference build differ.
+/// Status 1 where port and reference build differ, 2 where nothing was compared.
 fn compare(what: &str, count: &str, seed: &str) -> ExitCode {
     let numbers = [count, seed].map(|word| (word, word.parse::<u64>()));
     for (word, number) in &numbers {
@@ -66,45 +52,52 @@ fn compare(what: &str, count: &str, seed: &str) -> ExitCode {
         }
     }
     let [count, seed] = numbers.map(|n| n.1.unwrap_or(0));
-    if long_run(what, count, seed) { ExitCode::SUCCESS } else { ExitCode::FAILURE }
-}
-
-#[cfg(geomcore)]
-fn long_run(what: &str, count: u64, seed: u64) -> bool {
-    match what {
-        "lists" => host::runs::lists::run(count, seed),
-        "inquiries" => host::runs::inquiries::run(count, seed),
-        "files" => host::runs::files::run(count, seed),
-        "damage" => host::runs::damage::run(count, seed),
-        "cranks" => host::runs::cranks::run(count, seed),
-        "quadratics" => host::runs::quadratics::run(count, seed),
-        _ => with_feature(what, count, seed),
-    }
-}
-
-/// A command that a feature of the build brings; false without it.
-#[cfg(geomcore)]
-fn with_feature(what: &str, count: u64, seed: u64) -> bool {
-    match what {
-        #[cfg(feature = "coverage")]
-        "coverage" => host::runs::coverage::run(count, seed),
-        #[cfg(feature = "mutants")]
-        "mutants" => host::runs::mutants::run(count, seed),
-        #[cfg(feature = "causes")]
-        "causes" => host::runs::causes::run(count, seed),
-        _ => {
-            eprintln!(
-                "hall: `{what}` needs a build with `--features {what}`; not run with {count} {seed}"
-            );
-            false
+    let equal = match (what, count) {
+        // in no time the stored files are compared still
+        ("damage", _) | (_, 1..) => long_run(what, count, seed),
+        _ => Err("nothing was compared: COUNT is 0".to_string()),
+    };
+    match equal {
+        Ok(true) => ExitCode::SUCCESS,
+        Ok(false) => ExitCode::FAILURE,
+        Err(why) => {
+            eprintln!("hall: {what}: {why}");
+            ExitCode::from(2)
         }
     }
 }
 
+/// Whether all that was compared is equal, or why nothing was compared.
+#[cfg(geomcore)]
+fn long_run(what: &str, count: u64, seed: u64) -> Result<bool, String> {
+    match what {
+        "lists" => Ok(host::runs::lists::run(count, seed)),
+        "inquiries" => Ok(host::runs::inquiries::run(count, seed)),
+        "files" => Ok(host::runs::files::run(count, seed)),
+        "damage" => Ok(host::runs::damage::run(count, seed)),
+        "cranks" => Ok(host::runs::cranks::run(count, seed)),
+        "quadratics" => Ok(host::runs::quadratics::run(count, seed)),
+        _ => with_feature(what, count, seed),
+    }
+}
+
+/// A command that a feature of the build brings.
+#[cfg(geomcore)]
+fn with_feature(what: &str, count: u64, seed: u64) -> Result<bool, String> {
+    match what {
+        #[cfg(feature = "coverage")]
+        "coverage" => Ok(host::runs::coverage::run(count, seed)),
+        #[cfg(feature = "mutants")]
+        "mutants" => Ok(host::runs::mutants::run(count, seed)),
+        #[cfg(feature = "causes")]
+        "causes" => Ok(host::runs::causes::run(count, seed)),
+        _ => Err(format!("needs a build with `--features {what}`; not run with {count} {seed}")),
+    }
+}
+
 #[cfg(not(geomcore))]
-fn long_run(what: &str, _: u64, _: u64) -> bool {
-    println!("{what}: {}", host::truth::reference::SKIPPED);
-    true
+fn long_run(_: &str, _: u64, _: u64) -> Result<bool, String> {
+    Err(host::truth::reference::SKIPPED.to_string())
 }
 
 /// Status 1 where a file cannot be read or written.
@@ -121,8 +114,7 @@ fn written(outcome: io::Result<()>) -> ExitCode {
 fn store_leaves(dir: &Path) -> ExitCode {
     match leaves::write_leaves(dir) {
         Ok(n) => {
-            println!("{n} records and answers written below {}", dir.display());
-            ExitCode::SUCCESS
+            people::tell(&format!("{n} records and answers written below {}\n", dir.display()))
         }
         Err(e) => {
             eprintln!("hall: {}: {e}", dir.display());
@@ -135,7 +127,8 @@ fn store_leaves(dir: &Path) -> ExitCode {
 fn refuse(words: &[&str]) -> ExitCode {
     let fits = |form: &[&str]| {
         let same = |(word, wanted): &(&&str, &&str)| {
-            word == wanted || ["DIR", "FILE", "COUNT", "MINUTES", "N", "SEED"].contains(wanted)
+            let any = ["DIR", "FILE", "COUNT", "MINUTES", "N", "SEED"].contains(wanted);
+            word == wanted || (any && !word.starts_with("--"))
         };
         words.iter().zip(form).take_while(same).count()
     };
@@ -149,21 +142,7 @@ fn refuse(words: &[&str]) -> ExitCode {
             eprintln!("hall: a word is missing after `{}`", [&["hall"], words].concat().join(" "))
         }
     }
-    let own = of_command(words.first().unwrap_or(&""));
+    let own = help::of_command(words.first().unwrap_or(&""));
     eprintln!("{own}`hall --help` has every command");
     ExitCode::from(2)
-}
-
-/// The help on one command; nothing where there is no such command.
-fn of_command(name: &str) -> String {
-    let (mut own, mut text) = (false, String::new());
-    for line in people::HELP.lines().chain(HELP.lines()) {
-        if let Some(command) = line.strip_prefix("hall ") {
-            own = command.split(' ').next() == Some(name);
-        }
-        if own {
-            text += &format!("{line}\n");
-        }
-    }
-    text
 }

@@ -7,7 +7,7 @@ pub mod tally;
 pub mod ways;
 
 use crate::inputs::random::Random;
-use std::io::Write;
+use std::io::{ErrorKind, Write};
 
 /// Inputs of one kind.
 pub struct Kind<T> {
@@ -184,7 +184,14 @@ pub fn compare_made<T: Copy + Shown, R: Same + Shown>(
     ));
 }
 
-/// A line that a test's output keeps even where the test passes.
+/// A line on standard output, which a test's output keeps even where the test passes. That nobody
+/// reads on is no failure; where it cannot be written, the program ends with status 1.
 pub fn say(line: &str) {
-    writeln!(std::io::stdout().lock(), "{line}").expect("standard output");
+    match writeln!(std::io::stdout().lock(), "{line}") {
+        Err(e) if e.kind() != ErrorKind::BrokenPipe => {
+            eprintln!("hall: standard output: {e}");
+            std::process::exit(1);
+        }
+        _ => {}
+    }
 }

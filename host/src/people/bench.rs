@@ -1,4 +1,5 @@
 //! What a call of each proved function costs, beside Rust's own and geomcore's.
+use crate::compare::say;
 use crate::inputs::random::Random;
 use crate::people::progress::Progress;
 use crate::port;
@@ -125,7 +126,7 @@ fn rust_ldexp() -> (&'static str, fn(f64, i32) -> f64) {
 
 #[cfg(not(geomcore))]
 fn rust_ldexp() -> (&'static str, fn(f64, i32) -> f64) {
-    println!("geomcore's ldexp: {}", reference::SKIPPED);
+    say(&format!("geomcore's ldexp: {}", reference::SKIPPED));
     ("powi, once", |x, k| x * 2f64.powi(k))
 }
 
@@ -166,7 +167,7 @@ fn factors(r: &mut Random) -> Vec<Row> {
 
 #[cfg(not(geomcore))]
 fn factors(_: &mut Random) -> Vec<Row> {
-    println!("factors beside geomcore's: {}", reference::SKIPPED);
+    say(&format!("factors beside geomcore's: {}", reference::SKIPPED));
     Vec::new()
 }
 
@@ -213,7 +214,7 @@ fn lists(r: &mut Random) -> Vec<Row> {
 
 #[cfg(not(geomcore))]
 fn lists(_: &mut Random) -> Vec<Row> {
-    println!("lists beside geomcore's: {}", reference::SKIPPED);
+    say(&format!("lists beside geomcore's: {}", reference::SKIPPED));
     Vec::new()
 }
 
@@ -277,13 +278,13 @@ fn cranks(r: &mut Random) -> Vec<Row> {
 
 #[cfg(not(geomcore))]
 fn inquiries(_: &mut Random) -> Vec<Row> {
-    println!("inquiries beside geomcore's: {}", reference::SKIPPED);
+    say(&format!("inquiries beside geomcore's: {}", reference::SKIPPED));
     Vec::new()
 }
 
 #[cfg(not(geomcore))]
 fn cranks(_: &mut Random) -> Vec<Row> {
-    println!("cranks beside geomcore's: {}", reference::SKIPPED);
+    say(&format!("cranks beside geomcore's: {}", reference::SKIPPED));
     Vec::new()
 }
 
@@ -312,7 +313,7 @@ fn quadratics(r: &mut Random) -> Vec<Row> {
 
 #[cfg(not(geomcore))]
 fn quadratics(_: &mut Random) -> Vec<Row> {
-    println!("quadratics beside geomcore's: {}", reference::SKIPPED);
+    say(&format!("quadratics beside geomcore's: {}", reference::SKIPPED));
     Vec::new()
 }
 
@@ -351,7 +352,7 @@ fn full_files(r: &mut Random) -> Vec<Row> {
 
 #[cfg(not(geomcore))]
 fn full_files(_: &mut Random) -> Vec<Row> {
-    println!("full files beside geomcore's answers: {}", reference::SKIPPED);
+    say(&format!("full files beside geomcore's answers: {}", reference::SKIPPED));
     Vec::new()
 }
 
@@ -378,11 +379,11 @@ pub fn run() {
         progress.step();
         rows
     });
-    println!("ns a value, best of {PASSES} passes over {VALUES} values, both in turns");
-    println!(
+    say(&format!("ns a value, best of {PASSES} passes over {VALUES} values, both in turns"));
+    say(&format!(
         "{:20}{:>8}   {:18}{:>8}{:>8}   at most",
         "function", "port", "beside", "Rust", "ratio"
-    );
+    ));
     for row in parts.iter().flatten() {
         let Row { name, port, beside, rust, .. } = row;
         let line = format!(
@@ -390,6 +391,6 @@ pub fn run() {
             port / rust,
             verdict(row)
         );
-        println!("{}", line.trim_end());
+        say(line.trim_end());
     }
 }

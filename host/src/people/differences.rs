@@ -1,8 +1,10 @@
 //! Each record of a file by three: the port, the reference build and the untouched Rust.
 use crate::compare::bits;
+use crate::people::number::shortest;
 use crate::people::progress::Progress;
 use crate::people::show::{ListFile, answered};
-use crate::people::text;
+use crate::people::table::{quoted, wrapped};
+use crate::people::{As, question, text};
 use crate::truth::hall_file::Item;
 use crate::truth::lister::{Answer, Reference, Untouched, line};
 
@@ -36,18 +38,31 @@ pub fn steps(x: f64, y: f64) -> u64 {
     place(x).abs_diff(place(y))
 }
 
+/// An answer without its places.
+fn front(answer: &Answer) -> String {
+    match answer {
+        Answer::Refused(n) => format!("refused {n}"),
+        Answer::List(_) => "ok".to_string(),
+        Answer::Quadratic(solution) => solution.word().to_string(),
+        Answer::Crank(k, _) => format!("k {k}"),
+    }
+}
+
+/// The places of an answer, a line for each: decimals, bits, and how often it counts.
+fn places(answer: &Answer) -> String {
+    let place = |(x, times): (f64, Option<u32>)| {
+        let times = times.map(|n| format!("  {n}")).unwrap_or_default();
+        format!("    {:24}  {:016X}{times}\n", shortest(x), bits(x))
+    };
+    answer.roots().into_iter().map(place).collect()
+}
+
 /// In what an answer departs from another; none where both print alike.
 pub fn departure(from: &Answer, other: &Answer) -> Option<String> {
     if from.to_string() == other.to_string() {
         return None;
     }
     let (here, there) = (from.roots(), other.roots());
-    let front = |answer: &Answer| match answer {
-        Answer::Refused(n) => format!("refused {n}"),
-        Answer::List(_) => "ok".to_string(),
-        Answer::Quadratic(solution) => solution.word().to_string(),
-        Answer::Crank(k, _) => format!("k {k}"),
-    };
     let (was, is) = (front(from), front(other));
     Some(match () {
         _ if was != is => format!("answer: {is} for {was}"),
@@ -80,12 +95,36 @@ impl Compared {
     /// The lines that show how the three differ.
     pub fn text(&self) -> String {
         let Compared { item, port, reference, untouched } = self;
-        let mut all = format!("record {} at byte {}: {}\n", item.number, item.at, self.input());
-        for (name, answer) in [("reference", reference), ("port", port), ("untouched", untouched)] {
-            let how = departure(reference, answer).map(|d| format!("   [{d}]")).unwrap_or_default();
-            all += &format!("  {name:9}  {answer}{how}\n");
+        let head = format!("record {} at byte {}: {}", item.number, item.at, self.input());
+        let mut all = wrapped(&head);
+        if let Ok(record) = &item.record {
+            all += &wrapped(&format!("  {}", question::equation(record)));
+        }
+        all += &format!("  reference  {}\n{}", front(reference), places(reference));
+        for (name, answer) in [("port", port), ("untouched", untouched)] {
+            all += &match departure(reference, answer) {
+                None => format!("  {name:9}  the same\n"),
+                Some(how) => format!("  {name:9}  {}  [{how}]\n{}", front(answer), places(answer)),
+            };
         }
         all
+    }
+
+    /// The same as comma-separated values.
+    pub fn csv(&self) -> String {
+        let Compared { item, port, reference, untouched } = self;
+        let how = |answer| departure(reference, answer).unwrap_or_default();
+        let fields = [
+            item.number.to_string(),
+            item.at.to_string(),
+            self.input(),
+            reference.to_string(),
+            port.to_string(),
+            untouched.to_string(),
+            how(port),
+            how(untouched),
+        ];
+        fields.map(|field| quoted(&field)).join(",") + "\n"
     }
 
     /// The untouched Rust's departure as a row of a table.
@@ -97,8 +136,9 @@ impl Compared {
 }
 
 /// The head of the table of departures.
-pub const HEAD: &str =
-    "| departs in | input | untouched Rust | reference build |\n|---|---|---|---|\n";
+const HEAD: &str = "| departs in | input | untouched Rust | reference build |\n|---|---|---|---|\n";
+
+const NAMES: &str = "record,byte,input,reference,port,untouched,port departs,untouched departs\n";
 
 /// What a comparison found, for people.
 pub struct Report {
@@ -107,23 +147,29 @@ pub struct Report {
     pub summary: String,
 }
 
-/// The records that differ; with `table`, the untouched Rust's departures as rows.
-pub fn report(bytes: &[u8], list_file: ListFile, table: bool) -> Result<Report, String> {
+/// The records that differ; as rows the untouched Rust's departures, as CSV all records.
+pub fn report(bytes: &[u8], list_file: ListFile, how: As) -> Result<Report, String> {
     let all = compared(bytes, list_file)?;
-    let count = |differs: fn(&Compared) -> bool| all.iter().filter(|c| differs(c)).count();
-    let (port_differs, departures) =
-        (count(Compared::port_differs), count(Compared::untouched_differs));
-    let text = match table {
-        true => all.iter().filter_map(Compared::row).collect::<String>(),
-        false => {
+    let count = |is: fn(&Compared) -> bool| all.iter().filter(|c| is(c)).count();
+    let text = match how {
+        As::Rows => HEAD.to_string() + &all.iter().filter_map(Compared::row).collect::<String>(),
+        As::Csv => NAMES.to_string() + &all.iter().map(Compared::csv).collect::<String>(),
+        As::Text => {
             let differs = all.iter().filter(|c| c.port_differs() || c.untouched_differs());
             differs.map(Compared::text).collect()
         }
     };
+    let (n, refused) = (all.len(), count(|c| matches!(c.reference, Answer::Refused(_))));
+    let [port_differs, departures] =
+        [Compared::port_differs, Compared::untouched_differs].map(count);
+    let line = |name: &str, differ: usize| {
+        format!("{name}: {} equal to the reference build, {differ} not", n - differ)
+    };
     let summary = format!(
-        "{} records: the port differs from the reference build in {port_differs}, \
-         the untouched Rust in {departures}",
-        all.len()
+        "{n} records: {} answered, {refused} refused\n{}\n{}",
+        n - refused,
+        line("port", port_differs),
+        line("untouched Rust", departures)
     );
     Ok(Report { text, port_differs, summary })
 }
@@ -169,23 +215,49 @@ mod tests {
 
     #[test]
     fn only_what_differs_is_shown() {
-        let found = report(&sample(), honest, false).unwrap();
+        let found = report(&sample(), honest, As::Text).unwrap();
         assert_eq!(found.port_differs, 0);
-        assert!(found.text.starts_with("record 2 at byte 35: list 2^-30 -18 21 -8 1\n"));
-        assert!(found.text.contains("[bits, steps 0 4]"), "{}", found.text);
-        assert!(found.summary.contains("build in 0, the untouched Rust in 1"));
-        let rows = report(&sample(), honest, true).unwrap().text;
+        let text = "\
+record 2 at byte 35: list 2^-30 -18 21 -8 1
+  x^3 - 8 x^2 + 21 x - 18 = 0
+  reference  ok
+    2                         4000000000000000  1
+    3.000000000000001         4008000000000002  2
+  port       the same
+  untouched  ok  [bits, steps 0 4]
+    2                         4000000000000000  1
+    2.999999999999999         4007FFFFFFFFFFFE  2
+";
+        assert_eq!(found.text, text);
+        let summary = "3 records: 3 answered, 0 refused\n\
+                       port: 3 equal to the reference build, 0 not\n\
+                       untouched Rust: 2 equal to the reference build, 1 not";
+        assert_eq!(found.summary, summary);
+        let rows = report(&sample(), honest, As::Rows).unwrap().text;
         let (untouched, reference) = ("4007FFFFFFFFFFFE 2", "4008000000000002 2");
         let cells =
             [untouched, reference].map(|x| format!("ok 2 4000000000000000 1 {x} |")).join(" ");
-        assert_eq!(rows, format!("| bits, steps 0 4 | list 2^-30 -18 21 -8 1 | {cells}\n"));
+        let row = format!("| bits, steps 0 4 | list 2^-30 -18 21 -8 1 | {cells}\n");
+        assert_eq!(rows, format!("{HEAD}{row}"));
+    }
+
+    #[test]
+    fn all_records_as_csv() {
+        let text = report(&sample(), honest, As::Csv).unwrap().text;
+        let lines: Vec<&str> = text.lines().collect();
+        assert_eq!(lines.len(), 4);
+        assert_eq!(lines[0], NAMES.trim_end());
+        let two = "two 3FF0000000000000 4000000000000000";
+        assert_eq!(lines[3], format!("3,78,quad 2^-30 2^-30 1 -3 2,{two},{two},{two},,"));
+        assert!(lines[2].ends_with(",,\"bits, steps 0 4\""), "{}", lines[2]);
     }
 
     #[test]
     fn a_wrong_port_is_found() {
-        let found = report(&sample(), lying, false).unwrap();
+        let found = report(&sample(), lying, As::Text).unwrap();
         assert_eq!(found.port_differs, 1);
-        assert!(found.text.contains("[bits, steps 0 3]"), "{}", found.text);
+        assert!(found.text.contains("  port       ok  [bits, steps 0 3]\n"), "{}", found.text);
+        assert!(found.summary.contains("port: 2 equal to the reference build, 1 not"));
     }
 
     #[test]

@@ -3,6 +3,7 @@
 pub mod index;
 pub mod pieces;
 
+use crate::compare::say;
 use crate::people::architecture;
 use std::collections::BTreeMap;
 use std::fmt::Write;
@@ -204,7 +205,7 @@ pub fn write() -> io::Result<()> {
     let root = root();
     for (file, text) in made(&root)? {
         fs::write(root.join(file), text)?;
-        println!("{file} written");
+        say(&format!("{file} written"));
     }
     Ok(())
 }

@@ -5,55 +5,45 @@ pub mod bench;
 pub mod differences;
 pub mod documents;
 pub mod doubt;
+pub mod help;
+pub mod number;
 pub mod picture;
 pub mod progress;
+pub mod question;
 pub mod show;
+pub mod slider;
+pub mod table;
 pub mod text;
 
 use crate::inputs::hall_files::{damage, records};
 use crate::inputs::random::Random;
-use crate::people::show::table;
+use crate::people::show::{shown, whole_listing};
 use crate::port;
-use crate::truth::hall_file::{self, MOST_BYTES};
-use std::fs;
-use std::io::{ErrorKind, Read, Write, stdin, stdout};
+use crate::truth::hall_file::{self, Item, MOST_BYTES, items};
+use crate::truth::refusals;
+use std::fs::{self, File};
+use std::io::{Error, ErrorKind, Read, Write, stdin, stdout};
+use std::os::fd::AsFd;
 use std::process::ExitCode;
+use std::thread::sleep;
+use std::time::Duration;
 
-pub const HELP: &str = "\
-hall make < TEXT > FILE   write a hall file from lines of text, one record each:
-                            list TOL c0 c1 ..   quad CONFUSION ANGULAR a b c
-                            crank CONFUSION a2 b2 c1 d1 e   and # starts a comment.
-                          A number is a decimal (the nearest double), 2^-30, inf, -inf,
-                          nan, or 0x3FF0000000000000 (bits, always behind 0x). An error
-                          names line and word, and then nothing is written
-hall show [FILE]          list a hall file, or standard input, by the proved lister, as a
-                          table: places as decimals and bits, crank roots also in degrees
-                          (k * 45 + 2 atan u), refusals in words with the byte of their
-                          record, and roots that cannot be ones marked `no root`
-hall compare FILE         each record by port, reference build and untouched Rust; prints
-                          those that differ, places with their distance in doubles.
-                          Status 1 where port and reference build differ
-hall compare FILE --differences
-                          the untouched Rust's departures as rows of a table
-hall random N SEED        a hall file of N made records on standard output; the same SEED
-                          makes the same file
-hall random N SEED --damage
-                          the same, and then cut, or with some byte changed
-hall stored files DIR     write hall files to DIR/data, their names to DIR/args and the
-                          reference build's listings to DIR/stdout: what the crate
-                          hallcases reads and prints
-";
-
-/// The forms of these commands; a word in capitals stands for any word.
-pub const FORMS: [&[&str]; 5] = [
+/// The forms of these commands; a word in capitals stands for any word that is no option.
+pub const FORMS: [&[&str]; 10] = [
     &["make"],
-    &["show", "FILE"],
+    &["list", "FILE"],
+    &["text", "FILE"],
+    &["show", "FILE", "--csv"],
+    &["show", "--csv", "FILE"],
+    &["compare", "FILE", "--csv"],
+    &["compare", "--csv", "FILE"],
     &["compare", "FILE", "--differences"],
     &["random", "N", "SEED", "--damage"],
     &["stored", "files", "DIR"],
 ];
 
-/// A message, and the status with which the program ends: 2 where the words are wrong, else 1.
+/// A message, and the status with which the program ends: 2 where the words are wrong or nothing was
+/// compared, else 1.
 struct Failure(String, u8);
 
 type Outcome = Result<ExitCode, Failure>;
@@ -64,21 +54,38 @@ fn failed<T>(message: impl Into<String>) -> Result<T, Failure> {
 
 /// Does what the words say; none where they are no command of these.
 pub fn run(words: &[&str]) -> Option<ExitCode> {
-    let outcome = match *words {
+    let csv = words.contains(&"--csv");
+    let plain: Vec<&str> = words.iter().copied().filter(|word| *word != "--csv").collect();
+    let named = |file: &str| !file.starts_with("--");
+    let outcome = match plain[..] {
+        ["show"] => show("-", csv),
+        ["show", file] if named(file) => show(file, csv),
+        ["compare", file] if named(file) => compare(file, if csv { As::Csv } else { As::Text }),
+        _ if csv => return None,
         ["make"] => make(),
-        ["show"] => show("-"),
-        ["show", file] => show(file),
-        ["compare", file] => compare(file, false),
-        ["compare", file, "--differences"] => compare(file, true),
+        ["list"] => list("-"),
+        ["list", file] if named(file) => list(file),
+        ["text"] => text_of("-"),
+        ["text", file] if named(file) => text_of(file),
+        ["compare", file, "--differences"] if named(file) => compare(file, As::Rows),
         ["random", count, seed] => random(count, seed, false),
         ["random", count, seed, "--damage"] => random(count, seed, true),
         ["stored", "files", dir] => store_files(dir),
         _ => return None,
     };
-    Some(outcome.unwrap_or_else(|Failure(message, status)| {
-        eprintln!("hall: {message}");
+    Some(ended(outcome))
+}
+
+/// Writes a text for people.
+pub fn tell(text: &str) -> ExitCode {
+    ended(emit(text.as_bytes()).map(|()| ExitCode::SUCCESS))
+}
+
+fn ended(outcome: Outcome) -> ExitCode {
+    outcome.unwrap_or_else(|Failure(message, status)| {
+        eprint!("{}", table::wrapped(&format!("hall: {message}")));
         ExitCode::from(status)
-    }))
+    })
 }
 
 /// The bytes of a file, or of standard input where it is named `-`.
@@ -88,19 +95,32 @@ fn bytes_of(file: &str) -> Result<Vec<u8>, Failure> {
         "-" => stdin().lock().read_to_end(&mut bytes).map(|_| bytes),
         _ => fs::read(file),
     };
-    read.or_else(|e| match file {
-        "-" => failed(format!("standard input: {e}")),
-        _ => failed(format!("{file}: {e}")),
-    })
+    read.or_else(|e| failed(format!("{}: {e}", name(file))))
 }
 
+fn name(file: &str) -> &str {
+    if file == "-" { "standard input" } else { file }
+}
+
+/// How long to wait for a reader that is slow and does not block.
+const PAUSE: Duration = Duration::from_millis(1);
+
 /// Writes to standard output. That nobody reads on is no failure.
-fn emit(bytes: &[u8]) -> Result<(), Failure> {
-    let mut out = stdout().lock();
-    match out.write_all(bytes).and_then(|()| out.flush()) {
-        Err(e) if e.kind() != ErrorKind::BrokenPipe => failed(format!("standard output: {e}")),
-        _ => Ok(()),
+fn emit(mut bytes: &[u8]) -> Result<(), Failure> {
+    let said = |e: Error| Failure(format!("standard output: {e}"), 1);
+    let mut out = File::from(stdout().as_fd().try_clone_to_owned().map_err(said)?);
+    while !bytes.is_empty() {
+        match out.write(bytes) {
+            Ok(n) => bytes = &bytes[n..],
+            Err(e) => match e.kind() {
+                ErrorKind::BrokenPipe => return Ok(()),
+                ErrorKind::WouldBlock => sleep(PAUSE),
+                ErrorKind::Interrupted => {}
+                _ => return Err(said(e)),
+            },
+        }
     }
+    Ok(())
 }
 
 fn make() -> Outcome {
@@ -111,11 +131,35 @@ fn make() -> Outcome {
     }
 }
 
-fn show(file: &str) -> Outcome {
+fn show(file: &str, csv: bool) -> Outcome {
     let bytes = bytes_of(file)?;
-    match table(&bytes, port::list_file) {
-        Ok(text) => emit(text.as_bytes()).map(|()| ExitCode::SUCCESS),
-        Err(e) => failed(format!("{file}: {e}")),
+    let all = shown(&bytes, port::list_file).or_else(|e| failed(format!("{file}: {e}")))?;
+    let text = if csv { table::csv(&all) } else { table::table(&all) };
+    emit(text.as_bytes()).map(|()| ExitCode::SUCCESS)
+}
+
+fn list(file: &str) -> Outcome {
+    let bytes = bytes_of(file)?;
+    emit(&whole_listing(&bytes, port::list_file))?;
+    read_to_its_end(file, &bytes)
+}
+
+fn text_of(file: &str) -> Outcome {
+    let bytes = bytes_of(file)?;
+    let records = items(&bytes).into_iter().filter_map(|item| item.record.ok());
+    let lines: String = records.map(|record| text::line(&record) + "\n").collect();
+    emit(lines.as_bytes())?;
+    read_to_its_end(file, &bytes)
+}
+
+/// A failure where reading ends with a refusal.
+fn read_to_its_end(file: &str, bytes: &[u8]) -> Outcome {
+    match items(bytes).last() {
+        Some(item @ Item { number, record: Err(refusal), .. }) => {
+            let why = refusals::in_words(bytes, item, *refusal);
+            failed(format!("{}: reading ends at record {number}: {why}", name(file)))
+        }
+        _ => Ok(ExitCode::SUCCESS),
     }
 }
 
@@ -138,20 +182,40 @@ fn random(count: &str, seed: &str, damaged: bool) -> Outcome {
     emit(&bytes).map(|()| ExitCode::SUCCESS)
 }
 
+/// How a comparison is told.
+#[derive(Clone, Copy)]
+pub enum As {
+    Text,
+    Csv,
+    Rows,
+}
+
 #[cfg(geomcore)]
-fn compare(file: &str, as_rows: bool) -> Outcome {
-    use crate::people::differences::{HEAD, report};
+fn compare(file: &str, how: As) -> Outcome {
     let bytes = bytes_of(file)?;
-    let found = report(&bytes, port::list_file, as_rows)
-        .or_else(|e| failed(format!("{file}: by the port: {e}")))?;
-    if as_rows {
-        emit(HEAD.as_bytes())?;
-        eprintln!("{}", found.summary);
-        emit(found.text.as_bytes())?;
-    } else {
-        emit(format!("{}{}\n", found.text, found.summary).as_bytes())?;
+    if !items(&bytes).iter().any(|item| item.record.is_ok()) {
+        let why = nothing_in(&bytes);
+        return Err(Failure(format!("{}: nothing was compared: {why}", name(file)), 2));
+    }
+    let found = differences::report(&bytes, port::list_file, how)
+        .or_else(|e| failed(format!("{}: by the port: {e}", name(file))))?;
+    match how {
+        As::Text => emit(format!("{}{}\n", found.text, found.summary).as_bytes())?,
+        As::Csv | As::Rows => {
+            eprintln!("{}", found.summary);
+            emit(found.text.as_bytes())?;
+        }
     }
     Ok(if found.port_differs == 0 { ExitCode::SUCCESS } else { ExitCode::FAILURE })
+}
+
+/// Why a file has no whole record.
+#[cfg(geomcore)]
+fn nothing_in(bytes: &[u8]) -> String {
+    match items(bytes).first() {
+        Some(item @ Item { record: Err(refusal), .. }) => refusals::in_words(bytes, item, *refusal),
+        _ => "the file is empty".to_string(),
+    }
 }
 
 #[cfg(geomcore)]
@@ -164,11 +228,16 @@ fn store_files(dir: &str) -> Outcome {
 }
 
 #[cfg(not(geomcore))]
-fn compare(_: &str, _: bool) -> Outcome {
-    failed(format!("compare: {}", crate::truth::reference::SKIPPED))
+fn compare(_: &str, _: As) -> Outcome {
+    Err(without_geomcore("compare"))
 }
 
 #[cfg(not(geomcore))]
 fn store_files(_: &str) -> Outcome {
-    failed(format!("stored files: {}", crate::truth::reference::SKIPPED))
+    Err(without_geomcore("stored files"))
+}
+
+#[cfg(not(geomcore))]
+fn without_geomcore(command: &str) -> Failure {
+    Failure(format!("{command}: {}", crate::truth::reference::SKIPPED), 2)
 }

@@ -1,10 +1,10 @@
-//! A listing as a table for people.
-use crate::compare::bits;
-use crate::people::doubt::doubt;
-use crate::people::text::shortest;
+//! A listing, with what people want to see beside it.
+use crate::people::doubt::{Doubt, doubt};
+use crate::people::question;
 use crate::truth::hall_file::{Item, Kind, Record, items};
 use crate::truth::lister::{Answer, Line, Solution, lines};
 use crate::truth::refusals::in_words;
+use std::cmp::Ordering;
 
 /// How a lister is called: the bytes of a file, and a buffer for the listing; its whole length comes
 /// back, and what the buffer cannot hold is left out.
@@ -33,65 +33,66 @@ pub fn answered(bytes: &[u8], list_file: ListFile) -> Result<Vec<(Item, Line)>, 
     Ok(items.into_iter().zip(lines).collect())
 }
 
-const HEAD: [&str; 7] = ["record", "kind", "answer", "place", "bits", "times", "t in degrees"];
-
-/// A row: a cell for each column, and what stands behind them.
-struct Row {
-    cells: [String; HEAD.len()],
-    note: String,
+/// A record and its answer, for people.
+pub struct Shown {
+    pub item: Item,
+    pub kind: &'static str,
+    /// The question, and its tolerances; nothing where there is no whole record.
+    pub question: String,
+    pub tolerances: String,
+    /// What the answer is, without its places.
+    pub answer: String,
+    /// Its number, and the reason in words.
+    pub refusal: Option<(u8, String)>,
+    /// Those of a crank in the order of their angles.
+    pub roots: Vec<Place>,
 }
 
-/// The table of a file's listing.
-pub fn table(bytes: &[u8], list_file: ListFile) -> Result<String, String> {
-    let head = Row { cells: HEAD.map(str::to_string), note: String::new() };
-    let mut rows = vec![head];
-    for (item, line) in answered(bytes, list_file)? {
-        rows.extend(rows_of(bytes, &item, &line));
-    }
-    Ok(laid_out(&rows))
+/// A place of an answer.
+pub struct Place {
+    pub place: f64,
+    pub times: Option<u32>,
+    /// t of a crank's root, in degrees.
+    pub angle: Option<f64>,
+    pub doubt: Option<Doubt>,
 }
 
-/// The rows side by side. A row that says a refusal has no cells behind its kind.
-fn laid_out(rows: &[Row]) -> String {
-    let width = |i: usize| rows.iter().map(|r| r.cells[i].chars().count()).max().unwrap_or(0);
-    let widths: [usize; HEAD.len()] = std::array::from_fn(width);
-    let mut text = String::new();
-    for row in rows {
-        let short = row.cells[2..].iter().all(String::is_empty) && !row.cells[0].is_empty();
-        let shown = if short { 2 } else { HEAD.len() };
-        let cells = row.cells[..shown].iter().zip(widths);
-        let padded = cells.map(|(cell, width)| format!("{cell:width$}")).collect::<Vec<_>>();
-        text += format!("{}  {}", padded.join("  "), row.note).trim_end();
-        text += "\n";
-    }
-    text
+/// All records of a file; an error where the lister's lines are not those of its records.
+pub fn shown(bytes: &[u8], list_file: ListFile) -> Result<Vec<Shown>, String> {
+    let all = answered(bytes, list_file)?;
+    Ok(all.into_iter().map(|(item, line)| shown_record(bytes, item, &line)).collect())
 }
 
-/// One row for each root, or one that says why there is none.
-fn rows_of(bytes: &[u8], item: &Item, line: &Line) -> Vec<Row> {
-    let kind = line.kind.map_or("--", Kind::word);
-    let mut front = [line.number.to_string(), kind.to_string(), heading(&line.answer)];
-    if let Answer::Refused(number) = line.answer {
-        let note = format!("refused {number}: {}", in_words(bytes, item, number));
-        return vec![Row { cells: cells(front, Default::default()), note }];
+fn shown_record(bytes: &[u8], item: Item, line: &Line) -> Shown {
+    let refusal = match line.answer {
+        Answer::Refused(number) => Some((number, in_words(bytes, &item, number))),
+        _ => None,
+    };
+    let text = |of: fn(&Record) -> String| item.record.as_ref().map(of).unwrap_or_default();
+    Shown {
+        kind: line.kind.map_or("--", Kind::word),
+        question: text(question::equation),
+        tolerances: text(question::tolerances),
+        answer: heading(&line.answer),
+        refusal,
+        roots: places(&item, &line.answer),
+        item,
     }
-    let equation = item.record.as_ref().map(|record| equation(record, &line.answer));
-    let mut rows = Vec::new();
-    for (x, times) in line.answer.roots() {
-        let found = equation.as_ref().ok().and_then(|coeffs| doubt(coeffs, x));
-        let note = found.map_or("", |doubt| doubt.words()).to_string();
-        let times = times.map(|n| n.to_string()).unwrap_or_default();
-        let back = [shortest(x), format!("{:016X}", bits(x)), times, degrees(&line.answer, x)];
-        rows.push(Row { cells: cells(std::mem::take(&mut front), back), note });
-    }
-    if rows.is_empty() {
-        rows.push(Row { cells: cells(front, Default::default()), note: String::new() });
-    }
-    rows
 }
 
-fn cells([a, b, c]: [String; 3], [d, e, f, g]: [String; 4]) -> [String; HEAD.len()] {
-    [a, b, c, d, e, f, g]
+fn places(item: &Item, answer: &Answer) -> Vec<Place> {
+    let coeffs = item.record.as_ref().ok().map(|record| equation(record, answer));
+    let place = |(place, times): (f64, Option<u32>)| {
+        let angle = match answer {
+            Answer::Crank(k, _) => Some(degrees(*k, place)),
+            _ => None,
+        };
+        let doubt = coeffs.as_ref().and_then(|coeffs| doubt(coeffs, place));
+        Place { place, times, angle, doubt }
+    };
+    let mut all: Vec<Place> = answer.roots().into_iter().map(place).collect();
+    all.sort_by(|a, b| a.angle.partial_cmp(&b.angle).unwrap_or(Ordering::Equal));
+    all
 }
 
 /// What an answer is, without its places; nothing for a refusal.
@@ -108,13 +109,16 @@ fn heading(answer: &Answer) -> String {
     }
 }
 
-/// t = k * 45 + 2 * atan u of a crank's root, to nine decimals.
-fn degrees(answer: &Answer, u: f64) -> String {
-    let Answer::Crank(k, _) = answer else {
-        return String::new();
-    };
-    let t = *k as f64 * 45.0 + 2.0 * u.atan().to_degrees();
-    let text = format!("{t:.9}");
+/// t = k * 45 + 2 * atan u of a crank's root, from 0 on and below 360, as it prints to nine
+/// decimals.
+fn degrees(k: usize, u: f64) -> f64 {
+    let t = (k as f64 * 45.0 + 2.0 * u.atan().to_degrees()).rem_euclid(360.0);
+    if nine_decimals(t) == "360" { 0.0 } else { t }
+}
+
+/// Rounded to nine decimals, without zeros at the end.
+pub fn nine_decimals(x: f64) -> String {
+    let text = format!("{x:.9}");
     text.trim_end_matches('0').trim_end_matches('.').to_string()
 }
 
@@ -149,11 +153,13 @@ mod tests {
 
     #[test]
     fn angles() {
-        let crank = Answer::Crank(4, vec![]);
-        assert_eq!(degrees(&crank, -1.0), "90");
-        assert_eq!(degrees(&crank, 1.0), "270");
-        assert_eq!(degrees(&Answer::Crank(1, vec![]), 1.0 / 3f64.sqrt()), "105");
-        assert_eq!(degrees(&Answer::List(vec![]), 1.0), "");
+        let shown = |k, u| nine_decimals(degrees(k, u));
+        assert_eq!([shown(4, -1.0), shown(4, 1.0)], ["90", "270"]);
+        assert_eq!(shown(1, 1.0 / 3f64.sqrt()), "105");
+        assert_eq!([shown(0, -1.0), shown(7, 1.0), shown(7, 3.0)], ["270", "45", "98.130102354"]);
+        // what prints as 360 is 0
+        assert_eq!([shown(0, -1e-15), shown(0, -1e-300), shown(0, -0.0)], ["0", "0", "0"]);
+        assert_eq!(shown(0, -1e-8), "359.999998854");
     }
 
     #[test]
@@ -171,6 +177,7 @@ mod tests {
     #[cfg(geomcore)]
     #[test]
     fn the_quartic_is_the_rusts() {
+        use crate::compare::bits;
         use crate::truth::lister::{Reference, Solver};
         let mut r = crate::inputs::random::Random::new(5);
         for n in 0..90_000 {

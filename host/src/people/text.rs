@@ -1,5 +1,8 @@
-//! Records as lines of text: `list TOL c0 c1 ..`, `quad CONFUSION ANGULAR a b c` and
-//! `crank CONFUSION a2 b2 c1 d1 e`; '#' starts a comment.
+//! Records as lines of text: `list TOL c0 c1 ..`, `quad CONFUSION ANGULAR a b c`,
+//! `crank CONFUSION a2 b2 c1 d1 e`, and `slider R L X` for the crank of these lengths; '#' starts a
+//! comment. Capital letters count as small ones.
+use crate::people::number::{character, number, word};
+use crate::people::slider;
 use crate::truth::hall_file::{Kind, MOST_BYTES, MOST_COEFFICIENTS, Record};
 use std::fmt;
 
@@ -29,6 +32,7 @@ fn fault<T>(word: &str, why: impl Into<String>) -> Result<T, Fault> {
 /// The records of a text, or its first fault.
 pub fn read(text: &[u8]) -> Result<Vec<Record>, TextError> {
     let (mut records, mut size) = (Vec::new(), 0);
+    let text = without_mark(text)?;
     for (i, line) in text.split(|b| *b == b'\n').enumerate() {
         let told = |(word, why)| TextError { line: i + 1, word, why };
         let words = words(line).map_err(told)?;
@@ -46,6 +50,16 @@ pub fn read(text: &[u8]) -> Result<Vec<Record>, TextError> {
     Ok(records)
 }
 
+/// The text without the byte order mark that some editors put before it.
+fn without_mark(text: &[u8]) -> Result<&[u8], TextError> {
+    if let [0xFF, 0xFE, ..] | [0xFE, 0xFF, ..] = text {
+        let word = text[..2].escape_ascii().to_string();
+        let why = "the text is UTF-16: save it as UTF-8".to_string();
+        return Err(TextError { line: 1, word, why });
+    }
+    Ok(text.strip_prefix(b"\xEF\xBB\xBF").unwrap_or(text))
+}
+
 /// The words of a line, without its comment.
 fn words(line: &[u8]) -> Result<Vec<&str>, Fault> {
     let kept = line.split(|b| *b == b'#').next().unwrap_or(line);
@@ -59,25 +73,62 @@ fn record(words: &[&str]) -> Result<Option<Record>, Fault> {
     let Some((first, rest)) = words.split_first() else {
         return Ok(None);
     };
-    let Some(kind) = Kind::ALL.into_iter().find(|kind| kind.word() == *first) else {
-        return fault(first, "no kind of record: a line begins with list, quad or crank");
-    };
+    let name = first.to_ascii_lowercase();
+    let kind = Kind::ALL.into_iter().find(|kind| kind.word() == name);
+    if kind.is_none() && name != slider::WORD {
+        let odd = first.chars().find(|c| !c.is_ascii_graphic());
+        let odd = odd.map(|c| format!(" ({})", character(c))).unwrap_or_default();
+        let known = "a line begins with list, quad, crank or slider";
+        return fault(first, format!("no kind of record: {known}{odd}"));
+    }
     let numbers = rest.iter().map(|word| number(word).or_else(|why| fault(word, why)));
     let numbers = numbers.collect::<Result<Vec<f64>, Fault>>()?;
     match kind {
-        Kind::List => list(words, numbers),
-        Kind::Quadratic => {
+        Some(Kind::List) => list(words, numbers),
+        Some(Kind::Quadratic) => {
             let form = "quad CONFUSION ANGULAR a b c";
             let [confusion, angular, a, b, c] = exactly(words, &numbers, form)?;
             Ok(Record::Quadratic { confusion, angular, abc: [a, b, c] })
         }
-        Kind::Crank => {
+        Some(Kind::Crank) => {
             let form = "crank CONFUSION a2 b2 c1 d1 e";
             let [confusion, a2, b2, c1, d1, e] = exactly(words, &numbers, form)?;
             Ok(Record::Crank { confusion, terms: [a2, b2, c1, d1, e] })
         }
+        None => crank_of_slider(words, &numbers),
     }
     .map(Some)
+}
+
+/// The crank of a slider-crank: three numbers, four with Y, five with the confusion before them.
+fn crank_of_slider(words: &[&str], numbers: &[f64]) -> Result<Record, Fault> {
+    let (confusion, lengths) = match *numbers {
+        [r, l, x] => (slider::CONFUSION, [r, l, x, 0.0]),
+        [r, l, x, y] => (slider::CONFUSION, [r, l, x, y]),
+        _ => {
+            let [confusion, r, l, x, y] = exactly(words, numbers, slider::FORM)?;
+            (confusion, [r, l, x, y])
+        }
+    };
+    let behind = &words[1 + usize::from(numbers.len() == 5)..];
+    for (i, (length, word)) in lengths.iter().zip(behind).enumerate() {
+        match (length.is_finite(), i) {
+            (false, _) => return fault(word, format!("no length: {}", slider::FORM)),
+            (true, 0 | 1) if *length <= 0.0 => {
+                return fault(word, format!("the lengths R and L are above 0: {}", slider::FORM));
+            }
+            _ => {}
+        }
+    }
+    let terms = slider::terms(lengths);
+    let gone = |of: f64, term: f64| of != 0.0 && term == 0.0;
+    match terms.iter().all(|x| x.is_finite()) {
+        true if gone(lengths[2], terms[2]) || gone(lengths[3], terms[3]) => {
+            fault(words[0], "a number of its equation is below the smallest double")
+        }
+        true => Ok(Record::Crank { confusion, terms }),
+        false => fault(words[0], "a number of its equation is beyond the largest double"),
+    }
 }
 
 fn list(words: &[&str], numbers: Vec<f64>) -> Result<Record, Fault> {
@@ -102,177 +153,10 @@ fn exactly<const N: usize>(words: &[&str], numbers: &[f64], form: &str) -> Resul
     }
 }
 
-const FORMS: &str =
-    "no number: a number is a decimal, 2^k, inf, -inf, nan, or 0x and 16 hexadecimal digits";
-
-/// The double that a word stands for, or why there is none.
-pub fn number(word: &str) -> Result<f64, &'static str> {
-    if let Some(digits) = word.strip_prefix("0x") {
-        return by_bits(digits);
-    }
-    if word == "nan" {
-        return Ok(f64::NAN);
-    }
-    let (sign, size) = match word.as_bytes().first() {
-        Some(b'-') => (-1.0, &word[1..]),
-        Some(b'+') => (1.0, &word[1..]),
-        _ => (1.0, word),
-    };
-    let size = match size.strip_prefix("2^") {
-        _ if size == "inf" => f64::INFINITY,
-        Some(power) => power_of_two(power)?,
-        None => decimal(size)?,
-    };
-    Ok(sign * size)
-}
-
-fn by_bits(digits: &str) -> Result<f64, &'static str> {
-    let whole = digits.len() == 16 && digits.bytes().all(|b| b.is_ascii_hexdigit());
-    match u64::from_str_radix(digits, 16) {
-        Ok(bits) if whole => Ok(f64::from_bits(bits)),
-        _ => Err("no bits of a double: those are 0x and 16 hexadecimal digits"),
-    }
-}
-
-fn power_of_two(power: &str) -> Result<f64, &'static str> {
-    let digits = power.strip_prefix(['-', '+']).unwrap_or(power);
-    if digits.is_empty() || !digits.bytes().all(|b| b.is_ascii_digit()) {
-        return Err(FORMS);
-    }
-    match power.parse::<i32>() {
-        Ok(k @ -1074..=1023) => Ok(crate::truth::exact::nearest(1, k)),
-        _ => Err("no double: the power of two must be from -1074 to 1023"),
-    }
-}
-
-/// The double nearest to a decimal without a sign.
-fn decimal(size: &str) -> Result<f64, &'static str> {
-    let plain = size.bytes().all(|b| b.is_ascii_digit() || b".eE+-".contains(&b));
-    match size.parse::<f64>() {
-        Ok(x) if plain && !size.starts_with(['+', '-']) => match x.is_finite() {
-            true => Ok(x),
-            false => Err("beyond the largest double: write inf where that is meant"),
-        },
-        _ => Err(FORMS),
-    }
-}
-
-/// The shortest decimal that reads back as x; a NaN is `nan`.
-pub fn shortest(x: f64) -> String {
-    if x.is_nan() {
-        return "nan".to_string();
-    }
-    let text = format!("{x:?}");
-    text.strip_suffix(".0").map(str::to_string).unwrap_or(text)
-}
-
-/// A word that reads back as the same bits: a power of two, the shortest decimal, or bits.
-pub fn word(x: f64) -> String {
-    let size = x.abs();
-    let power = crate::truth::exact::exponent(x);
-    let sign = if x.is_sign_negative() { "-" } else { "" };
-    match number(&format!("2^{power}")) {
-        Ok(y) if y == size && power.abs() > 9 => format!("{sign}2^{power}"),
-        _ if x.is_nan() && x.to_bits() != f64::NAN.to_bits() => format!("0x{:016X}", x.to_bits()),
-        _ => shortest(x),
-    }
-}
-
 /// The line that reads back as this record.
 pub fn line(record: &Record) -> String {
     let numbers = record.numbers().into_iter().map(word);
     let words: Vec<String> =
         [record.kind().word().to_string()].into_iter().chain(numbers).collect();
     words.join(" ")
-}
-
-#[cfg(test)]
-mod tests {
-    use super::*;
-    use crate::inputs::random::Random;
-
-    #[test]
-    fn numbers() {
-        let known = [
-            ("1", 1.0),
-            ("-1.5", -1.5),
-            ("+2", 2.0),
-            ("0.1", 0.1),
-            (".5", 0.5),
-            ("5.", 5.0),
-            ("1e-3", 0.001),
-            ("1E+3", 1000.0),
-            ("-0", -0.0),
-            ("2^-30", 1.0 / (1u64 << 30) as f64),
-            ("-2^3", -8.0),
-            ("+2^+3", 8.0),
-            ("2^-1074", f64::from_bits(1)),
-            ("2^1023", f64::from_bits(0x7FE0 << 48)),
-            ("inf", f64::INFINITY),
-            ("-inf", f64::NEG_INFINITY),
-            ("nan", f64::NAN),
-            ("0x3FF0000000000000", 1.0),
-            ("0xfff0000000000001", f64::from_bits(0xFFF0_0000_0000_0001)),
-            ("1e-400", 0.0),
-            ("179769313486231580793728971405301e276", f64::MAX),
-        ];
-        for (word, x) in known {
-            assert_eq!(number(word).map(f64::to_bits), Ok(x.to_bits()), "{word}");
-        }
-    }
-
-    #[test]
-    fn no_numbers() {
-        let words = [
-            "",
-            "-",
-            "+",
-            "x",
-            "1,5",
-            "1e",
-            "e5",
-            ".",
-            "--1",
-            "+-1",
-            "-+1",
-            "1_000",
-            "NaN",
-            "-nan",
-            "infinity",
-            "Inf",
-            "2^",
-            "2^x",
-            "2^1024",
-            "2^-1075",
-            "2^--1",
-            "2^99999999999",
-            "3^2",
-            "0x",
-            "0x1",
-            "0x3FF00000000000000",
-            "0x3FF000000000000G",
-            "0x+3FF00000000000",
-            "-0x0",
-            "1e400",
-            "0X3FF0000000000000",
-            "½",
-        ];
-        for word in words {
-            assert!(number(word).is_err(), "{word}");
-        }
-    }
-
-    #[test]
-    fn words_read_back() {
-        let mut r = Random::new(3);
-        for _ in 0..200_000 {
-            let x = r.any();
-            assert_eq!(number(&word(x)).map(f64::to_bits), Ok(x.to_bits()), "{}", word(x));
-            if !x.is_nan() {
-                assert_eq!(number(&shortest(x)).map(f64::to_bits), Ok(x.to_bits()));
-            }
-        }
-        let shown = [1.0, -0.0, 0.1, 1e300, -2.5, 1.0 / (1u64 << 30) as f64].map(word);
-        assert_eq!(shown, ["1", "-0", "0.1", "1e300", "-2.5", "2^-30"]);
-    }
 }

@@ -5,6 +5,7 @@ use crate::compare::say;
 use crate::compare::ways::Counts;
 use crate::inputs::hall_files::{any_file, damage};
 use crate::inputs::random::Random;
+use crate::people::table::in_columns;
 use crate::port;
 use crate::stored;
 use crate::truth::hall_file::{Item, Record, items};
@@ -172,9 +173,7 @@ pub fn run(minutes: u64, seed: u64) -> bool {
     let ((mut all, new), (more, newer)) = (first, second);
     all.join(more);
     all.shown.iter().for_each(|line| say(line));
-    say(&format!(
-        "seed {seed}, two threads, {new} and {newer} records met something new\n{}",
-        all.text()
-    ));
+    let line = format!("seed {seed}, two threads, {new} and {newer} records met something new");
+    say(&in_columns(&format!("{line}\n{}", all.text())));
     all.wrong == 0
 }

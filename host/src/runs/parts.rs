@@ -1,6 +1,7 @@
 //! Long comparisons in parts, each with a seed of its own, on two threads.
 use crate::compare::outcome::Outcome;
 use crate::compare::say;
+use crate::people::table::in_columns;
 use std::sync::atomic::{AtomicU64, Ordering};
 use std::sync::mpsc;
 use std::thread;
@@ -54,7 +55,7 @@ pub fn run(
     for line in &outcome.shown {
         say(line);
     }
-    say(&format!("seed {seed}, kinds in turn: {}", kinds.join(", ")));
-    say(&outcome.text());
+    say(&in_columns(&format!("seed {seed}, kinds in turn: {}", kinds.join(", "))));
+    say(&in_columns(&outcome.text()));
     outcome.wrong == 0
 }

@@ -1,4 +1,5 @@
 //! The refusals of document 01, 'What each operation refuses', by name, and in words for people.
+use crate::people::slider;
 use crate::truth::hall_file::{Item, Kind};
 
 /// 'some coefficient not finite, wherever it stands'; 'one of a, b, c'; 'one of the five'.
@@ -65,10 +66,13 @@ pub fn in_words(bytes: &[u8], item: &Item, number: u8) -> String {
     }
 }
 
-/// A hint where a file begins like lines of text.
+/// A hint where a file begins like lines of text, be it with a byte order mark or capital letters.
 fn text_hint(bytes: &[u8]) -> &'static str {
-    let of_text = |word: &str| bytes.starts_with(format!("{word} ").as_bytes());
-    match bytes.starts_with(b"#") || Kind::ALL.iter().any(|kind| of_text(kind.word())) {
+    let text = bytes.strip_prefix(b"\xEF\xBB\xBF").unwrap_or(bytes).trim_ascii_start();
+    let word = text.split(|b| b.is_ascii_whitespace()).next().unwrap_or(text);
+    let words = Kind::ALL.map(Kind::word);
+    let is = |known: &&str| known.as_bytes().eq_ignore_ascii_case(word);
+    match text.starts_with(b"#") || words.iter().chain([&slider::WORD]).any(is) {
         true => "; for lines of text, `hall make` makes a hall file",
         false => "",
     }
@@ -102,6 +106,9 @@ mod tests {
         let hint = "; for lines of text, `hall make` makes a hall file";
         assert_eq!(said(b"list 1 2"), [format!("byte 0: unknown mark `li`{hint}")]);
         assert_eq!(said(b"listen"), ["byte 0: unknown mark `li`"]);
+        for text in [&b"\xEF\xBB\xBFquad\t1 2"[..], b"Slider 1 3 3", b"\r\n# lanes", b"CRANK\n"] {
+            assert!(said(text)[0].ends_with(hint), "{:?}", text.escape_ascii());
+        }
         assert_eq!(with(b"P"), ["byte 11: the file ends inside a mark"]);
         assert_eq!(
             with(b"PL"),

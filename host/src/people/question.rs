@@ -1,0 +1,86 @@
+//! The question of a record, as people write it.
+use crate::people::number::{shortest, word};
+use crate::truth::hall_file::Record;
+
+/// The equation, its highest power first.
+pub fn equation(record: &Record) -> String {
+    let sum = match record {
+        Record::List { coeffs, .. } => polynomial(coeffs),
+        Record::Quadratic { abc: [a, b, c], .. } => polynomial(&[*c, *b, *a]),
+        Record::Crank { terms, .. } => {
+            let names = ["cos 2t", "sin 2t", "cos t", "sin t", ""].map(str::to_string);
+            sum(terms.iter().copied().zip(names))
+        }
+    };
+    format!("{sum} = 0")
+}
+
+/// The tolerances, each behind its name.
+pub fn tolerances(record: &Record) -> String {
+    match record {
+        Record::List { tolerance, .. } => format!("tol {}", word(*tolerance)),
+        Record::Quadratic { confusion, angular, .. } => {
+            format!("confusion {}, angular {}", word(*confusion), word(*angular))
+        }
+        Record::Crank { confusion, .. } => format!("confusion {}", word(*confusion)),
+    }
+}
+
+/// With these coefficients, ascending.
+fn polynomial(coeffs: &[f64]) -> String {
+    let power = |i: usize| match i {
+        0 => String::new(),
+        1 => "x".to_string(),
+        i => format!("x^{i}"),
+    };
+    sum(coeffs.iter().enumerate().rev().map(|(i, a)| (*a, power(i))))
+}
+
+/// Numbers times names; what is 0 is left out.
+fn sum(terms: impl Iterator<Item = (f64, String)>) -> String {
+    let mut text = String::new();
+    for (factor, name) in terms.filter(|term| term.0 != 0.0) {
+        let below = factor.is_sign_negative() && !factor.is_nan();
+        text += match (text.is_empty(), below) {
+            (true, false) => "",
+            (true, true) => "-",
+            (false, false) => " + ",
+            (false, true) => " - ",
+        };
+        text += &match (factor.abs(), &name[..]) {
+            (size, "") => shortest(size),
+            (1.0, name) => name.to_string(),
+            (size, name) => format!("{} {name}", shortest(size)),
+        };
+    }
+    if text.is_empty() { "0".to_string() } else { text }
+}
+
+#[cfg(test)]
+mod tests {
+    use super::*;
+    use crate::people::text::read;
+
+    #[test]
+    fn questions() {
+        let known = [
+            ("list 2^-30 2 -3 1", "tol 2^-30", "x^2 - 3 x + 2 = 0"),
+            ("list 1e-7 -1 0 0 -1 -2.5 0", "tol 1e-7", "-2.5 x^4 - x^3 - 1 = 0"),
+            ("list 1 0 -0", "tol 1", "0 = 0"),
+            ("list 1 5", "tol 1", "5 = 0"),
+            ("list 1 nan -inf 1e300", "tol 1", "1e300 x^2 - inf x + nan = 0"),
+            ("quad 1 2 1 -3 2", "confusion 1, angular 2", "x^2 - 3 x + 2 = 0"),
+            (
+                "crank 1 1 2 -3 -1 0.5",
+                "confusion 1",
+                "cos 2t + 2 sin 2t - 3 cos t - sin t + 0.5 = 0",
+            ),
+            ("crank 1 0 0 1 0 0", "confusion 1", "cos t = 0"),
+            ("crank 1 0 0 0 0 1", "confusion 1", "1 = 0"),
+        ];
+        for (line, names, text) in known {
+            let record = &read(line.as_bytes()).unwrap()[0];
+            assert_eq!((tolerances(record), equation(record)), (names.into(), text.into()));
+        }
+    }
+}

@@ -1,0 +1,161 @@
+//! What `show` found, as a table in 100 columns, and as CSV.
+use crate::compare::bits;
+use crate::people::number::shortest;
+use crate::people::show::{Place, Shown, nine_decimals};
+
+/// No line is longer, but for a word that is.
+pub const COLUMNS: usize = 100;
+
+const HEAD: [&str; 6] = ["answer", "place", "bits", "times", "t in degrees", "t in radians"];
+
+type Cells = [String; HEAD.len()];
+
+enum Row {
+    Cells(Cells),
+    Text(String),
+}
+
+/// For each record its question, and then a row for each root, or one that says why there is none.
+pub fn table(all: &[Shown]) -> String {
+    if all.is_empty() {
+        return "no record: the file is empty\n".to_string();
+    }
+    laid_out(&all.iter().flat_map(rows).collect::<Vec<_>>())
+}
+
+fn rows(shown: &Shown) -> Vec<Row> {
+    let Shown { item, kind, question, tolerances, .. } = shown;
+    let front = match question.is_empty() {
+        true => format!("{} {kind}", item.number),
+        false => format!("{} {kind}, {tolerances}: {question}", item.number),
+    };
+    let mut all = vec![Row::Text(front)];
+    if let Some((number, why)) = &shown.refusal {
+        all.push(Row::Text(format!("  refused {number}: {why}")));
+        return all;
+    }
+    let mut answer = shown.answer.clone();
+    for root in &shown.roots {
+        let front = std::mem::take(&mut answer);
+        all.push(Row::Cells(cells(front, root)));
+        all.extend(root.doubt.map(|doubt| Row::Text(format!("  {}", doubt.words()))));
+    }
+    if shown.roots.is_empty() {
+        all.push(Row::Text(format!("  {answer}")));
+    }
+    all
+}
+
+fn cells(answer: String, root: &Place) -> Cells {
+    let [place, bits, times, degrees, radians] = columns(root);
+    [answer, place, bits, times, degrees, radians]
+}
+
+/// Place, bits, times, degrees and radians of a root.
+fn columns(root: &Place) -> [String; 5] {
+    let angle = |of: fn(f64) -> f64| root.angle.map(|t| nine_decimals(of(t))).unwrap_or_default();
+    let times = root.times.map(|n| n.to_string()).unwrap_or_default();
+    let bits = format!("{:016X}", bits(root.place));
+    [shortest(root.place), bits, times, angle(|t| t), angle(f64::to_radians)]
+}
+
+/// The rows under a head; a column with nothing in it is left out.
+fn laid_out(rows: &[Row]) -> String {
+    let cells = |row: &Row, i: usize| match row {
+        Row::Cells(cells) => cells[i].chars().count(),
+        Row::Text(_) => 0,
+    };
+    let widths: [usize; HEAD.len()] =
+        std::array::from_fn(|i| match rows.iter().map(|row| cells(row, i)).max().unwrap_or(0) {
+            0 => 0,
+            width => width.max(HEAD[i].len()),
+        });
+    let joined = |cells: &Cells| {
+        let shown = cells.iter().zip(widths).filter(|cell| cell.1 > 0);
+        let padded = shown.map(|(cell, width)| format!("  {cell:width$}"));
+        padded.collect::<String>().trim_end().to_string() + "\n"
+    };
+    let text = rows.iter().map(|row| match row {
+        Row::Cells(cells) => joined(cells),
+        Row::Text(text) => wrapped(text),
+    });
+    let head = joined(&HEAD.map(str::to_string));
+    let head = if widths[0] > 0 { head } else { String::new() };
+    head + &text.collect::<String>()
+}
+
+/// A line, and lines four columns in for what is behind the last column.
+pub fn wrapped(text: &str) -> String {
+    let (mut all, mut line) = (String::new(), String::new());
+    for word in text.split_inclusive(' ') {
+        let width = line.chars().count() + word.trim_end().chars().count();
+        if width > COLUMNS && !line.trim().is_empty() {
+            all += line.trim_end();
+            all += "\n";
+            line = "    ".to_string();
+        }
+        line += word;
+    }
+    all + line.trim_end() + "\n"
+}
+
+/// Lines, each of them wrapped; the last one has no end.
+pub fn in_columns(text: &str) -> String {
+    text.lines().map(wrapped).collect::<String>().trim_end().to_string()
+}
+
+const NAMES: &str = "record,byte,kind,tolerances,question,answer,refused,why,place,bits,times,\
+                     degrees,radians,doubt\n";
+
+/// The same as comma-separated values: a line for each root, or one for a record without any.
+pub fn csv(all: &[Shown]) -> String {
+    NAMES.to_string() + &all.iter().map(csv_record).collect::<String>()
+}
+
+fn csv_record(shown: &Shown) -> String {
+    let Shown { item, kind, question, tolerances, answer, refusal, roots } = shown;
+    let (number, why) = refusal.clone().map(|(n, why)| (n.to_string(), why)).unwrap_or_default();
+    let place = [item.number, item.at].map(|n| n.to_string());
+    let rest = [kind, &tolerances[..], question, answer, &number, &why].map(str::to_string);
+    let front = [&place[..], &rest].concat();
+    let line = |root: [String; 5], doubt: &str| {
+        let fields = [&front[..], &root, &[doubt.to_string()]].concat();
+        fields.iter().map(|field| quoted(field)).collect::<Vec<_>>().join(",") + "\n"
+    };
+    match &roots[..] {
+        [] => line(Default::default(), ""),
+        roots => {
+            roots.iter().map(|r| line(columns(r), r.doubt.map_or("", |d| d.words()))).collect()
+        }
+    }
+}
+
+/// A field; in quotes where it has to be.
+pub fn quoted(field: &str) -> String {
+    match field.contains([',', '"', '\n']) {
+        true => format!("\"{}\"", field.replace('"', "\"\"")),
+        false => field.to_string(),
+    }
+}
+
+#[cfg(test)]
+mod tests {
+    use super::*;
+
+    #[test]
+    fn lines_are_wrapped() {
+        assert_eq!(wrapped("  as it is"), "  as it is\n");
+        let long = wrapped(&"word ".repeat(41));
+        assert_eq!(long.lines().map(str::len).collect::<Vec<_>>(), [99, 98, 13]);
+        let one = "w".repeat(150);
+        assert_eq!(wrapped(&one), format!("{one}\n"));
+        assert_eq!(wrapped(&format!("a {one} b")), format!("a\n    {one}\n    b\n"));
+    }
+
+    #[test]
+    fn fields_are_quoted() {
+        assert_eq!(quoted("x^2 - 1 = 0"), "x^2 - 1 = 0");
+        assert_eq!(quoted("k 4, 2 roots"), "\"k 4, 2 roots\"");
+        assert_eq!(quoted("mark `\"`"), "\"mark `\"\"`\"");
+    }
+}

@@ -1,0 +1,286 @@
+//! What the program `hall` does with hall files, as people call it.
+mod run;
+
+use host::truth::hall_file::items;
+use run::{hall, made, said, scratch, text};
+use std::fs;
+
+#[test]
+fn a_fault_writes_nothing() {
+    let out = hall(&["make"], b"list 1 2\nlist 1 2 three\n");
+    assert_eq!((out.status.code(), &out.stdout[..]), (Some(1), &b""[..]));
+    assert!(said(&out).starts_with("hall: line 2: `three`: no number"));
+}
+
+/// What is typed, and what is said of it.
+#[test]
+fn typed() {
+    let taken = [
+        ("\u{FEFF}List 2^-30 2 -3 1", "list 2^-30 2 -3 1\n"),
+        ("list 10^-9 1/2 -3/4 +1E0", "list 1e-9 0.5 -0.75 1\n"),
+        ("SLIDER 1 3 3", "crank 2^-30 0 0 -6 0 1\n"),
+        ("slider 2 5 4 1", "crank 2^-30 0 0 -16 -4 -4\n"),
+        ("slider 1e-7 2 5 4 1", "crank 1e-7 0 0 -16 -4 -4\n"),
+    ];
+    for (typed, plain) in taken {
+        assert_eq!(text(&hall(&["text"], &made(typed)).stdout), plain, "{typed}");
+    }
+    let refused = [
+        ("list 1 2,5", "`2,5`: no number: `,`: a decimal has a point"),
+        ("list 1 \u{2212}3", "no number: `\u{2212}` (U+2212): the minus sign is `-`"),
+        ("list 1 1e-400", "`1e-400`: below the smallest double"),
+        ("list 1 1e400", "`1e400`: beyond the largest double"),
+        ("list 1 ½", "`½` (U+00BD): write a fraction as 1/2"),
+        ("slider 1 3", "a number is missing behind it: slider R L X"),
+    ];
+    for (typed, why) in refused {
+        let out = hall(&["make"], typed.as_bytes());
+        assert_eq!((out.status.code(), &out.stdout[..]), (Some(1), &b""[..]), "{typed}");
+        assert!(said(&out).contains(why), "{typed}: {}", said(&out));
+    }
+}
+
+const LINES: &str = "list 2^-30 2 -3 1\nlist 2^-30\nquad 2^-30 2^-30 1 -3 2\n\
+                     crank 2^-30 0 0 1 0 0\nslider 1 3 3\nlist 2^-30 1 0 1\n";
+
+#[test]
+fn a_file_as_a_table() {
+    let bytes = [&made(LINES)[..], b"XX"].concat();
+    let head = "  answer        place                bits              times  t in degrees   t in radians\n";
+    let table = "\
+1 list, tol 2^-30: x^2 - 3 x + 2 = 0
+  2 roots       1                    3FF0000000000000  1
+                2                    4000000000000000  1
+2 list, tol 2^-30: 0 = 0
+  refused 2: no equation: once trailing zeros are dropped, a constant at most is left
+3 quad, confusion 2^-30, angular 2^-30: x^2 - 3 x + 2 = 0
+  two           1                    3FF0000000000000
+                2                    4000000000000000
+4 crank, confusion 2^-30: cos t = 0
+  k 4, 2 roots  -1                   BFF0000000000000  1      90             1.570796327
+                1                    3FF0000000000000  1      270            4.71238898
+5 crank, confusion 2^-30: -6 cos t + 1 = 0
+  k 0, 2 roots  0.8451542547285166   3FEB0B80EF844BA1  1      80.405931773   1.403348248
+                -0.8451542547285166  BFEB0B80EF844BA1  1      279.594068227  4.87983706
+6 list, tol 2^-30: x^2 + 1 = 0
+  0 roots
+7 --
+  refused 6: byte 223: unknown mark `XX`
+";
+    let table = format!("{head}{table}");
+    let out = hall(&["show"], &bytes);
+    assert_eq!((text(&out.stdout), out.status.code()), (table.clone(), Some(0)));
+    let path = scratch("document.hall");
+    fs::write(&path, &bytes).unwrap();
+    assert_eq!(hall(&["show", path.to_str().unwrap()], b"").stdout, table.as_bytes());
+    let nothing = hall(&["show"], b"");
+    assert_eq!(text(&nothing.stdout), "no record: the file is empty\n");
+}
+
+/// The angles of a crank's roots ascend from 0 to below 360, and no line has over 100 columns.
+#[test]
+fn tables_of_made_files() {
+    for seed in ["1", "2", "3", "4", "5"] {
+        let bytes = hall(&["random", "400", seed, "--damage"], b"").stdout;
+        let table = text(&hall(&["show"], &bytes).stdout);
+        for line in table.lines() {
+            assert!(line.chars().count() <= 100, "{line}");
+        }
+        let csv = text(&hall(&["show", "--csv"], &bytes).stdout);
+        let mut last = (String::new(), 0.0);
+        for fields in csv.lines().skip(1).map(fields) {
+            assert_eq!(fields.len(), 14, "{fields:?}");
+            let Ok(angle) = fields[11].parse::<f64>() else { continue };
+            let radians: f64 = fields[12].parse().unwrap();
+            assert!((radians - angle.to_radians()).abs() < 1e-8, "{fields:?}");
+            let from = if last.0 == fields[0] { last.1 } else { 0.0 };
+            assert!((from..360.0).contains(&angle), "{fields:?} behind {last:?}");
+            last = (fields[0].clone(), angle);
+        }
+        assert!(last.1 > 0.0);
+    }
+}
+
+/// The fields of a line of comma-separated values.
+fn fields(line: &str) -> Vec<String> {
+    let (mut all, mut inside) = (vec![String::new()], false);
+    for c in line.chars() {
+        match (c, inside) {
+            ('"', _) => inside = !inside,
+            (',', false) => all.push(String::new()),
+            _ => all.last_mut().unwrap().push(c),
+        }
+    }
+    all
+}
+
+#[test]
+fn a_file_as_csv() {
+    let bytes = [&made(LINES)[..], b"XX"].concat();
+    let path = scratch("csv.hall");
+    fs::write(&path, &bytes).unwrap();
+    let path = path.to_str().unwrap();
+    let csv = text(&hall(&["show", path, "--csv"], b"").stdout);
+    let lines: Vec<&str> = csv.lines().collect();
+    let head = "record,byte,kind,tolerances,question,answer,refused,why,place,bits,times,degrees,\
+                radians,doubt";
+    assert_eq!(lines[0], head);
+    assert_eq!(lines.len(), 12);
+    let crank = "4,88,crank,confusion 2^-30,cos t = 0,\"k 4, 2 roots\",,,-1,BFF0000000000000,1,90,";
+    assert_eq!(lines[6], format!("{crank}1.570796327,"));
+    assert_eq!(lines[11], "7,223,--,,,,6,byte 223: unknown mark `XX`,,,,,,");
+    assert_eq!(text(&hall(&["show", "--csv", path], b"").stdout), csv);
+    assert_eq!(text(&hall(&["show", "--csv"], &bytes).stdout), csv);
+}
+
+/// A slider-crank whose rod reaches, and one whose rod does not.
+#[test]
+fn sliders() {
+    let csv = |line: &str| text(&hall(&["show", "--csv"], &made(line)).stdout);
+    // cos t = 1/6
+    let angle = (1.0f64 / 6.0).acos().to_degrees();
+    let shown = csv("slider 1 3 3");
+    let angles: Vec<f64> = shown.lines().skip(1).map(|l| fields(l)[11].parse().unwrap()).collect();
+    assert!(angles.len() == 2 && (angles[0] - angle).abs() < 1e-8, "{shown}");
+    assert!((angles[1] - (360.0 - angle)).abs() < 1e-8, "{shown}");
+    // 30, 40, 50: the crank is upright
+    let upright = csv("slider 30 50 40");
+    assert!(upright.contains(",90,1.570796327,") && upright.contains(",270,"), "{upright}");
+    assert!(csv("slider 1 3 5").contains("\"k 0, 0 roots\""));
+}
+
+/// The text makes the same file again.
+#[test]
+fn files_as_text() {
+    let bytes = made(LINES);
+    let lines = LINES.replace("slider 1 3 3", "crank 2^-30 0 0 -6 0 1");
+    let out = hall(&["text"], &bytes);
+    assert_eq!((text(&out.stdout), out.status.code()), (lines.clone(), Some(0)));
+    for seed in ["1", "2", "3"] {
+        let bytes = hall(&["random", "400", seed], b"").stdout;
+        let path = scratch(&format!("text_{seed}.hall"));
+        fs::write(&path, &bytes).unwrap();
+        let out = hall(&["text", path.to_str().unwrap()], b"");
+        assert_eq!(out.status.code(), Some(0));
+        assert!(made(&text(&out.stdout)) == bytes, "seed {seed}");
+    }
+    let out = hall(&["text"], &[&bytes[..], b"XX"].concat());
+    assert_eq!((text(&out.stdout), out.status.code()), (lines, Some(1)));
+    let line = "hall: standard input: reading ends at record 7: byte 223: unknown mark `XX`\n";
+    assert_eq!(said(&out), line);
+}
+
+/// The listing alone on standard output; status 1 where the file is not read to its end.
+#[test]
+fn listings() {
+    let listing = "1 PL ok 2 3FF0000000000000 1 4000000000000000 1\n2 PL refused 2\n";
+    let bytes = made("list 2^-30 2 -3 1\nlist 2^-30");
+    let out = hall(&["list"], &bytes);
+    assert_eq!((text(&out.stdout), out.status.code()), (listing.to_string(), Some(0)));
+    assert_eq!(out.stderr, b"");
+    let ends: [(&[u8], &str, &str); 4] = [
+        (b"XX", "3 -- refused 6\n", "byte 46: unknown mark `XX`"),
+        (b"TG", "3 TG refused 7\n", "byte 46: the file ends inside this crank"),
+        (b"PL\x21", "3 PL refused 8\n", "byte 46: a list with count 33"),
+        (&[0; 65_536], "", "the file has 65582 bytes, more than 65,536"),
+    ];
+    for (end, line, why) in ends {
+        let path = scratch("listed.hall");
+        fs::write(&path, [&bytes, end].concat()).unwrap();
+        let out = hall(&["list", path.to_str().unwrap()], b"");
+        let whole = match line {
+            "" => "0 -- refused 9\n".to_string(),
+            line => format!("{listing}{line}"),
+        };
+        assert_eq!((text(&out.stdout), out.status.code()), (whole, Some(1)), "{why}");
+        assert!(said(&out).contains(why), "{}", said(&out));
+    }
+    let out = hall(&["list"], b"");
+    assert_eq!((&out.stdout[..], out.status.code()), (&b""[..], Some(0)));
+}
+
+#[test]
+fn roots_that_cannot_be_ones_are_marked() {
+    let marked = |line: &str| {
+        let table = text(&hall(&["show"], &made(line)).stdout);
+        table.lines().filter(|row| row.contains("no root")).count()
+    };
+    assert_eq!(marked("list 2^-30 1 0 2 2^-25 1"), 4);
+    assert_eq!(marked("list 2^-30 1 0 16 2^-21 64"), 4);
+    assert_eq!(marked("list 2^-30 24 -50 35 -10 1"), 0);
+    assert_eq!(marked("quad 2^-30 2^-30 1 2 1"), 0);
+    assert_eq!(marked("quad 2^-30 1 0.5 2 -4"), 0);
+    assert_eq!(marked("crank 2^-30 1 0 0 0 0.5"), 0);
+}
+
+#[test]
+fn random_files() {
+    let out = hall(&["random", "300", "7"], b"");
+    let found = items(&out.stdout);
+    assert!(found.len() == 300 && found.iter().all(|item| item.record.is_ok()));
+    assert_eq!(out.stdout, hall(&["random", "300", "7"], b"").stdout);
+    assert_ne!(out.stdout, hall(&["random", "300", "7", "--damage"], b"").stdout);
+    assert_eq!(hall(&["random", "0", "7"], b"").stdout, b"");
+    let out = hall(&["random", "5000", "7"], b"");
+    assert_eq!((out.status.code(), &out.stdout[..]), (Some(2), &b""[..]));
+    assert!(said(&out).contains("at most 65,536 bytes"));
+}
+
+#[test]
+fn faults_are_named() {
+    let known: [(&[&str], i32, &str); 11] = [
+        (&["show", "/no/such/file"], 1, "hall: /no/such/file: "),
+        (&["list", "/no/such/file"], 1, "hall: /no/such/file: "),
+        (&["text", "/no/such/file"], 1, "hall: /no/such/file: "),
+        (&["list", "x", "y"], 2, "unknown word `y`"),
+        (&["text", "--all"], 2, "unknown word `--all`"),
+        (&["compare"], 2, "a word is missing after `hall compare`"),
+        (&["compare", "x", "--all"], 2, "unknown word `--all`"),
+        (&["make", "x"], 2, "unknown word `x`"),
+        (&["random", "ten", "1"], 2, "`ten` is no whole number"),
+        (&["random", "10", "1", "--break"], 2, "unknown word `--break`"),
+        (&["stored", "files"], 2, "a word is missing after `hall stored files`"),
+    ];
+    for (words, status, message) in known {
+        let out = hall(words, b"");
+        assert_eq!((out.status.code(), &out.stdout[..]), (Some(status), &b""[..]), "{words:?}");
+        assert!(said(&out).contains(message), "{words:?}: {}", said(&out));
+    }
+}
+
+/// Without geomcore nothing is compared, which is said: status 2.
+#[cfg(not(geomcore))]
+#[test]
+fn nothing_to_compare_with() {
+    let commands: [&[&str]; 7] = [
+        &["compare", "-"],
+        &["compare", "-", "--csv"],
+        &["lists", "5", "1"],
+        &["cranks", "5", "1"],
+        &["files", "5", "1"],
+        &["damage", "0", "1"],
+        &["stored", "files", "x"],
+    ];
+    for words in commands {
+        let out = hall(words, &made(LINES));
+        assert_eq!((out.status.code(), &out.stdout[..]), (Some(2), &b""[..]), "{words:?}");
+        assert!(said(&out).contains("skipped, no geomcore at hand"), "{words:?}");
+    }
+}
+
+/// A command that another build has.
+#[cfg(geomcore)]
+#[test]
+fn features() {
+    let known = [
+        ("coverage", cfg!(feature = "coverage")),
+        ("mutants", cfg!(feature = "mutants")),
+        ("causes", cfg!(feature = "causes")),
+    ];
+    for (what, _) in known.into_iter().filter(|known| !known.1) {
+        let out = hall(&[what, "5", "1"], b"");
+        assert_eq!((out.status.code(), &out.stdout[..]), (Some(2), &b""[..]), "{what}");
+        let front = format!("hall: {what}: needs a build with `--features {what}`");
+        assert!(said(&out).starts_with(&front), "{}", said(&out));
+    }
+}
