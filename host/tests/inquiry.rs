@@ -106,7 +106,7 @@ fn buffers() {
         let mut out = before.clone();
         let said = inquire_bytes(coeffs, TOL, replies, &mut out[..room]);
         assert_eq!(said, wanted, "{coeffs:?} into {room} bytes");
-        let stored = if said < 8 { 0 } else { said as usize };
+        let stored = if said < 24 { 0 } else { said as usize };
         assert_eq!(out[stored..], before[stored..], "{coeffs:?} into {room} bytes");
     };
     let circle = port::bytes(&[1.0, 0.0, 1.0]);
@@ -117,7 +117,7 @@ fn buffers() {
             check(&port::bytes(&[1.0, f64::NAN]), replies, room, 1);
             check(&[], replies, room, 2);
             check(&port::bytes(&[1.0; 33]), replies, room, 3);
-            check(&circle[..23], replies, room, 0);
+            check(&circle[..23], replies, room, 20);
         }
     }
 }

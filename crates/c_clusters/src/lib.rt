@@ -2,7 +2,7 @@
 // and the finished roots, each for the polynomial Scaled::new of five doubles in 40 bytes and a degree. A number is NaN, a truth false, and nothing is
 // stored, where the doubles have fewer bytes or the degree is above 4. No C function here requires anything.
 // `rt staticlib c_clusters` makes of them one of the archives that the test host links. It rests on the crates whose functions it hands out, and on
-// `lent_bytes`; `c_roots` rests on it.
+// `lent_bytes`; `pongewaru` rests on it.
 ghost use mathlib.Core.Path.{_≡_};
 ghost use mathlib.Core.Bool.{false};
 ghost use Prim.Native.Nat.{_^_, _≤_, _<_};
@@ -28,7 +28,7 @@ fn poly_at(a: &[u8], d: u64) -> scaled::Scaled
 }
 
 #[no_mangle]
-pub extern "C" fn noise(a: &[u8], d: u64, y: f64) -> f64
+pub extern "C" fn pongewaru_noise(a: &[u8], d: u64, y: f64) -> f64
     ensures { λ r. ⌜ r ≡ unless nan (lacksFive (now (a .entry)) d) (noiseOf (polyAt (now (a .entry)) d) y) ⌝ }
 {
     if lacks_five(a, d) {
@@ -38,7 +38,7 @@ pub extern "C" fn noise(a: &[u8], d: u64, y: f64) -> f64
 }
 
 #[no_mangle]
-pub extern "C" fn band(a: &[u8], d: u64, y: f64, tol: f64) -> f64
+pub extern "C" fn pongewaru_band(a: &[u8], d: u64, y: f64, tol: f64) -> f64
     ensures { λ r. ⌜ r ≡ unless nan (lacksFive (now (a .entry)) d) (bandOf (polyAt (now (a .entry)) d) y tol) ⌝ }
 {
     if lacks_five(a, d) {
@@ -48,7 +48,7 @@ pub extern "C" fn band(a: &[u8], d: u64, y: f64, tol: f64) -> f64
 }
 
 #[no_mangle]
-pub extern "C" fn within_band(a: &[u8], d: u64, half: f64, y: f64, tol: f64) -> bool
+pub extern "C" fn pongewaru_within_band(a: &[u8], d: u64, half: f64, y: f64, tol: f64) -> bool
     ensures { λ r. ⌜ r ≡ unless false (lacksFive (now (a .entry)) d) (withinBandOf (polyAt (now (a .entry)) d) half y tol) ⌝ }
 {
     if lacks_five(a, d) {
@@ -58,7 +58,7 @@ pub extern "C" fn within_band(a: &[u8], d: u64, half: f64, y: f64, tol: f64) -> 
 }
 
 #[no_mangle]
-pub extern "C" fn critical_point(a: &[u8], d: u64, y: f64, lo: f64, hi: f64) -> f64
+pub extern "C" fn pongewaru_critical_point(a: &[u8], d: u64, y: f64, lo: f64, hi: f64) -> f64
     ensures { λ r. ⌜ r ≡ unless nan (lacksFive (now (a .entry)) d) (criticalPointOf (polyAt (now (a .entry)) d) y lo hi) ⌝ }
 {
     if lacks_five(a, d) {
@@ -69,7 +69,7 @@ pub extern "C" fn critical_point(a: &[u8], d: u64, y: f64, lo: f64, hi: f64) -> 
 
 // The place, NaN where there is none.
 #[no_mangle]
-pub extern "C" fn extremum(a: &[u8], d: u64, y: f64, lo: f64, hi: f64, tol: f64) -> f64
+pub extern "C" fn pongewaru_extremum(a: &[u8], d: u64, y: f64, lo: f64, hi: f64, tol: f64) -> f64
     ensures { λ r. ⌜ r ≡ unless nan (lacksFive (now (a .entry)) d) (turningOrNan (extremumOf (polyAt (now (a .entry)) d) y lo hi tol)) ⌝ }
 {
     if lacks_five(a, d) {
@@ -83,7 +83,7 @@ pub extern "C" fn extremum(a: &[u8], d: u64, y: f64, lo: f64, hi: f64, tol: f64)
 }
 
 #[no_mangle]
-pub extern "C" fn polish(a: &[u8], d: u64, y: f64, gap: f64) -> f64
+pub extern "C" fn pongewaru_polish(a: &[u8], d: u64, y: f64, gap: f64) -> f64
     ensures { λ r. ⌜ r ≡ unless nan (lacksFive (now (a .entry)) d) (polishOf 4 (polyAt (now (a .entry)) d .f) (polyAt (now (a .entry)) d .d) gap y) ⌝ }
 {
     if lacks_five(a, d) {
@@ -208,7 +208,7 @@ fn found_numbers(s: push::Found) -> [f64; 14]
 // The candidates, n on entry, and the complex pairs, m on entry, after the factor y^2 + al*y + be. Nothing is stored where c is short, or where
 // they have no such count.
 #[no_mangle]
-pub extern "C" fn push_quadratic(
+pub extern "C" fn pongewaru_push_quadratic(
     a: &[u8],
     d: u64,
     al: f64,
@@ -240,7 +240,14 @@ pub extern "C" fn push_quadratic(
 
 // The finished roots of n candidates. Nothing is stored where c is short or n above 4.
 #[no_mangle]
-pub extern "C" fn finish(a: &[u8], d: u64, c: &[u8], n: u64, tol: f64, out: &mut [u8]) -> u64
+pub extern "C" fn pongewaru_finish(
+    a: &[u8],
+    d: u64,
+    c: &[u8],
+    n: u64,
+    tol: f64,
+    out: &mut [u8],
+) -> u64
     ensures { λ r. ⌜ Stored (finishedNumbers (now (a .entry)) d (now (c .entry)) n tol) (now (out .entry)) r (now (out .exit)) ⌝ }
 {
     if lacks_five(a, d) {

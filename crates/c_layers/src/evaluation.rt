@@ -12,7 +12,7 @@ use lent_bytes::lacks_five;
 use lent_bytes::store;
 
 #[no_mangle]
-pub extern "C" fn two_prod(a: f64, b: f64, out: &mut [u8]) -> u64
+pub extern "C" fn pongewaru_two_prod(a: f64, b: f64, out: &mut [u8]) -> u64
     ensures { λ r. ⌜ Stored (productNumbers (twoProdOf a b)) (now (out .entry)) r (now (out .exit)) ⌝ }
 {
     let t = horner::two_prod(a, b);
@@ -20,14 +20,14 @@ pub extern "C" fn two_prod(a: f64, b: f64, out: &mut [u8]) -> u64
 }
 
 #[no_mangle]
-pub extern "C" fn discriminant(al: f64, be: f64) -> f64
+pub extern "C" fn pongewaru_discriminant(al: f64, be: f64) -> f64
     ensures { λ r. ⌜ r ≡ discriminantOf al be ⌝ }
 {
     horner::discriminant(al, be)
 }
 
 #[no_mangle]
-pub extern "C" fn value_slope(p: &[u8], d: u64, y: f64, out: &mut [u8]) -> u64
+pub extern "C" fn pongewaru_value_slope(p: &[u8], d: u64, y: f64, out: &mut [u8]) -> u64
     ensures { λ r. ⌜ Stored (unless [] (lacksFive (now (p .entry)) d) (slopeNumbers (valueSlopeOf (fiveAt (now (p .entry))) d y)))
         (now (out .entry)) r (now (out .exit)) ⌝ }
 {
@@ -39,7 +39,7 @@ pub extern "C" fn value_slope(p: &[u8], d: u64, y: f64, out: &mut [u8]) -> u64
 }
 
 #[no_mangle]
-pub extern "C" fn value_slope_compensated(p: &[u8], d: u64, y: f64, out: &mut [u8]) -> u64
+pub extern "C" fn pongewaru_value_slope_compensated(p: &[u8], d: u64, y: f64, out: &mut [u8]) -> u64
     ensures { λ r. ⌜ Stored (unless [] (lacksFive (now (p .entry)) d)
         (slopeNumbers (valueSlopeCompensatedOf (fiveAt (now (p .entry))) d y))) (now (out .entry)) r (now (out .exit)) ⌝ }
 {
@@ -51,7 +51,7 @@ pub extern "C" fn value_slope_compensated(p: &[u8], d: u64, y: f64, out: &mut [u
 }
 
 #[no_mangle]
-pub extern "C" fn derivs12(p: &[u8], d: u64, y: f64, out: &mut [u8]) -> u64
+pub extern "C" fn pongewaru_derivs12(p: &[u8], d: u64, y: f64, out: &mut [u8]) -> u64
     ensures { λ r. ⌜ Stored (unless [] (lacksFive (now (p .entry)) d) (derivsNumbers (derivs12Of (fiveAt (now (p .entry))) d y)))
         (now (out .entry)) r (now (out .exit)) ⌝ }
 {
@@ -63,7 +63,7 @@ pub extern "C" fn derivs12(p: &[u8], d: u64, y: f64, out: &mut [u8]) -> u64
 }
 
 #[no_mangle]
-pub extern "C" fn taylor(p: &[u8], d: u64, y: f64, out: &mut [u8]) -> u64
+pub extern "C" fn pongewaru_taylor(p: &[u8], d: u64, y: f64, out: &mut [u8]) -> u64
     ensures { λ r. ⌜ Stored (unless [] (lacksFive (now (p .entry)) d) (taylorOf (fiveAt (now (p .entry))) d y)) (now (out .entry)) r (now (out .exit)) ⌝ }
 {
     if lacks_five(p, d) {

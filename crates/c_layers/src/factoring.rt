@@ -12,7 +12,7 @@ use quartic::QuarticFactor;
 
 // How many roots there are, and three places, 0 from the last root on.
 #[no_mangle]
-pub extern "C" fn cubic_closed_form(b: f64, c: f64, d: f64, out: &mut [u8]) -> u64
+pub extern "C" fn pongewaru_cubic_closed_form(b: f64, c: f64, d: f64, out: &mut [u8]) -> u64
     ensures { λ r. ⌜ Stored (rootsNumbers (cubicClosedFormOf b c d)) (now (out .entry)) r (now (out .exit)) ⌝ }
 {
     let s = cubic::cubic_closed_form(b, c, d);
@@ -21,7 +21,7 @@ pub extern "C" fn cubic_closed_form(b: f64, c: f64, d: f64, out: &mut [u8]) -> u
 }
 
 #[no_mangle]
-pub extern "C" fn cubic_factor(b: f64, c: f64, d: f64, out: &mut [u8]) -> u64
+pub extern "C" fn pongewaru_cubic_factor(b: f64, c: f64, d: f64, out: &mut [u8]) -> u64
     ensures { λ r. ⌜ Stored (cubicNumbers (cubicFactorOf b c d)) (now (out .entry)) r (now (out .exit)) ⌝ }
 {
     let x = cubic::cubic_factor(b, c, d);
@@ -29,7 +29,7 @@ pub extern "C" fn cubic_factor(b: f64, c: f64, d: f64, out: &mut [u8]) -> u64
 }
 
 #[no_mangle]
-pub extern "C" fn quartic_factor(b: f64, c: f64, d: f64, e: f64, out: &mut [u8]) -> u64
+pub extern "C" fn pongewaru_quartic_factor(b: f64, c: f64, d: f64, e: f64, out: &mut [u8]) -> u64
     ensures { λ r. ⌜ Stored (quarticNumbers (quarticFactorOf b c d e)) (now (out .entry)) r (now (out .exit)) ⌝ }
 {
     let x = quartic::quartic_factor(b, c, d, e);
@@ -47,7 +47,7 @@ fn lone_numbers(found: LoneRoot) -> [f64; 2]
 
 // 1 and the lone root, or 0 and NaN where there is none.
 #[no_mangle]
-pub extern "C" fn isolated_root(al: f64, be: f64, ga: f64, de: f64, out: &mut [u8]) -> u64
+pub extern "C" fn pongewaru_isolated_root(al: f64, be: f64, ga: f64, de: f64, out: &mut [u8]) -> u64
     ensures { λ r. ⌜ Stored (loneNumbers (isolatedRootOf (record { al = al; be = be; ga = ga; de = de }))) (now (out .entry)) r (now (out .exit)) ⌝ }
 {
     let found = isolated::isolated_root(QuarticFactor { al, be, ga, de });
@@ -55,7 +55,7 @@ pub extern "C" fn isolated_root(al: f64, be: f64, ga: f64, de: f64, out: &mut [u
 }
 
 #[no_mangle]
-pub extern "C" fn peel_root(b: f64, c: f64, d: f64, e: f64, y: f64, out: &mut [u8]) -> u64
+pub extern "C" fn pongewaru_peel_root(b: f64, c: f64, d: f64, e: f64, y: f64, out: &mut [u8]) -> u64
     ensures { λ r. ⌜ Stored (peeledNumbers (peelRootOf b c d e y)) (now (out .entry)) r (now (out .exit)) ⌝ }
 {
     let x = isolated::peel_root(b, c, d, e, y);

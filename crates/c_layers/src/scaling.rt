@@ -44,7 +44,7 @@ fn scaled_numbers(s: scaled::Scaled) -> [f64; 18]
 
 // f, g, lg, d, e and unit of the polynomial with the coefficients a, ascending, and the degree d.
 #[no_mangle]
-pub extern "C" fn scaled_new(a: &[u8], d: u64, out: &mut [u8]) -> u64
+pub extern "C" fn pongewaru_scaled_new(a: &[u8], d: u64, out: &mut [u8]) -> u64
     ensures { λ r. ⌜ Stored (unless [] (lacksFive (now (a .entry)) d) (scaledNumbers (scaledOf (fiveAt (now (a .entry))) d)))
         (now (out .entry)) r (now (out .exit)) ⌝ }
 {
@@ -67,7 +67,7 @@ fn split_numbers(s: split::Split) -> [f64; 3]
 
 // 1, small and threshold for the logarithms lg and the degree d, or three zeros where there is no gap.
 #[no_mangle]
-pub extern "C" fn magnitude_split(lg: &[u8], d: u64, out: &mut [u8]) -> u64
+pub extern "C" fn pongewaru_magnitude_split(lg: &[u8], d: u64, out: &mut [u8]) -> u64
     ensures { λ r. ⌜ Stored (unless [] (lacksFive (now (lg .entry)) d) (splitNumbers (magnitudeSplitOf (fiveAt (now (lg .entry))) d)))
         (now (out .entry)) r (now (out .exit)) ⌝ }
 {
@@ -102,7 +102,7 @@ fn factor_numbers(f: factors::Factors) -> [f64; 10]
 
 // nlin, lin, nquad and the al and be of quad for that polynomial, from this depth on.
 #[no_mangle]
-pub extern "C" fn factorize(a: &[u8], d: u64, depth: u32, out: &mut [u8]) -> u64
+pub extern "C" fn pongewaru_factorize(a: &[u8], d: u64, depth: u32, out: &mut [u8]) -> u64
     ensures { λ r. ⌜ Stored (unless [] (lacksFive (now (a .entry)) d)
         (factorNumbers (factorizeOf (scaledOf (fiveAt (now (a .entry))) d) depth))) (now (out .entry)) r (now (out .exit)) ⌝ }
 {

@@ -18,7 +18,7 @@ use lent_bytes::three_at;
 
 // Of a system row by row, and its right-hand side: 1 and the unknowns, or zeros where there is no answer.
 #[no_mangle]
-pub extern "C" fn solve_square3(s: &[u8], tol: f64, out: &mut [u8]) -> u64
+pub extern "C" fn pongewaru_solve_square3(s: &[u8], tol: f64, out: &mut [u8]) -> u64
     ensures { λ r. ⌜ Stored (unless [] (ltb (length (now (s .entry))) 96)
         (step3Numbers (step3 (solveSquareOf 3 (threeRows (now (s .entry))) (f64sAt 3 (now (s .entry)) 72) tol)))) (now (out .entry)) r (now (out .exit)) ⌝ }
 {
@@ -33,7 +33,7 @@ pub extern "C" fn solve_square3(s: &[u8], tol: f64, out: &mut [u8]) -> u64
 }
 
 #[no_mangle]
-pub extern "C" fn solve_square4(s: &[u8], tol: f64, out: &mut [u8]) -> u64
+pub extern "C" fn pongewaru_solve_square4(s: &[u8], tol: f64, out: &mut [u8]) -> u64
     ensures { λ r. ⌜ Stored (unless [] (ltb (length (now (s .entry))) 160)
         (step4Numbers (step4 (solveSquareOf 4 (fourRows (now (s .entry))) (f64sAt 4 (now (s .entry)) 128) tol)))) (now (out .entry)) r (now (out .exit)) ⌝ }
 {
@@ -53,7 +53,7 @@ pub extern "C" fn solve_square4(s: &[u8], tol: f64, out: &mut [u8]) -> u64
 }
 
 #[no_mangle]
-pub extern "C" fn refine_cubic(b: f64, c: f64, d: f64, x: &[u8], out: &mut [u8]) -> u64
+pub extern "C" fn pongewaru_refine_cubic(b: f64, c: f64, d: f64, x: &[u8], out: &mut [u8]) -> u64
     ensures { λ r. ⌜ Stored (unless [] (ltb (length (now (x .entry))) 24) (refineOf 3 (cubicSystem b c d) (f64sAt 3 (now (x .entry)) 0)))
         (now (out .entry)) r (now (out .exit)) ⌝ }
 {
@@ -64,7 +64,14 @@ pub extern "C" fn refine_cubic(b: f64, c: f64, d: f64, x: &[u8], out: &mut [u8])
 }
 
 #[no_mangle]
-pub extern "C" fn refine_quartic(b: f64, c: f64, d: f64, e: f64, x: &[u8], out: &mut [u8]) -> u64
+pub extern "C" fn pongewaru_refine_quartic(
+    b: f64,
+    c: f64,
+    d: f64,
+    e: f64,
+    x: &[u8],
+    out: &mut [u8],
+) -> u64
     ensures { λ r. ⌜ Stored (unless [] (ltb (length (now (x .entry))) 32)
         (refineOf 4 (quarticSystem b c d e) (f64sAt 4 (now (x .entry)) 0))) (now (out .entry)) r (now (out .exit)) ⌝ }
 {
@@ -75,7 +82,14 @@ pub extern "C" fn refine_quartic(b: f64, c: f64, d: f64, e: f64, x: &[u8], out: 
 }
 
 #[no_mangle]
-pub extern "C" fn refine_peel(b: f64, c: f64, d: f64, e: f64, x: &[u8], out: &mut [u8]) -> u64
+pub extern "C" fn pongewaru_refine_peel(
+    b: f64,
+    c: f64,
+    d: f64,
+    e: f64,
+    x: &[u8],
+    out: &mut [u8],
+) -> u64
     ensures { λ r. ⌜ Stored (unless [] (ltb (length (now (x .entry))) 32) (refineOf 4 (peelSystem b c d e) (f64sAt 4 (now (x .entry)) 0)))
         (now (out .entry)) r (now (out .exit)) ⌝ }
 {
@@ -86,7 +100,7 @@ pub extern "C" fn refine_peel(b: f64, c: f64, d: f64, e: f64, x: &[u8], out: &mu
 }
 
 #[no_mangle]
-pub extern "C" fn newton_cubic(p0: f64, p1: f64, p2: f64, p3: f64, p4: f64, y: f64) -> f64
+pub extern "C" fn pongewaru_newton_cubic(p0: f64, p1: f64, p2: f64, p3: f64, p4: f64, y: f64) -> f64
     ensures { λ r. ⌜ r ≡ newtonCubicOf (p0 ∷ p1 ∷ p2 ∷ p3 ∷ p4 ∷ []) y ⌝ }
 {
     refine::newton_cubic([p0, p1, p2, p3, p4], y)

@@ -20,14 +20,14 @@ use lent_bytes::store;
 pub mod floats;
 
 #[no_mangle]
-pub extern "C" fn leaf_ldexp(x: f64, k: i32) -> f64
+pub extern "C" fn pongewaru_leaf_ldexp(x: f64, k: i32) -> f64
     ensures { λ r. ⌜ r ≡ ldexpOf x k ⌝ }
 {
     ldexp::ldexp(x, k)
 }
 
 #[no_mangle]
-pub extern "C" fn leaf_pow2(k: i32) -> f64
+pub extern "C" fn pongewaru_leaf_pow2(k: i32) -> f64
     ensures { λ r. ⌜ r ≡ pow2OrNan k ⌝ }
 {
     if k < -1022 {
@@ -40,28 +40,28 @@ pub extern "C" fn leaf_pow2(k: i32) -> f64
 }
 
 #[no_mangle]
-pub extern "C" fn leaf_exponent(x: f64) -> i32
+pub extern "C" fn pongewaru_leaf_exponent(x: f64) -> i32
     ensures { λ r. ⌜ r ≡ exponentOf x ⌝ }
 {
     decode::exponent(x)
 }
 
 #[no_mangle]
-pub extern "C" fn leaf_sqrt(x: f64) -> f64
+pub extern "C" fn pongewaru_leaf_sqrt(x: f64) -> f64
     ensures { λ r. ⌜ r ≡ sqrtOf x ⌝ }
 {
     sqrt::sqrt(x)
 }
 
 #[no_mangle]
-pub extern "C" fn leaf_cbrt(x: f64) -> f64
+pub extern "C" fn pongewaru_leaf_cbrt(x: f64) -> f64
     ensures { λ r. ⌜ r ≡ cbrtOf x ⌝ }
 {
     cbrt::cbrt(x)
 }
 
 #[no_mangle]
-pub extern "C" fn leaf_log2(x: f64) -> f64
+pub extern "C" fn pongewaru_leaf_log2(x: f64) -> f64
     ensures { λ r. ⌜ r ≡ log2GridOf x ⌝ }
 {
     log2::log2_grid(x)
@@ -69,7 +69,7 @@ pub extern "C" fn leaf_log2(x: f64) -> f64
 
 // c and s into 16 bytes; how many bytes are stored.
 #[no_mangle]
-pub extern "C" fn leaf_third_angle(v: f64, out: &mut [u8]) -> u64
+pub extern "C" fn pongewaru_leaf_third_angle(v: f64, out: &mut [u8]) -> u64
     ensures { λ r. ⌜ Stored (angleNumbers (thirdAngleOf v)) (now (out .entry)) r (now (out .exit)) ⌝ }
 {
     let t = angle::third_angle(v);
@@ -78,7 +78,7 @@ pub extern "C" fn leaf_third_angle(v: f64, out: &mut [u8]) -> u64
 
 // L of five doubles in 40 bytes, into 40 bytes; how many bytes are stored.
 #[no_mangle]
-pub extern "C" fn leaf_log2_five(a: &[u8], out: &mut [u8]) -> u64
+pub extern "C" fn pongewaru_leaf_log2_five(a: &[u8], out: &mut [u8]) -> u64
     ensures { λ r. ⌜ Stored (unless [] (ltb (length (now (a .entry))) 40) (log2FiveOf (fiveAt (now (a .entry))))) (now (out .entry)) r (now (out .exit)) ⌝ }
 {
     if a.len() < 40 {

@@ -79,7 +79,7 @@ fn put_answer(out: &mut [u8], at: usize, letter: u8, x: f64, k: i32) -> usize
         return put_line(out, at, b"exponent", asked, e, Word::Nothing);
     }
     if letter == b'p' {
-        let r = Word::Double(c_leaves::leaf_pow2(k));
+        let r = Word::Double(c_leaves::pongewaru_leaf_pow2(k));
         return put_line(out, at, b"pow2", scaled, r, Word::Nothing);
     }
     at

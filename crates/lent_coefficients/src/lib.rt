@@ -1,5 +1,5 @@
 // Coefficients in lent bytes, any number of them, as the six numbers that are solved alike. It rests on `float`, `poly` (its definition of the six) and
-// `lent_bytes`; the C functions of lists and inquiries, `c_roots`, rest on it.
+// `lent_bytes`; the C functions of lists and inquiries, `pongewaru`, rest on it.
 ghost use mathlib.Core.Path.{_≡_};
 ghost use lib.ListN.{getD, drop};
 ghost use Rattle.float.specs.Literals.{zero64};

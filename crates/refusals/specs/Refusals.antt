@@ -1,4 +1,4 @@
--- The refusals, each number of document 01 under the name that it has in code. Definitions only.
+-- The refusals, each number of document 01 under the name that it has in code, and the one of the C functions alone. Definitions only.
 use Prim.Native.Nat.{ℕ}
 
 -- 'some coefficient not finite, wherever it stands'; of a quadratic 'one of a, b, c', of a crank 'one of the five'
@@ -36,3 +36,7 @@ countTooLarge = 8
 -- 'over 65,536 bytes'
 abbrev pub fileTooLong : ℕ
 fileTooLong = 9
+
+-- the coefficients' bytes end inside a double
+abbrev pub cutDouble : ℕ
+cutDouble = 20

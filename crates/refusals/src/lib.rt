@@ -1,5 +1,5 @@
 // The refusals, each number of document 01 under one name; 0 is said where nothing is refused. Those of document 02 are to follow, 10 to 19.
-// It rests on nothing; every operation that refuses rests on it.
+// The last is of the C functions alone. It rests on nothing; every operation that refuses rests on it.
 
 // 'some coefficient not finite, wherever it stands'; of a quadratic 'one of a, b, c', of a crank 'one of the five'.
 pub const NOT_FINITE: u32 = 1;
@@ -27,3 +27,6 @@ pub const COUNT_TOO_LARGE: u32 = 8;
 
 // 'over 65,536 bytes'
 pub const FILE_TOO_LONG: u32 = 9;
+
+// The coefficients' bytes end inside a double.
+pub const CUT_DOUBLE: u32 = 20;

@@ -1,5 +1,6 @@
-//! The C functions of the archives, with the only `unsafe` of the host. The declarations are not
-//! checked against the crates that .ci/archives names: they stand in the order of those.
+//! The C functions of the archives, with the only `unsafe` of the host: each without the prefix
+//! `pongewaru_` of its symbol, in the order of .ci/archives; tests/header.rs compares them with the
+//! crates.
 //! A Rattle `&[u8]` or `&mut [u8]` is a pointer and a length, a number is itself, and no function
 //! requires anything of its arguments. All numbers of an answer are stored in `out` as doubles, one
 //! after another; what is said is how many bytes that are, or the number of a refusal, or 0 where
@@ -32,6 +33,7 @@ macro_rules! exported {
         #[allow(clippy::too_many_arguments)]
         pub fn $name($($of)*) -> $said {
             unsafe extern "C" {
+                #[link_name = concat!("pongewaru_", stringify!($name))]
                 fn $name($($c)*) -> $said;
             }
             // SAFETY: pointers and lengths are those of slices lent for the call, and `out`
@@ -129,7 +131,7 @@ exported! {
     fn finish(a: &[u8], d: u64, c: &[u8], n: u64, tol: f64, out: &mut [u8]) -> u64;
 }
 
-// ---- crates/c_roots
+// ---- crates/pongewaru
 exported! {
     /// k of the crank equation, and then what its inquiry shows, as for a list, thirteen doubles.
     fn crank_inquire(confusion: f64, a2: f64, b2: f64, c1: f64, d1: f64, e: f64, replies: &[u8],
@@ -139,7 +141,7 @@ exported! {
     /// and the list as for `real_roots`; twelve doubles.
     fn inquire(coeffs: &[u8], tol: f64, replies: &[u8], out: &mut [u8]) -> u64;
     /// How many roots the list of the doubles in `coeffs` has, and four places with their
-    /// multiplicities, nine doubles.
+    /// multiplicities, nine doubles; 20 where the bytes are no whole doubles.
     fn real_roots(coeffs: &[u8], tol: f64, out: &mut [u8]) -> u64;
 
     /// A number, 0 to 4 for two, one, linear, degenerate and empty, and two places, NaN where there
@@ -152,11 +154,8 @@ exported! {
     fn touching_at(n: u32, x: f64, y: f64, vertex: f64, touches: u32, out: &mut [u8]) -> u64;
     /// k and the quartic.
     fn crank_front(a2: f64, b2: f64, c1: f64, d1: f64, e: f64, out: &mut [u8]) -> u64;
-}
 
-// ---- crates/c_hall
-exported! {
     /// The listing of a hall file from the start of `out` on, as far as `out` reaches, and how many
     /// bytes the listing has.
-    fn hall_list_file(file: &[u8], out: &mut [u8]) -> u64;
+    fn list_file(file: &[u8], out: &mut [u8]) -> u64;
 }

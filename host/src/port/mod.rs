@@ -9,9 +9,9 @@ pub mod quadratics;
 
 pub use exported::{
     discriminant, float_abs, float_clamp, float_copysign, float_floor, float_from_bits,
-    float_is_finite, float_max, float_min, float_powi, float_to_bits, float_total_le,
-    hall_list_file as list_file, leaf_cbrt, leaf_exponent, leaf_ldexp, leaf_log2, leaf_log2_five,
-    leaf_pow2, leaf_sqrt, leaf_third_angle, newton_cubic, real_roots as real_roots_bytes,
+    float_is_finite, float_max, float_min, float_powi, float_to_bits, float_total_le, leaf_cbrt,
+    leaf_exponent, leaf_ldexp, leaf_log2, leaf_log2_five, leaf_pow2, leaf_sqrt, leaf_third_angle,
+    list_file, newton_cubic, real_roots as real_roots_bytes,
 };
 
 /// Doubles as bytes, lowest first.

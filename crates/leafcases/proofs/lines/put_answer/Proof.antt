@@ -96,8 +96,8 @@ returns-7 c =
     let at-if1 = at-if4 .before .before .before in
     let start = at-if1 .before .before in
     let put = at-put-line7 .put-line7 .ensures in (
-      written-as (pow2-line (start .args .letter) (start .args .x) (start .args .k) _ (leaf .leaf-pow2 .result) (at-if7 .if7 .taken)
-          (toZ-ofZ (start .fits .k)) (leaf .leaf-pow2 .ensures)) (put .0),
+      written-as (pow2-line (start .args .letter) (start .args .x) (start .args .k) _ (leaf .pongewaru-leaf-pow2 .result) (at-if7 .if7 .taken)
+          (toZ-ofZ (start .fits .k)) (leaf .pongewaru-leaf-pow2 .ensures)) (put .0),
       put .1,
     )
 

@@ -1,9 +1,0 @@
-use borrow.Author.Needs.{needs}
-use Rattle.c_roots.proofs.inquiries.seen_numbers.Statement.{statement}
-use Rattle.c_roots.proofs.inquiries.seen_numbers.Tie as tie
-
-returns : tie.Need-returns
-returns c = c .shown-numbers .ensures
-
-pub seen-numbers-spec : {M : Type 1} → statement M
-seen-numbers-spec = tie.close (tie.spec (λ c κs. search needs) returns)

@@ -1,7 +1,0 @@
-// The entry points as C functions on numbers and byte slices, under the contracts of what they pass on to: `rt staticlib c_roots` makes of them one of
-// the archives that the test host links. No C function here requires anything.
-// It rests on the crates whose functions it hands out, on `lent_bytes`, on `lent_coefficients`, and on `c_clusters` (a list as numbers); nothing rests on it.
-pub mod cranks;
-pub mod inquiries;
-pub mod lists;
-pub mod quadratics;
