@@ -5,4 +5,5 @@ pub mod Questions
 pub mod Fresh
 pub mod Logs
 pub mod Theorem
+pub mod Loop
 pub mod Short

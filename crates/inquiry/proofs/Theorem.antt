@@ -88,14 +88,14 @@ has-reply t p rs x touches room h e =
     rw (place, ← (reply-taken p (touches x) on)) (has-more t p rs (touches x) room h)
 
 -- ---- the first replies of a function
-map-take : (f : Float → Bool) (l : List Float) (n : ℕ) → n < length l → map f (take (suc n) l) ≡ map f (take n l) ++ f (getD l n nan) ∷ []
+pub map-take : (f : Float → Bool) (l : List Float) (n : ℕ) → n < length l → map f (take (suc n) l) ≡ map f (take n l) ++ f (getD l n nan) ∷ []
 map-take f l n h = ap (map f) (take-suc l n nan h) ∙ join (take n l) (getD l n nan)
   where
     join : (l : List Float) (x : Float) → map f (l ++ x ∷ []) ≡ map f l ++ f x ∷ []
     join [] x = refl
     join (y ∷ l) x = ap (λ (t : List Bool). f y ∷ t) (join l x)
 
-length-map-take : (f : Float → Bool) (l : List Float) (n : ℕ) → n ≤ length l → length (map f (take n l)) ≡ n
+pub length-map-take : (f : Float → Bool) (l : List Float) (n : ℕ) → n ≤ length l → length (map f (take n l)) ≡ n
 length-map-take f l n h = length-map (take n l) f ∙ length-take-le n l h
 
 -- ---- feeding, where at most three questions are asked
@@ -164,15 +164,17 @@ module _ (touches : Float → Bool) (coeffs : List Float) (tol : Float) where
   asked-most : length (placesAsked touches (realRootsTouching coeffs tol)) ≤ most coeffs tol
   asked-most = places-within (λ m l. ListedIn (total coeffs tol) l) touches (most coeffs tol) (realRootsTouching coeffs tol) (bounds coeffs tol)
 
+  pub start-few : length (placesAsked touches (realRootsTouching coeffs tol)) ≤ 3
+  start-few = omega (arith, asked-most, sizes coeffs tol .0)
+
   pub start-fed : Fed touches (startOf coeffs tol .inquiry) coeffs tol
   unfolding shown
   start-fed =
       let t = realRootsTouching coeffs tol in
       let q = startOf coeffs tol .inquiry in
-      let few : length (placesAsked touches t) ≤ 3 = omega (arith, asked-most, sizes coeffs tol .0) in
-      let end = ends-with touches t q (start-has coeffs tol) few ∙ ap shown (finish touches t) in
+      let end = ends-with touches t q (start-has coeffs tol) start-few ∙ ap shown (finish touches t) in
       record {
-        question = asks-at touches t q (start-has coeffs tol) few;
+        question = asks-at touches t q (start-has coeffs tol) start-few;
         finished = end;
         over = λ r. sym (reply-refused (fed touches (length (placesAsked touches t)) q) r (ap (λ (a : Asked). a .asking) end));
       }

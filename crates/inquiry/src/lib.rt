@@ -207,6 +207,14 @@ pub fn start(coeffs: &[f64], tol: f64) -> Started
     Started { number, inquiry }
 }
 
+// What is shown of what was solved, with these replies: for those who reply by a function of the place.
+pub fn asked_with(s: poly::Solved, replies: touching::Replies) -> Asked
+    ensures { λ r. ⌜ r ≡ askedOf (given (freshBy s) replies) ⌝ }
+{
+    let inquiry = begun(s, replies);
+    inquiry.ask()
+}
+
 // What `start` and `see` show with these replies put in at once. The inquiry is not handed out, so a level list is solved without logarithms.
 pub fn shown_after(coeffs: &[f64], tol: f64, replies: touching::Replies) -> ShownAfter
     ensures { λ r. ⌜ r ≡ shownAfterOf (now (coeffs .entry)) tol replies ⌝ }

@@ -1,4 +1,4 @@
--- The refusals, each number of document 01 under the name that it has in code, and the one of the C functions alone. Definitions only.
+-- The refusals, each number of documents 01 and 02 under the name that it has in code, and the one of the C functions alone. Definitions only.
 use Prim.Native.Nat.{ℕ}
 
 -- 'some coefficient not finite, wherever it stands'; of a quadratic 'one of a, b, c', of a crank 'one of the five'
@@ -36,6 +36,18 @@ countTooLarge = 8
 -- 'over 65,536 bytes'
 abbrev pub fileTooLong : ℕ
 fileTooLong = 9
+
+-- 'a number of the record is not finite'
+abbrev pub recordNotFinite : ℕ
+recordNotFinite = 10
+
+-- 'R is not above 0'
+abbrev pub noRadius : ℕ
+noRadius = 11
+
+-- 'a coefficient made is not finite'
+abbrev pub madeNotFinite : ℕ
+madeNotFinite = 12
 
 -- the coefficients' bytes end inside a double
 abbrev pub cutDouble : ℕ

@@ -1,4 +1,4 @@
-// The refusals, each number of document 01 under one name; 0 is said where nothing is refused. Those of document 02 are to follow, 10 to 19.
+// The refusals, each number of documents 01 and 02 under one name; 0 is said where nothing is refused. 13 to 19 are to follow.
 // The last is of the C functions alone. It rests on nothing; every operation that refuses rests on it.
 
 // 'some coefficient not finite, wherever it stands'; of a quadratic 'one of a, b, c', of a crank 'one of the five'.
@@ -27,6 +27,15 @@ pub const COUNT_TOO_LARGE: u32 = 8;
 
 // 'over 65,536 bytes'
 pub const FILE_TOO_LONG: u32 = 9;
+
+// 'a number of the record is not finite'
+pub const RECORD_NOT_FINITE: u32 = 10;
+
+// 'R is not above 0'
+pub const NO_RADIUS: u32 = 11;
+
+// 'a coefficient made is not finite'
+pub const MADE_NOT_FINITE: u32 = 12;
 
 // The coefficients' bytes end inside a double.
 pub const CUT_DOUBLE: u32 = 20;
