@@ -2,3 +2,4 @@ pub mod Lists
 pub mod Inquiries
 pub mod Cranks
 pub mod Quadratics
+pub mod Contacts
