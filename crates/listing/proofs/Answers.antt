@@ -1,7 +1,7 @@
 -- What printing needs of the solver's answers: at most four roots, short numbers, k below 8. Of lists, that they have no more roots than coefficients.
 use mathlib.Core.Path.{_≡_, refl, sym, subst}
 use mathlib.Core.Bool.{Bool, true, false, cond}
-use mathlib.Core.Logic.{⊎-elim}
+use mathlib.Core.Logic.{_⊎_, ⊎-elim}
 use mathlib.Core.List.{List, [], _∷_}
 use Prim.Native.Nat.{ℕ, _-_, _<_, _≤_}
 use native.Mathlib.Nat.{eq-zero-or-pos}
@@ -35,6 +35,10 @@ use Rattle.crank.specs.Crank.{trigQuarticOf, solveTrigOf, crankStartOf, crankOf
 use Rattle.crank.specs.Claims.{Cranks}
 use Rattle.crank.proofs.Answer as answers
 use Rattle.crank.proofs.Theorem.{cranks}
+use Rattle.contact.specs.declared.Path.{Path}
+use Rattle.contact.specs.declared.Circle.{Circle}
+use Rattle.contact.specs.Contact.{pinContactOf}
+use Rattle.contact.proofs.Theorem.{contacts}
 use Rattle.listing.specs.Printable.{Printable}
 
 -- A list within demand 1's bounds, in its array.
@@ -127,3 +131,12 @@ crank-short confusion a2 b2 c1 d1 e = go (eqb (crankStartOf confusion a2 b2 c1 d
       roots = within-short (degreeLeft (trigQuarticOf a2 b2 c1 d1 e)) l (omega (arith, all .degree)) (all .list (λ k u. false)) .0;
     }
     go false z = record { number = start-short confusion a2 b2 c1 d1 e; eighth = omega arith; roots = none-short }
+
+-- ---- pin contacts
+pub contact-short : (confusion : Float) (path : Path) (circle : Circle) → let a = pinContactOf confusion path circle in (a .number < 100) × Printable (a .roots)
+contact-short confusion path circle =
+    let all = contacts confusion path circle in
+    (
+      ⊎-elim (λ e. omega (arith, e)) (λ more. ⊎-elim (λ e. omega (arith, e)) (λ m. omega (arith, m .1)) more) (all .numbers .no-other),
+      record { fits = all .array; short = omega (arith, all .roots .sum, all .degree) },
+    )

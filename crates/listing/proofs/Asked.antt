@@ -11,14 +11,14 @@ use Rattle.crank.specs.declared.CrankAnswer.{CrankAnswer}
 use Rattle.lent_bytes.specs.Bytes.{f64sAt}
 use Rattle.lent_bytes.proofs.Doubles.{f64s-length}
 use Rattle.records.specs.declared.Kind.{Kind}
-use Rattle.records.specs.declared.Kind.the-variants.{Polynomial, Quadratic, Crank, Unknown}
+use Rattle.records.specs.declared.Kind.the-variants.{Polynomial, Quadratic, Crank, Contact, Unknown}
 use Rattle.records.specs.declared.Record.{Record}
 use Rattle.records.specs.Records.{countAt}
-use Rattle.listing.specs.Answers.{polynomialAt, quadraticAt, crankAt}
+use Rattle.listing.specs.Answers.{polynomialAt, quadraticAt, crankAt, pathAt, circleAt, contactAt}
 use Rattle.listing.specs.Lines.{polynomialText, quadraticText, crankText, answerText, wordsOf}
 use Rattle.listing.specs.Printable.{Printable}
 use Rattle.listing.proofs.Texts.{or-length, polynomial-length, quadratic-length, crank-length}
-use Rattle.listing.proofs.Answers.{ListShort, list-short, quadratic-short, CrankShort, crank-short}
+use Rattle.listing.proofs.Answers.{ListShort, list-short, quadratic-short, CrankShort, crank-short, contact-short}
 
 module _ (s : List ℕ) (at : ℕ) where
   polynomial-at-short : ListShort (f64sAt (countAt s at) s (at + 11)) (polynomialAt s at)
@@ -33,6 +33,10 @@ module _ (s : List ℕ) (at : ℕ) where
   unfolding crankAt
   crank-at-short = crank-short (f64At s (at + 2)) (f64At s (at + 10)) (f64At s (at + 18)) (f64At s (at + 26)) (f64At s (at + 34)) (f64At s (at + 42))
 
+  contact-at-short : (contactAt s at .number < 100) × Printable (contactAt s at .roots)
+  unfolding contactAt
+  contact-at-short = contact-short (f64At s (at + 2)) (pathAt s at) (circleAt s at)
+
   -- ---- what printing them asks
   pub polynomial-prints : (r : Answer) → r ≡ polynomialAt s at → (r .number < 100) × Printable (r .roots)
   polynomial-prints r e =
@@ -46,6 +50,9 @@ module _ (s : List ℕ) (at : ℕ) where
       subst (λ (a : CrankAnswer). (a .number < 100) × ((a .k < 8) × Printable (a .roots))) (sym e)
       (crank-at-short .number, (crank-at-short .eighth, crank-at-short .roots))
 
+  pub contact-prints : (r : Answer) → r ≡ contactAt s at → (r .number < 100) × Printable (r .roots)
+  contact-prints r e = subst (λ (a : Answer). (a .number < 100) × Printable (a .roots)) (sym e) contact-at-short
+
   -- ---- the text of each kind, from the answer
   pub polynomial-text : (k : Kind) (r : Answer) → k ≡ Polynomial → r ≡ polynomialAt s at → polynomialText r ≡ answerText k s at
   unfolding answerText
@@ -58,6 +65,10 @@ module _ (s : List ℕ) (at : ℕ) where
   pub crank-text : (k : Kind) (r : CrankAnswer) → k ≡ Crank → r ≡ crankAt s at → crankText r ≡ answerText k s at
   unfolding answerText
   crank-text k r e f = rw (e, f)
+
+  pub contact-text : (k : Kind) (r : Answer) → k ≡ Contact → r ≡ contactAt s at → polynomialText r ≡ answerText k s at
+  unfolding answerText
+  contact-text k r e f = rw (e, f)
 
   pub unknown-text : (k : Kind) → k ≡ Unknown → [] ≡ answerText k s at
   unfolding answerText
@@ -83,6 +94,9 @@ module _ (s : List ℕ) (at : ℕ) where
   answer-length Crank =
       let a = crank-at-short in
       crank-length (crankAt s at) (a .number) (a .eighth) (a .roots)
+  answer-length Contact =
+      let a = contact-at-short in
+      omega (arith, polynomial-length (contactAt s at) (a .0) (a .1), a .1 .fits .1)
   answer-length Unknown = omega arith
 
   pub words-length : (found : Record) → found .number < 100 → length (wordsOf s at found) ≤ 90

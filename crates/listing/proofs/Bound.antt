@@ -10,7 +10,7 @@ use borrow.Author.Tests.{le-ltb, ltb-true, ltb-false}
 use lib.Dec.{ltb}
 use lib.ListN.{length, length-append}
 use Rattle.records.specs.declared.Kind.{Kind}
-use Rattle.records.specs.declared.Kind.the-variants.{Polynomial, Quadratic, Crank, Unknown}
+use Rattle.records.specs.declared.Kind.the-variants.{Polynomial, Quadratic, Crank, Contact, Unknown}
 use Rattle.records.specs.declared.Record.{Record}
 use Rattle.refusals.specs.Refusals.{fileTooLong}
 use Rattle.records.specs.Records.{countAt, endedOf, recordAt}
@@ -37,11 +37,13 @@ record-short s at n few =
     let polynomial = wholeOf Polynomial (at + (11 + 8 * countAt s at)) in
     let quadratic = wholeOf Quadratic (at + 42) in
     let crank = wholeOf Crank (at + 50) in
+    let contact = wholeOf Contact (at + 82) in
     record-by (Short s at n) s at
     (λ kind number h k. inl (omega arith, omega (arith, line-length n s at (endedOf kind number s) few, ended-length s at kind number h k)))
     (λ c h. inr (omega (arith, line-length n s at polynomial few, polynomial-at-length s at)))
     (λ h. inr (omega (arith, line-length n s at quadratic few, quadratic-at-length s at)))
     (λ h. inr (omega (arith, line-length n s at crank few, answer-length s at Crank)))
+    (λ h. inr (omega (arith, line-length n s at contact few, answer-length s at Contact)))
 
 -- ---- the lines from a place on
 pub lines-end : (f : ℕ) (s : List ℕ) (at n : ℕ) → length s ≤ at → linesFrom f s at n ≡ []

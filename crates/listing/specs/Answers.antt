@@ -9,6 +9,9 @@ use Rattle.crank.specs.declared.CrankAnswer.{CrankAnswer}
 use Rattle.poly.specs.RealRoots.{realRootsOf}
 use Rattle.equation.specs.Quadratic.{quadraticOf}
 use Rattle.crank.specs.Crank.{crankOf}
+use Rattle.contact.specs.declared.Path.{Path}
+use Rattle.contact.specs.declared.Circle.{Circle}
+use Rattle.contact.specs.Contact.{pinContactOf}
 use Rattle.records.specs.Records.{countAt}
 
 -- 'PL: count byte, tolerance, that many coefficients'
@@ -28,3 +31,21 @@ unfoldable pub crankAt : List ℕ → ℕ → CrankAnswer
 crankAt s at =
     let confusion = f64At s (at + 2) in
     crankOf confusion (f64At s (at + 10)) (f64At s (at + 18)) (f64At s (at + 26)) (f64At s (at + 34)) (f64At s (at + 42))
+
+-- 'A record PC holds confusion, x0, x1, x2, y0, y1, y2 .., the circle's centre cx, cy and radius R'
+abbrev pub pathAt : List ℕ → ℕ → Path
+pathAt s at =
+    record {
+      x0 = f64At s (at + 10);
+      x1 = f64At s (at + 18);
+      x2 = f64At s (at + 26);
+      y0 = f64At s (at + 34);
+      y1 = f64At s (at + 42);
+      y2 = f64At s (at + 50);
+    }
+
+abbrev pub circleAt : List ℕ → ℕ → Circle
+circleAt s at = record { cx = f64At s (at + 58); cy = f64At s (at + 66); r = f64At s (at + 74) }
+
+unfoldable pub contactAt : List ℕ → ℕ → Answer
+contactAt s at = pinContactOf (f64At s (at + 2)) (pathAt s at) (circleAt s at)

@@ -1,8 +1,10 @@
 // What the solver answers to the numbers of a record that stands whole.
 ghost use mathlib.Core.Path.{_≡_};
 ghost use Rattle.records.specs.Records.{Whole};
-ghost use Rattle.listing.specs.Answers.{polynomialAt, quadraticAt, crankAt};
-ghost use Rattle.records.specs.declared.Kind.the-variants.{Polynomial, Quadratic, Crank};
+ghost use Rattle.listing.specs.Answers.{polynomialAt, quadraticAt, crankAt, contactAt};
+ghost use Rattle.records.specs.declared.Kind.the-variants.{Polynomial, Quadratic, Crank, Contact};
+use contact::Circle;
+use contact::Path;
 use crank::CrankAnswer;
 use equation::QuadraticAnswer;
 use float::f64_at;
@@ -42,4 +44,25 @@ pub fn crank_at(s: &[u8], at: usize) -> CrankAnswer
     let d1 = f64_at(s, at + 34);
     let e = f64_at(s, at + 42);
     crank::crank(confusion, a2, b2, c1, d1, e)
+}
+
+pub fn contact_at(s: &[u8], at: usize) -> Answer
+    requires { ⌜ Whole Contact (now s) at ⌝ }
+    ensures { λ r. ⌜ r ≡ contactAt (now (s .entry)) at ⌝ }
+{
+    let confusion = f64_at(s, at + 2);
+    let path = Path {
+        x0: f64_at(s, at + 10),
+        x1: f64_at(s, at + 18),
+        x2: f64_at(s, at + 26),
+        y0: f64_at(s, at + 34),
+        y1: f64_at(s, at + 42),
+        y2: f64_at(s, at + 50),
+    };
+    let circle = Circle {
+        cx: f64_at(s, at + 58),
+        cy: f64_at(s, at + 66),
+        r: f64_at(s, at + 74),
+    };
+    contact::pin_contact(confusion, path, circle)
 }

@@ -1,4 +1,4 @@
--- What stands at a place of a file: a refusal that ends reading, or a record of one of the three kinds, whole.
+-- What stands at a place of a file: a refusal that ends reading, or a record of one of the kinds, whole.
 use mathlib.Core.Path.{_≡_, refl, sym, ap, subst, _∙_}
 use mathlib.Core.Bool.{Bool, true, false, cond}
 use mathlib.Core.List.{List}
@@ -8,7 +8,7 @@ use borrow.Author.Tests.{le-ltb, ltb-false}
 use lib.Dec.{ltb}
 use lib.ListN.{length}
 use Rattle.records.specs.declared.Kind.{Kind}
-use Rattle.records.specs.declared.Kind.the-variants.{Polynomial, Quadratic, Crank, Unknown}
+use Rattle.records.specs.declared.Kind.the-variants.{Polynomial, Quadratic, Crank, Contact, Unknown}
 use Rattle.records.specs.declared.Record.{Record}
 use Rattle.refusals.specs.Refusals.{unknownMark, cut, countTooLarge, fileTooLong}
 use Rattle.records.specs.Marks.{kindAt}
@@ -35,7 +35,8 @@ module _ (P : Record → Type 0) (s : List ℕ) (at : ℕ) (ends : (kind : Kind)
   module _
       (polynomial : countAt s at ≤ 32 → at + (11 + 8 * countAt s at) ≤ length s → P (wholeOf Polynomial (at + (11 + 8 * countAt s at))))
       (quadratic : at + 42 ≤ length s → P (wholeOf Quadratic (at + 42)))
-      (crank : at + 50 ≤ length s → P (wholeOf Crank (at + 50))) where
+      (crank : at + 50 ≤ length s → P (wholeOf Crank (at + 50)))
+      (contact : at + 82 ≤ length s → P (wholeOf Contact (at + 82))) where
     polynomial-by : P (polynomialRecord s at)
     unfolding polynomialRecord
     polynomial-by = go (ltb (length s - at) 3) (ltb 32 (countAt s at)) refl
@@ -54,6 +55,7 @@ module _ (P : Record → Type 0) (s : List ℕ) (at : ℕ) (ends : (kind : Kind)
     of-by Polynomial = polynomial-by
     of-by Quadratic = held-by Quadratic 42 (omega arith) quadratic
     of-by Crank = held-by Crank 50 (omega arith) crank
+    of-by Contact = held-by Contact 82 (omega arith) contact
     of-by Unknown = ends Unknown unknownMark (omega arith) (omega arith)
 
     pub record-by : P (recordAt s at)
@@ -77,6 +79,7 @@ module _ (s : List ℕ) (at : ℕ) where
       (record-by (λ (x : Record). Sound x s at) s at refused-sound
       (λ c h. record { short = omega arith; whole = λ e. (c, h) })
       (λ h. record { short = omega arith; whole = λ e. h })
+      (λ h. record { short = omega arith; whole = λ e. h })
       (λ h. record { short = omega arith; whole = λ e. h }))
 
 -- reading goes on past at, and not past the end
@@ -88,5 +91,6 @@ pub record-forward : (s : List ℕ) (at : ℕ) → at < length s → Forward s a
 record-forward s at inside =
     record-by (Forward s at) s at (λ kind number h k. record { past = inside; within = omega arith })
     (λ c h. record { past = omega arith; within = h })
+    (λ h. record { past = omega arith; within = h })
     (λ h. record { past = omega arith; within = h })
     (λ h. record { past = omega arith; within = h })

@@ -5,13 +5,14 @@ use Prim.Native.Nat.{ℕ, _+_}
 use lib.Dec.{eqb}
 use lib.ListN.{getD}
 use Rattle.records.specs.declared.Kind.{Kind}
-use Rattle.records.specs.declared.Kind.the-variants.{Polynomial, Quadratic, Crank, Unknown}
+use Rattle.records.specs.declared.Kind.the-variants.{Polynomial, Quadratic, Crank, Contact, Unknown}
 
--- `PL`, `QD`, `TG`; 'Where no whole known mark was read the mark prints as `--`'
+-- `PL`, `QD`, `TG`, `PC`; 'Where no whole known mark was read the mark prints as `--`'
 abbrev pub markOf : Kind → List ℕ
 markOf Polynomial = 80 ∷ 76 ∷ []
 markOf Quadratic = 81 ∷ 68 ∷ []
 markOf Crank = 84 ∷ 71 ∷ []
+markOf Contact = 80 ∷ 67 ∷ []
 markOf Unknown = 45 ∷ 45 ∷ []
 
 -- whether the two bytes from at on are the mark
@@ -31,4 +32,5 @@ kindAt s at =
     let kind = markedOf Polynomial kind s at in
     let kind = markedOf Quadratic kind s at in
     let kind = markedOf Crank kind s at in
+    let kind = markedOf Contact kind s at in
     kind

@@ -11,6 +11,7 @@ pub enum Kind {
     Polynomial,
     Quadratic,
     Crank,
+    Contact,
     Unknown,
 }
 
@@ -29,6 +30,7 @@ pub fn mark(kind: Kind) -> [u8; 2]
         Kind::Polynomial => *b"PL",
         Kind::Quadratic => *b"QD",
         Kind::Crank => *b"TG",
+        Kind::Contact => *b"PC",
         Kind::Unknown => *b"--",
     }
 }
@@ -63,6 +65,7 @@ fn kind_at(s: &[u8], at: usize) -> Kind
     kind = marked(s, at, Kind::Polynomial, kind);
     kind = marked(s, at, Kind::Quadratic, kind);
     kind = marked(s, at, Kind::Crank, kind);
+    kind = marked(s, at, Kind::Contact, kind);
     kind
 }
 
@@ -119,6 +122,7 @@ pub fn record_at(s: &[u8], at: usize) -> Record
         Kind::Polynomial => polynomial_record(s, at),
         Kind::Quadratic => held(s, at, Kind::Quadratic, 42),
         Kind::Crank => held(s, at, Kind::Crank, 50),
+        Kind::Contact => held(s, at, Kind::Contact, 82),
         Kind::Unknown => ended(s, Kind::Unknown, refusals::UNKNOWN_MARK),
     }
 }

@@ -44,8 +44,17 @@ returns-5 c =
     let after-kind-at = c .before .before .before in
     let first-test = after-kind-at .before in
     let start = first-test .before .before in
-    c .ended2 .ensures
+    c .held3 .ensures
     ∙ record-of (start .args .s .now) (start .args .at) (first-test .if1 .left) _ _ (after-kind-at .kind-at .ensures) (c .before .enum-told4 .given .1)
+
+returns-6 : tie.Need-returns-6
+unfolding recordOf
+returns-6 c =
+    let after-kind-at = c .before .before .before in
+    let first-test = after-kind-at .before in
+    let start = first-test .before .before in
+    c .ended2 .ensures
+    ∙ record-of (start .args .s .now) (start .args .at) (first-test .if1 .left) _ _ (after-kind-at .kind-at .ensures) (c .before .enum-told5 .given .1)
 
 pub record-at-spec : {M : Type 1} → statement M
 record-at-spec =
@@ -63,7 +72,10 @@ record-at-spec =
     (λ c κs. search needs)
     (λ c. search needs)
     (λ c κs. search needs)
+    (λ c. search needs)
+    (λ c κs. search needs)
     returns-2
     returns-3
     returns-4
-    returns-5)
+    returns-5
+    returns-6)

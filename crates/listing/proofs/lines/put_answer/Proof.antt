@@ -3,7 +3,8 @@ use mathlib.Core.Path.{subst}
 use Rattle.text.proofs.Laws.{written-none, written-as}
 use Rattle.records.specs.declared.Kind.{Kind}
 use Rattle.records.specs.Records.{Whole}
-use Rattle.listing.proofs.Asked.{polynomial-prints, quadratic-prints, crank-prints, polynomial-text, quadratic-text, crank-text, unknown-text}
+use Rattle.listing.proofs.Asked.{polynomial-prints, quadratic-prints, crank-prints, contact-prints}
+use Rattle.listing.proofs.Asked.{polynomial-text, quadratic-text, crank-text, contact-text, unknown-text}
 use borrow.Author.Needs.{needs}
 use Rattle.listing.proofs.lines.put_answer.Statement.{statement}
 use Rattle.listing.proofs.lines.put_answer.Tie as tie
@@ -50,6 +51,20 @@ put-crank-requires c κs =
     let start = lent .before in
     (start .pre .0, crank-prints (start .args .s .now) (start .args .at) (c .crank-at .result) (c .crank-at .ensures))
 
+contact-at-requires : tie.Need-contact-at-requires
+contact-at-requires c κs =
+    let told = c .before in
+    let lent = told .before .before .before in
+    let start = lent .before in
+    subst (λ (k : Kind). Whole k (start .args .s .now) (start .args .at)) (told .enum-told4 .given .1) (start .pre .1)
+
+put-polynomial-requires-2 : tie.Need-put-polynomial-requires-2
+put-polynomial-requires-2 c κs =
+    let told = c .before .before in
+    let lent = told .before .before .before in
+    let start = lent .before in
+    (start .pre .0, contact-prints (start .args .s .now) (start .args .at) (c .contact-at .result) (c .contact-at .ensures))
+
 returns : tie.Need-returns
 returns c =
     let put = c .before .before in
@@ -82,9 +97,19 @@ returns-3 c =
 
 returns-4 : tie.Need-returns-4
 returns-4 c =
+    let put = c .before .before in
+    let answer = put .before in
+    let told = answer .before .before in
+    let lent = told .before .before .before in
+    let start = lent .before in
+    written-as (contact-text (start .args .s .now) (start .args .at) _ _ (told .enum-told4 .given .1) (answer .contact-at .ensures))
+    (put .put-polynomial2 .ensures)
+
+returns-5 : tie.Need-returns-5
+returns-5 c =
     let lent = c .before .before .before in
     let start = lent .before in
-    written-as (unknown-text (start .args .s .now) (start .args .at) _ (c .enum-told4 .given .1)) (written-none (start .args .out .now) (start .args .w))
+    written-as (unknown-text (start .args .s .now) (start .args .at) _ (c .enum-told5 .given .1)) (written-none (start .args .out .now) (start .args .w))
 
 pub put-answer-spec : {M : Type 1} → statement M
 put-answer-spec =
@@ -100,10 +125,15 @@ put-answer-spec =
     crank-at-requires
     put-crank-requires
     (λ c. search needs)
+    contact-at-requires
+    put-polynomial-requires-2
+    (λ c. search needs)
     (λ c. search needs)
     returns
     (λ c. search needs)
     returns-2
     (λ c. search needs)
     returns-3
-    returns-4)
+    (λ c. search needs)
+    returns-4
+    returns-5)
