@@ -19,7 +19,9 @@ use Rattle.roots.proofs.Laws.{list-roots, roots-fit}
 use Rattle.roots.proofs.Sums.{within-none, within-more}
 use Rattle.poly.specs.declared.Answer.{Answer}
 use Rattle.poly.specs.Coefficients.{trimmedOf, refusalBy, refusalOf, degreeLeft}
+use Rattle.poly.specs.Solve.{solveOf}
 use Rattle.poly.specs.Conditions.{AllDoubles, Exactly}
+use Rattle.poly.proofs.Refusals.{solved-number}
 use Rattle.poly.proofs.Coefficients.{trimmed-most}
 use Rattle.asking.specs.Asking.{answered}
 use Rattle.inquiry.specs.Start.{realRootsTouchingOf}
@@ -166,6 +168,11 @@ module _ (confusion : Float) (path : Path) (circle : Circle) where
   unfolding pinContactOf listedOf
   listed e = let t = numbers .zero .only-there e in rw (t .0, t .1, t .2)
 
+  solved : answer .number ≡ 0 → solveOf coeffs confusion .number ≡ 0
+  solved e =
+      let t = numbers .zero .only-there e in
+      solved-number coeffs confusion ∙ listed-number (t .2) ∙ rw (lt-leb (trimmedOf coeffs) 1 (t .3))
+
   list-none : 0 < list .number → list .roots ≡ noRoots
   unfolding listedOf answered
   list-none h = rw (refused-asks coeffs confusion (ne-eqb (refusalOf coeffs) 0 (λ z. absurd (omega (arith, h, z)))))
@@ -195,6 +202,7 @@ module _ (confusion : Float) (path : Path) (circle : Circle) where
         questions = start-few touches coeffs confusion;
         roots = by-tests (λ (a : Answer). Within (degreeLeft coeffs) (listOf (a .roots))) (λ n. within-more 0 (degreeLeft coeffs) [] (omega arith) within-none) within;
         array = by-tests (λ (a : Answer). Fits (a .roots)) (λ n. (refl, omega arith)) fitting;
+        solved = solved;
         doubles = made-doubles (seenOf path circle) (circle .r);
       }
 

@@ -11,6 +11,7 @@ use Rattle.float.specs.Methods.{allFiniteOf}
 use Rattle.roots.specs.Roots.{listOf, rootsOf, noRoots}
 use Rattle.roots.specs.Listed.{Within, Fits}
 use Rattle.poly.specs.Coefficients.{trimmedOf, degreeLeft}
+use Rattle.poly.specs.Solve.{solveOf}
 use Rattle.poly.specs.Conditions.{AllDoubles, Exactly}
 use Rattle.inquiry.specs.Start.{realRootsTouchingOf, placesTouchingOf, startOf}
 use Rattle.inquiry.specs.Claims.{Fed}
@@ -18,8 +19,8 @@ use Rattle.contact.specs.declared.Path.{Path}
 use Rattle.contact.specs.declared.Circle.{Circle}
 use Rattle.contact.specs.Contact.{numbersOf, seenOf, madeOf, touchesOf, pinContactOf}
 
--- Each number, 0 for an answer too, stands exactly for its condition: on the record's numbers, on its radius, and on the coefficients made. There are no others: 1 and 3
--- to 5 never come.
+-- Each number, 0 for an answer too, stands exactly for its condition: on the record's numbers, on its radius, and on the coefficients made. There are no others:
+-- 1 and 3 to 5 never come.
 pub record Numbers (number : ℕ) (numbers : List Float) (r : Float) (coeffs : List Float) : Type 0 where
   pub zero : Exactly (number ≡ 0) ((allFiniteOf numbers ≡ true) × (lt zero64 r ≡ true) × (allFiniteOf coeffs ≡ true) × (2 ≤ trimmedOf coeffs))
   pub ten : Exactly (number ≡ 10) (allFiniteOf numbers ≡ false)
@@ -50,5 +51,6 @@ pub record Contacts (confusion : Float) (path : Path) (circle : Circle) : Type 0
   -- demand 1
   pub roots : Within (degreeLeft (madeOf path circle)) (listOf (pinContactOf confusion path circle .roots))
   pub array : Fits (pinContactOf confusion path circle .roots)
-  -- 'Demand 3, the accuracy rule, covers these roots through the list': whatever the record, what is solved is a list of doubles
+  -- what is solved is the list of these coefficients, which are doubles whatever the record
+  pub solved : pinContactOf confusion path circle .number ≡ 0 → solveOf (madeOf path circle) confusion .number ≡ 0
   pub doubles : AllDoubles (madeOf path circle)

@@ -13,4 +13,5 @@ pub mod Unfolded
 pub mod Quadratics
 pub mod Entries
 pub mod Example
+pub mod Contact
 pub mod Proved

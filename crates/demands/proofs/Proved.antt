@@ -1,6 +1,7 @@
 -- The proof of specs/Demands, from the laws beside it.
-use mathlib.Core.Path.{refl, ap}
+use mathlib.Core.Path.{refl, sym, ap, _∙_}
 use mathlib.Core.Logic.{⊎-elim}
+use mathlib.Core.List.{List}
 use Prim.Native.Nat.{_-_, _≤_}
 use native.Mathlib.Omega.{arith}
 use lib.Dec.{lit≤}
@@ -20,6 +21,8 @@ use Rattle.large_factors.specs.Large.{unitOf, factorUnitsOf, noSmaller}
 use Rattle.factorize.specs.Factorize.{factorizeOf}
 use Rattle.factorize.proofs.Degree.{degrees-add}
 use Rattle.accuracy.proofs.Polishing.{polishing}
+use Rattle.roots.specs.declared.RealRoot.{RealRoot}
+use Rattle.roots.specs.Roots.{rootsOf}
 use Rattle.roots.specs.Listed.{blank}
 use Rattle.finish.specs.Finish.{byValue, finishOf}
 use Rattle.finish.proofs.Simple.{simple-polished}
@@ -28,12 +31,17 @@ use Rattle.poly.specs.Solve.{candidatesOf, finishedOf, solveOf}
 use Rattle.poly.proofs.Refusals.{trimmed-is, number-most, no-root, stands-for, answered-is}
 use Rattle.poly.proofs.Sums.{answer-within, answer-fits}
 use Rattle.poly.proofs.Small.{solved-small}
-use Rattle.inquiry.proofs.Fresh.{start-number}
+use Rattle.asking.specs.Asking.{Asking, answered}
+use Rattle.inquiry.specs.Start.{startOf}
+use Rattle.inquiry.proofs.Fresh.{start-number, start-asks}
 use Rattle.inquiry.proofs.Theorem.{start-fed, start-most, start-list}
 use Rattle.crank.proofs.Theorem.{cranks}
+use Rattle.contact.specs.Contact.{madeOf}
+use Rattle.contact.specs.Claims.{repliesOf}
+use Rattle.contact.proofs.Theorem.{contacts}
 use Rattle.demands.specs.Table.{table}
 use Rattle.demands.specs.Demands.{Demands, SquareRoot, CubeRoot, Third, Logarithm, ScaledCoefficients, FactorDegrees}
-use Rattle.demands.specs.Demands.{TotalOrder, Sorts, Lists, SimpleRoots}
+use Rattle.demands.specs.Demands.{TotalOrder, Sorts, Lists, SimpleRoots, PinContacts}
 use Rattle.demands.proofs.Nearest.{signed, positive-units}
 use Rattle.demands.proofs.Doubles.{units-exact, only-one}
 use Rattle.demands.proofs.Roots.{square-nearest, cube-nearest, rest-nearest, scaled-most, scaled-least, sqrt-is, cbrt-is}
@@ -47,6 +55,7 @@ use Rattle.demands.proofs.Loops.{runs, chains}
 use Rattle.demands.proofs.Quadratics.{quadratics}
 use Rattle.listing.proofs.Bound.{listing-fits}
 use Rattle.demands.proofs.Example.{example, empty, too-long}
+use Rattle.demands.proofs.Contact.{contact-line}
 use Rattle.demands.proofs.Entries.{given, stated, all-rows, agree}
 
 square-root : SquareRoot
@@ -145,6 +154,18 @@ simple-roots = record {
       simple-polished n (s .poly) (candidatesOf (s .poly) (zerosOf coeffs) (factorizeOf (s .poly) 0) (s .tol) .0) k (small .0) (small .1);
 }
 
+pin-contacts : PinContacts
+unfolding startOf
+pin-contacts = record {
+  every = contacts;
+  through-the-list = λ confusion path circle e.
+      let asks = start-asks (madeOf path circle) confusion in
+      contacts confusion path circle .list e ∙ ap (λ (t : Asking (List RealRoot)). rootsOf (answered (repliesOf confusion path circle) t)) (sym asks);
+  polished = λ confusion path circle e.
+      let all = contacts confusion path circle in simple-roots .polished (madeOf path circle) confusion (all .doubles) (all .solved e);
+  line = contact-line;
+}
+
 pub demands : Demands
 demands = record {
   doubles = record { exact = units-exact; one = only-one };
@@ -167,4 +188,5 @@ demands = record {
   simple-roots = simple-roots;
   entries = record { every = λ tol. agree given stated (table tol) (all-rows tol) };
   hall-file = record { example = example; empty = empty; too-long = too-long; room = listing-fits };
+  pin-contacts = pin-contacts;
 }

@@ -1,9 +1,9 @@
--- What is promised, as theorems about the definitions: the customer's demands (document 00) and document 01's claims, in their words. Statements only;
+-- What is promised, as theorems about the definitions: the customer's demands (document 00) and the claims of documents 01 and 02, in their words. Statements only;
 -- proofs/Proved.antt has the proof of `Demands`, the last of them.
 use mathlib.Core.Path.{_≡_}
 use mathlib.Core.Logic.{_⊎_}
 use mathlib.Core.Bool.{Bool, true, false, cond}
-use mathlib.Core.List.{List, [], _∷_, map, List·Memᴰ}
+use mathlib.Core.List.{List, [], _∷_, _++_, map, List·Memᴰ}
 use Prim.Native.Nat.{ℕ, suc, _+_, _-_, _*_, _^_, _≤_, _<_}
 use lib.IntN.{ℤ, pos, negsuc, _*ℤ_}
 use lib.Signed.{_≤ℤ_}
@@ -28,7 +28,7 @@ use Rattle.factors.specs.declared.Factors.{Factors}
 use Rattle.large_factors.specs.Large.{unitOf, factorUnitsOf, noSmaller}
 use Rattle.factorize.specs.Factorize.{factorizeOf}
 use Rattle.roots.specs.declared.RealRoot.{RealRoot}
-use Rattle.roots.specs.Roots.{listOf, rootsOf, noRoots}
+use Rattle.roots.specs.Roots.{listOf, pairListOf, rootsOf, noRoots}
 use Rattle.roots.specs.Listed.{Fits, Within, blank}
 use Rattle.polish.specs.Polish.{polishOf}
 use Rattle.accuracy.specs.Claims.{atMost, AllAtMost, Polished}
@@ -40,10 +40,17 @@ use Rattle.poly.specs.Conditions.{Trimmed, AllDoubles, AllFinite, SomeNotFinite
 use Rattle.solution.specs.declared.QuadraticSolution.{QuadraticSolution}
 use Rattle.solution.specs.Solution.{numberOf, valuesOf}
 use Rattle.equation.specs.Quadratic.{solveQuadraticOf, quadraticOf}
-use Rattle.touching.specs.Touching.{chained}
+use Rattle.asking.specs.Asking.{answered}
+use Rattle.touching.specs.Touching.{chained, touching}
 use Rattle.inquiry.specs.Start.{realRootsTouchingOf, placesTouchingOf, startOf}
 use Rattle.inquiry.specs.Claims.{Fed}
 use Rattle.crank.specs.Claims.{Cranks}
+use Rattle.contact.specs.declared.Path.{Path}
+use Rattle.contact.specs.declared.Circle.{Circle}
+use Rattle.contact.specs.Contact.{madeOf, pinContactOf}
+use Rattle.contact.specs.Claims.{repliesOf, Contacts}
+use Rattle.listing.specs.Answers.{contactAt}
+use Rattle.listing.specs.Lines.{polynomialText}
 use Rattle.listing.specs.File.{listing}
 use Rattle.demands.specs.Loops.{runsFrom, chainsFrom}
 use Rattle.demands.specs.Table.{Row, table, rowAnswerOf}
@@ -294,17 +301,22 @@ pub record Polishing : Type 0 where
 abbrev pub placesOf : List Float → Float → List Ordered
 placesOf coeffs tol = let s = solveOf coeffs tol in orderedOf (candidatesOf (s .poly) (zerosOf coeffs) (factorizeOf (s .poly) 0) (s .tol) .0)
 
--- The same of every answer: 'A simple root comes to polishing with multiplicity 1. First is the place it comes with, last the one where the loop leaves it.'
--- What is found are these places, each polished by at most four turns, and then joined. Whatever the number of turns n, the k-th of them is not worsened where
--- it comes with multiplicity 1. The polynomial is the list's, scaled, 'with those zeros removed'; that its coefficients are at most 2 in size is no premise.
+-- 'A simple root comes to polishing with multiplicity 1. First is the place it comes with, last the one where the loop leaves it.' Whatever the number of
+-- turns n, the k-th place is not worsened where it comes with multiplicity 1; that the coefficients are at most 2 in size is no premise.
+abbrev pub NotWorsened : List Float → Float → Type 0
+NotWorsened coeffs tol =
+    let s = solveOf coeffs tol in
+    (n k : ℕ) → let first = getD (placesOf coeffs tol) k nowhere in let last = getD (polishedOf n (s .poly) (placesOf coeffs tol)) k blank in
+    first .multiplicity ≡ 1 → atMost four64 (first .value) ≡ true → atMost four64 (last .value) ≡ true
+    → Polished (s .poly .f) (s .poly .d) (first .value) (last .value)
+
+-- The same of every answer: what is found are these places, each polished by at most four turns, and then joined. The polynomial is the list's, scaled, 'with
+-- those zeros removed'.
 pub record SimpleRoots : Type 0 where
   pub polynomial : (coeffs : List Float) (tol : Float) → let s = solveOf coeffs tol in s .number ≡ 0 → s .poly ≡ polyOf coeffs
   pub found : (coeffs : List Float) (tol : Float) → let s = solveOf coeffs tol in s .number ≡ 0
       → s .roots ≡ rootsOf (joinedOf (s .poly) (s .tol) (polishedOf 4 (s .poly) (placesOf coeffs tol)))
-  pub polished : (coeffs : List Float) (tol : Float) → AllDoubles coeffs → let s = solveOf coeffs tol in s .number ≡ 0 → (n k : ℕ)
-      → let first = getD (placesOf coeffs tol) k nowhere in let last = getD (polishedOf n (s .poly) (placesOf coeffs tol)) k blank in
-      first .multiplicity ≡ 1 → atMost four64 (first .value) ≡ true → atMost four64 (last .value) ≡ true
-      → Polished (s .poly .f) (s .poly .d) (first .value) (last .value)
+  pub polished : (coeffs : List Float) (tol : Float) → AllDoubles coeffs → solveOf coeffs tol .number ≡ 0 → NotWorsened coeffs tol
 
 -- ---- condition 4 on every contract: 'The entries marked P form one small table, shown from the definitions by one fact about all its rows.'
 
@@ -321,6 +333,22 @@ pub record HallFile : Type 0 where
   pub empty : listing [] ≡ []
   pub too-long : (s : List ℕ) → 65536 < length s → listing s ≡ ascii "0 -- refused 9\n"
   pub room : (s : List ℕ) → length (listing s) ≤ 163860
+
+-- ---- request One, 'Pin contact from path and circle'
+
+-- `Contacts`: 'Errors: 10, a number of the record is not finite; 11, R is not above 0; 12, a coefficient made is not finite; in that order, then 2 as for a
+-- list', each exactly there, and no other number. An answer is the Rust's list of the coefficients made, 'A question at t is replied yes exactly when |D − R|
+-- is at most confusion'; at most three questions; demand 1. 'Demand 3, the accuracy rule, covers these roots through the list': what is asked about and listed
+-- are the roots that the list of the same coefficients found, none of them worsened. 'A record PC holds ..', 'The line prints like PL': the line of a file of
+-- one such record.
+pub record PinContacts : Type 0 where
+  pub every : (confusion : Float) (path : Path) (circle : Circle) → Contacts confusion path circle
+  pub through-the-list : (confusion : Float) (path : Path) (circle : Circle) → pinContactOf confusion path circle .number ≡ 0
+      → let s = solveOf (madeOf path circle) confusion in pinContactOf confusion path circle .roots
+      ≡ rootsOf (answered (repliesOf confusion path circle) (touching (s .poly) (s .tol) (listOf (s .roots)) (pairListOf (s .pairs))))
+  pub polished : (confusion : Float) (path : Path) (circle : Circle) → pinContactOf confusion path circle .number ≡ 0 → NotWorsened (madeOf path circle) confusion
+  pub line : (s : List ℕ) → length s ≡ 80
+      → let file = ascii "PC" ++ s in listing file ≡ ascii "1 PC " ++ (polynomialText (contactAt file 0) ++ ascii "\n")
 
 -- ---- all of them
 pub record Demands : Type 0 where
@@ -344,3 +372,4 @@ pub record Demands : Type 0 where
   pub simple-roots : SimpleRoots
   pub entries : Entries
   pub hall-file : HallFile
+  pub pin-contacts : PinContacts

@@ -2,6 +2,6 @@
 mod Texts
 mod Answers
 mod Asked
-mod Reading
+pub mod Reading
 pub mod Bound
 mod Sample

@@ -16,7 +16,7 @@ use Rattle.listing.specs.File.{linesFrom, listing}
 use Rattle.records.proofs.Places.{record-forward}
 use Rattle.listing.proofs.Bound.{lines-end, all-lines-fit}
 
-lines-step : (f : ℕ) (s : List ℕ) (at n : ℕ) → at < length s → 0 < f
+pub lines-step : (f : ℕ) (s : List ℕ) (at n : ℕ) → at < length s → 0 < f
     → linesFrom f s at n ≡ lineOf n s at (recordAt s at) ++ linesFrom (f - 1) s (recordAt s at .next) (n + 1)
 unfolding linesFrom
 lines-step zero s at n h p = absurd (omega arith)

@@ -20,6 +20,9 @@ qd = 81 ∷ 68 ∷ []
 abbrev tg : List ℕ
 tg = 84 ∷ 71 ∷ []
 
+abbrev pc : List ℕ
+pc = 80 ∷ 67 ∷ []
+
 abbrev unknown : List ℕ
 unknown = 45 ∷ 45 ∷ []
 
@@ -47,6 +50,7 @@ rows =
     ∷ row (pl ++ replicate 8 0) pl 7
     ∷ row (qd ++ replicate 39 0) qd 7
     ∷ row (tg ++ replicate 47 0) tg 7
+    ∷ row (pc ++ replicate 79 0) pc 7
     ∷ []
 
 refusals : map (λ (r : Row). listing (r .file)) rows ≡ map (λ (r : Row). line 1 (r .mark) (r .number)) rows
