@@ -5,6 +5,7 @@ use crate::inputs::quadratics::TOL;
 use crate::inputs::random::Random;
 use crate::people::doubt::Look;
 use crate::runs::{cranks, lists};
+use crate::truth::exact::{exponent, ldexp, scale_exponent};
 use crate::truth::hall_file::Record;
 use crate::truth::lister::{Answer, Reference, Root, Solver, Turned, answer, trimmed};
 use crate::truth::sturm::{distance_log, real_root_near};
@@ -15,6 +16,8 @@ pub enum Class {
     /// Once: an exact real root lies within 2^-40 |x|. m times: m exact roots, complex ones counted,
     /// lie within 2^(-50/m) |x|, about what a last digit of the coefficients moves them.
     Good,
+    /// Once, and as good, of a list that loses digits in the scaling: see `tiny`.
+    Tiny,
     /// m times, and m exact roots lie as near as the tolerance says.
     Joined,
     /// m times, and fewer than m exact roots lie within 2^-6 |x|, but one within 2^-40 |x|.
@@ -31,6 +34,7 @@ pub fn class(coeffs: &[f64], (x, times): Root) -> Class {
     let coeffs = &coeffs[..trimmed(coeffs)];
     if times == 1 {
         return match () {
+            _ if real_root_near(coeffs, x, 40) && tiny(coeffs) => Class::Tiny,
             _ if real_root_near(coeffs, x, 40) => Class::Good,
             _ if real_root_near(coeffs, x, 10) => Class::Between,
             _ => Class::False,
@@ -48,9 +52,21 @@ pub fn class(coeffs: &[f64], (x, times): Root) -> Class {
     }
 }
 
+/// Whether a scaled coefficient is below 2^-1022, though not 0 by itself.
+fn tiny(coeffs: &[f64]) -> bool {
+    let zeros = coeffs.iter().take_while(|a| **a == 0.0).count();
+    let coeffs = &coeffs[zeros..];
+    let (e, d) = (scale_exponent(coeffs), coeffs.len() as i32 - 1);
+    let lead = exponent(coeffs[d as usize]);
+    let scaled = |i: i32| ldexp(coeffs[i as usize], -e * (d - i) - lead);
+    let below = |i: i32| (scaled(i) / scaled(d)).abs() < f64::MIN_POSITIVE;
+    (0..d).any(|i| coeffs[i as usize] != 0.0 && below(i))
+}
+
 /// The columns: a class, and whether of roots that count once or more often.
-const COLUMNS: [(&str, Class, bool); 8] = [
+const COLUMNS: [(&str, Class, bool); 9] = [
     ("once: good", Class::Good, false),
+    ("good, tiny", Class::Tiny, false),
     ("between", Class::Between, false),
     ("false", Class::False, false),
     ("more often: good", Class::Good, true),
@@ -147,13 +163,14 @@ fn told(rows: &[Counts], faults: &Faults, (count, seed): (u64, u64)) {
 #[cfg(test)]
 mod tests {
     use super::*;
-    use crate::truth::exact::ldexp;
 
     #[test]
     fn classes() {
         let pair = [1e-20 + ldexp(1.0, -80), -2e-10, 1.0];
         for (coeffs, root, wanted) in [
             (&[2.0, -3.0, 1.0, 0.0][..], (1.0, 1), Class::Good),
+            (&[2.0, -3.0, 1.0, ldexp(1.0, -538)], (-ldexp(1.0, 538), 1), Class::Tiny),
+            (&[2.0, -3.0, 1.0, ldexp(1.0, -500)], (-ldexp(1.0, 500), 1), Class::Good),
             (&[2.0, -3.0, 1.0], (1.0001, 1), Class::Between),
             (&[2.0, -3.0, 1.0], (1.1, 1), Class::False),
             (&[0.0, 1.0, 1.5, 1.0], (-2.0 / 3.0, 1), Class::False),
