@@ -83,7 +83,8 @@ fn tables_of_made_files() {
     for seed in ["1", "2", "3", "4", "5"] {
         let bytes = hall(&["random", "400", seed, "--damage"], b"").stdout;
         let table = text(&hall(&["show"], &bytes).stdout);
-        for line in table.lines() {
+        let reasons = text(&hall(&["explain", "-"], &bytes).stdout);
+        for line in table.lines().chain(reasons.lines()) {
             assert!(line.chars().count() <= 100, "{line}");
         }
         let csv = text(&hall(&["show", "--csv"], &bytes).stdout);
@@ -217,51 +218,53 @@ fn marked(line: &str) -> Vec<String> {
     found
 }
 
-/// docs/DIFFERENCES.md, 'Wrong and kept': the false places are marked and the right ones are not.
+/// The lists of docs/DIFFERENCES.md, 'Wrong and kept', and their false places.
+const WRONG: [(&str, &[&str]); 12] = [
+    (
+        "list 2^-30 1 0 2 2^-25 1",
+        &["C11FFFFFFFFF80FE", "BEC0000000003FD7", "3EC000000000402C", "411FFFFFFFFF7EFE"],
+    ),
+    (
+        "list 2^-30 1 0 16 2^-21 64",
+        &["C10555555554F5D2", "BEA8000000006BD4", "3EA8000000006C32", "410555555554F4D4"],
+    ),
+    (
+        "list 2^-30 0xD18F69A5BB66F672 0xB6817C5B52617DF6 0x47E7DEC653C3E908 \
+         0xC2DAB4256470939C 0x33BEE167499F4A18",
+        &["CB81E0E24AAA0FA4", "4B81E0E24AAA0FA6"],
+    ),
+    (
+        "list 2^-30 0x50A3780000000000 0xA282918B5BC2EDC9 0xB9CE000000000000 \
+         0xA89B4E1000000000 0x1DD0007FFFFFFFFF",
+        &["CEC9725902F71B06", "4EC9725902F71B06"],
+    ),
+    ("list 2^-30 2 -3 1 2^-538", &["0000000000000000", "4007504F333F9DE6"]),
+    ("list 2^-30 -6 11 -6 1 2^-359", &["400C2BC91FAC3082"]),
+    ("list 2^-30 -1 0 1 2^-538", &["8000000000000000"]),
+    ("list 2^-30 1 0 0 1 2^-359", &["0000000000000000"]),
+    (
+        "list 2^-30 0xBF10000000008000 0x3F9FF7FFFFFFFFC0 0xC00FDFF800000000 \
+         0xC000100000000000 0x3FF0000000000000",
+        &["3F6FFFFCEA301683", "3F7000018AE7F5F1"],
+    ),
+    (
+        "list 2^-30 0xB2D84AD47FAA673F 0xBF5175DDDCC73F22 0x3FB3AD6EE6E8F948 \
+         0xBFF69F39AADADD2A 0x3FF0000000000000",
+        &[],
+    ),
+    ("list 2^-30 0 1 1.5 1", &["BFE5555555555555"]),
+    ("list 2^-30 0 -1 2 -2", &["3FE0000000000000"]),
+];
+
+/// They are marked, and the right ones of these lists are not.
 #[test]
-fn doubtful_roots_are_marked() {
-    let known: [(&str, &[&str]); 12] = [
-        (
-            "list 2^-30 1 0 2 2^-25 1",
-            &["C11FFFFFFFFF80FE", "BEC0000000003FD7", "3EC000000000402C", "411FFFFFFFFF7EFE"],
-        ),
-        (
-            "list 2^-30 1 0 16 2^-21 64",
-            &["C10555555554F5D2", "BEA8000000006BD4", "3EA8000000006C32", "410555555554F4D4"],
-        ),
-        (
-            "list 2^-30 0xD18F69A5BB66F672 0xB6817C5B52617DF6 0x47E7DEC653C3E908 \
-             0xC2DAB4256470939C 0x33BEE167499F4A18",
-            &["CB81E0E24AAA0FA4", "4B81E0E24AAA0FA6"],
-        ),
-        (
-            "list 2^-30 0x50A3780000000000 0xA282918B5BC2EDC9 0xB9CE000000000000 \
-             0xA89B4E1000000000 0x1DD0007FFFFFFFFF",
-            &["CEC9725902F71B06", "4EC9725902F71B06"],
-        ),
-        ("list 2^-30 2 -3 1 2^-538", &["0000000000000000", "4007504F333F9DE6"]),
-        ("list 2^-30 -6 11 -6 1 2^-359", &["400C2BC91FAC3082"]),
-        ("list 2^-30 -1 0 1 2^-538", &["8000000000000000"]),
-        ("list 2^-30 1 0 0 1 2^-359", &["0000000000000000"]),
-        (
-            "list 2^-30 0xBF10000000008000 0x3F9FF7FFFFFFFFC0 0xC00FDFF800000000 \
-             0xC000100000000000 0x3FF0000000000000",
-            &["3F6FFFFCEA301683", "3F7000018AE7F5F1"],
-        ),
-        (
-            "list 2^-30 0xB2D84AD47FAA673F 0xBF5175DDDCC73F22 0x3FB3AD6EE6E8F948 \
-             0xBFF69F39AADADD2A 0x3FF0000000000000",
-            &[],
-        ),
-        ("list 2^-30 0 1 1.5 1", &["BFE5555555555555"]),
-        ("list 2^-30 0 -1 2 -2", &["3FE0000000000000"]),
-    ];
-    for (line, wanted) in known {
+fn false_places_are_marked() {
+    for (line, wanted) in WRONG {
         assert_eq!(marked(line), wanted, "{line}");
     }
 }
 
-/// Roots, and places that stand for roots within the tolerance.
+/// Roots are not, but places that stand for roots that lie apart and are joined.
 #[test]
 fn roots_are_not_marked() {
     let lines = [
@@ -279,7 +282,7 @@ fn roots_are_not_marked() {
     for line in lines {
         assert!(marked(line).is_empty(), "{line}");
     }
-    // two roots, joined by a tolerance of 1, and small ones beside 2^-30
+    // by a tolerance of 1, and small ones by 2^-30
     assert_eq!(marked("quad 1 2^-30 1 2 0.9"), ["BFF0000000000000"]);
     assert_eq!(marked("list 2^-30 5e-20 -6e-10 1"), ["3DF49DA7E361CE4C"]);
 }
@@ -288,16 +291,7 @@ fn roots_are_not_marked() {
 const DOUBTS: &str = "list 2^-30 2 -3 1 2^-538\nlist 2^-30 5e-20 -6e-10 1\nlist 2^-30 2 -3 1\n\
                       list 2^-30 7\ncrank 2^-30 1 0 0 0 0.5\nquad 2^-30 1 0.5 2 -4\n";
 
-#[test]
-fn doubts_are_explained() {
-    let path = scratch("doubts.hall");
-    fs::write(&path, made(DOUBTS)).unwrap();
-    let path = path.to_str().unwrap();
-    let out = hall(&["explain", path], b"");
-    assert_eq!((out.status.code(), &out.stderr[..]), (Some(0), &b""[..]));
-    let told = text(&out.stdout);
-    let (found, reasons) = told.split_once("Why: ").unwrap();
-    let wanted = "\
+const EXPLAINED: &str = "\
 1 list, tol 2^-30: 1.1113793747425387e-162 x^3 + x^2 - 3 x + 2 = 0
   p is the left side, computed without rounding
   -8.997827589086393e161 (E190000000000000), once: a root, p reaches 0 within 2 doubles of it
@@ -326,7 +320,17 @@ fn doubts_are_explained() {
     2^-47 is 7.11e-15. The tolerance joins roots within 9.31e-10 of their middle.
 records: 6, refused: 1, roots: 11, doubtful: 3
 ";
-    assert_eq!(found, wanted);
+
+#[test]
+fn doubts_are_explained() {
+    let path = scratch("doubts.hall");
+    fs::write(&path, made(DOUBTS)).unwrap();
+    let path = path.to_str().unwrap();
+    let out = hall(&["explain", path], b"");
+    assert_eq!((out.status.code(), &out.stderr[..]), (Some(0), &b""[..]));
+    let told = text(&out.stdout);
+    let (found, reasons) = told.split_once("Why: ").unwrap();
+    assert_eq!(found, EXPLAINED);
     for part in ["\nWhat it means: ", "'Wrong and kept'", "\nWhat to do: "] {
         assert!(reasons.replace("\n    ", " ").contains(part), "{reasons}");
     }
@@ -441,13 +445,14 @@ fn faults_are_named() {
 #[cfg(not(geomcore))]
 #[test]
 fn nothing_to_compare_with() {
-    let commands: [&[&str]; 7] = [
+    let commands: [&[&str]; 8] = [
         &["compare", "-"],
         &["compare", "-", "--csv"],
         &["lists", "5", "1"],
         &["cranks", "5", "1"],
         &["files", "5", "1"],
         &["damage", "0", "1"],
+        &["doubts", "5", "1"],
         &["stored", "files", "x"],
     ];
     for words in commands {

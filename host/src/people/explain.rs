@@ -50,8 +50,8 @@ fn sizes(value: &Value) -> String {
     let limit = About { m: 1.0, k: -(SHARE as i64) };
     let [part, size, terms, limit] = [size.over(terms), size, terms, limit].map(About::text);
     format!(
-        "|p| is {size} and the sum of its terms' sizes {terms}: {part} of that is left, and 2^-{SHARE} \
-         is {limit}"
+        "|p| is {size} and the sum of its terms' sizes {terms}: {part} of that is left, and \
+         2^-{SHARE} is {limit}"
     )
 }
 
@@ -88,13 +88,13 @@ fn end(listed: usize, marked: usize) -> String {
 
 /// Why a root is doubtful, what that means, and what to do about it.
 const REASONS: [&str; 3] = [
-    "Why: where a root counts once, p goes through 0 from one side to the other, so within 2 doubles \
-     of it p is 0 or has both signs. Where it counts more often p may only touch 0, but at most \
-     2^-47 of the sum of its terms' sizes is left of it. At a doubtful place that is not so.",
-    "What it means: no root is there, or one further off than rounding puts it; or, where the place \
-     counts more than once, it stands for roots that lie apart and that the tolerance joins. The \
-     list is the one that the original program, geomcore's Rust, gives, and is kept bit for bit: \
-     docs/DIFFERENCES.md, 'Wrong and kept', says for which equations it is wrong.",
+    "Why: where a root counts once, p goes through 0 from one side to the other, so within 2 \
+     doubles of it p is 0 or has both signs. Where it counts more often p may only touch 0, but at \
+     most 2^-47 of the sum of its terms' sizes is left of it. At a doubtful place that is not so.",
+    "What it means: no root is there, or one further off than rounding puts it; or, where the \
+     place counts more than once, it stands for roots that lie apart and that the tolerance joins. \
+     The list is the one that the original program, geomcore's Rust, gives, and is kept bit for \
+     bit: docs/DIFFERENCES.md, 'Wrong and kept', says for which equations it is wrong.",
     "What to do: set no crank and score no pin contact by a doubtful place. Such a list may lack \
      roots too: its other places are roots, but do not go by their number. Where the sizes of the \
      coefficients are far apart, put 0 for one that is there by rounding alone, or take a unit of \

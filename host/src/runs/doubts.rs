@@ -10,10 +10,10 @@ use crate::truth::hall_file::Record;
 use crate::truth::lister::{Answer, Reference, Root, Solver, Turned, answer, trimmed};
 use crate::truth::sturm::{distance_log, real_root_near};
 
-/// Of what the exact roots say of a listed one. Nothing here is taken from the test for doubt.
+/// What the exact roots say of a listed one, by where they are and not by p(x).
 #[derive(Clone, Copy, Debug, PartialEq, Eq)]
 pub enum Class {
-    /// Once: an exact real root lies within 2^-40 |x|. m times: m exact roots, complex ones counted,
+    /// Once: an exact real root lies within 2^-40 |x|. m times: m exact roots, complex ones too,
     /// lie within 2^(-50/m) |x|, about what a last digit of the coefficients moves them.
     Good,
     /// Once, and as good, of a list that loses digits in the scaling: see `tiny`.
@@ -119,12 +119,13 @@ fn add(counts: &mut Counts, faults: &mut Faults, record: &str, coeffs: &[f64], r
     }
 }
 
-/// The kinds of lists in turn, and cranks: COUNT of them, and what is marked; true, as nothing is
-/// compared with the port here.
-pub fn run(count: u64, seed: u64) -> bool {
+/// A row for each kind of lists, and one for cranks.
+type Rows = [Counts; KINDS.len() + 1];
+
+/// The kinds in turn, `count` inputs in all.
+fn counted(count: u64, seed: u64) -> (Rows, Faults) {
     let (mut r, mut list) = (Random::new(seed), Vec::new());
-    let mut rows: [Counts; KINDS.len() + 1] = Default::default();
-    let mut faults = Faults::default();
+    let (mut rows, mut faults) = (Rows::default(), Faults::default());
     for n in 0..count {
         let which = (n % rows.len() as u64) as usize;
         let (coeffs, roots, text) = if which < KINDS.len() {
@@ -141,11 +142,17 @@ pub fn run(count: u64, seed: u64) -> bool {
         };
         add(&mut rows[which], &mut faults, &text, &coeffs, &roots);
     }
+    (rows, faults)
+}
+
+/// The long run; true, as nothing is compared with the port here.
+pub fn run(count: u64, seed: u64) -> bool {
+    let (rows, faults) = counted(count, seed);
     told(&rows, &faults, (count, seed));
     true
 }
 
-fn told(rows: &[Counts], faults: &Faults, (count, seed): (u64, u64)) {
+fn told(rows: &Rows, faults: &Faults, (count, seed): (u64, u64)) {
     say(&format!("{count} lists and cranks, seed {seed}: how many of the listed roots are marked"));
     let head = COLUMNS.map(|column| column.0).join(" | ");
     say(&format!("| | {head} |\n|---{}|", "|---".repeat(COLUMNS.len())));
@@ -184,6 +191,20 @@ mod tests {
             (&[0.0, 6.0, 1.0, -6.0, f64::from_bits(1)], (0.0, 3), Class::Fewer),
         ] {
             assert_eq!(class(coeffs, root), wanted, "{coeffs:?} {root:?}");
+        }
+    }
+    /// Every false place is marked, and no good one.
+    #[test]
+    fn marks() {
+        let (rows, faults) = counted(17_000, 942);
+        let mut whole = Counts::default();
+        rows.iter().for_each(|row| whole.join(row));
+        for ((name, class, more), [marked, all]) in COLUMNS.iter().zip(whole.columns) {
+            match class {
+                Class::Good => assert!(marked == 0 && all > 1_000, "{name}, {more}: {faults:?}"),
+                Class::False => assert!(marked == all && all > 100, "{name}, {more}: {faults:?}"),
+                _ => {}
+            }
         }
     }
 }

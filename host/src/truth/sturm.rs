@@ -128,8 +128,8 @@ fn parts(x: f64) -> (Whole, i32) {
     }
 }
 
-/// Whether a real root lies within 2^-part * |x| of x, or within 2^-1072 of it. Some coefficient but
-/// the first is not 0.
+/// Whether a real root lies within 2^-part * |x| of x, or within 2^-1072 of it. Some coefficient
+/// but the first is not 0.
 pub fn real_root_near(coeffs: &[f64], x: f64, part: i32) -> bool {
     let (p, _) = whole(coeffs);
     let (at, unit) = parts(x);
@@ -173,8 +173,9 @@ fn taylor_logs(coeffs: &[f64], x: f64) -> Vec<f64> {
     c.iter().enumerate().map(|(i, c)| log2(&c.size, each(i))).collect()
 }
 
-/// The logarithm of the distance of x from the complex root that is m-th nearest to it, by the Newton
-/// polygon of the polynomial around x: right within a factor of 6.3 up to degree 4 (Ostrowski).
+/// The logarithm of the distance of x from the complex root that is m-th nearest to it, by the
+/// Newton polygon of the polynomial around x: right within a factor of 6.3 up to degree 4
+/// (Ostrowski).
 pub fn distance_log(coeffs: &[f64], x: f64, m: usize) -> f64 {
     let logs = taylor_logs(coeffs, x);
     let slope = |i: usize, j: usize| (logs[i] - logs[j]) / (j - i) as f64;
