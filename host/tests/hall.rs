@@ -6,10 +6,11 @@ use host::port;
 use run::{hall, said, scratch, text};
 use std::fs;
 
-const COMMANDS: [&str; 18] = [
+const COMMANDS: [&str; 20] = [
     "make",
     "list",
     "show",
+    "explain",
     "text",
     "compare",
     "random",
@@ -20,6 +21,7 @@ const COMMANDS: [&str; 18] = [
     "quadratics",
     "files",
     "damage",
+    "doubts",
     "coverage",
     "mutants",
     "causes",
@@ -99,9 +101,13 @@ fn words_not_known() {
         (&["lanes", "--help"], "unknown word `lanes`"),
         (&["show", "--cvs"], "unknown word `--cvs`"),
         (&["show", "a", "b"], "unknown word `b`"),
+        (&["explain"], "a word is missing after `hall explain`"),
+        (&["explain", "--csv"], "unknown word `--csv`"),
+        (&["explain", "a", "b", "c"], "unknown word `c`"),
         (&["make", "--csv"], "unknown word `--csv`"),
         (&["compare", "--csv"], "a word is missing after `hall compare --csv`"),
         (&["lists", "0", "1"], "nothing was compared: COUNT is 0"),
+        (&["doubts", "0", "1"], "nothing was compared: COUNT is 0"),
         (&["mutants", "0", "1"], "nothing was compared: COUNT is 0"),
         (&[], "a word is missing after `hall`"),
     ];

@@ -6,13 +6,14 @@ use std::path::Path;
 use std::process::ExitCode;
 
 /// The long runs, and what their first number says.
-const RUNS: [(&str, &str); 9] = [
+const RUNS: [(&str, &str); 10] = [
     ("lists", "COUNT"),
     ("inquiries", "COUNT"),
     ("cranks", "COUNT"),
     ("files", "COUNT"),
     ("damage", "MINUTES"),
     ("quadratics", "COUNT"),
+    ("doubts", "COUNT"),
     ("coverage", "COUNT"),
     ("mutants", "COUNT"),
     ("causes", "COUNT"),
@@ -77,6 +78,7 @@ fn long_run(what: &str, count: u64, seed: u64) -> Result<bool, String> {
         "damage" => Ok(host::runs::damage::run(count, seed)),
         "cranks" => Ok(host::runs::cranks::run(count, seed)),
         "quadratics" => Ok(host::runs::quadratics::run(count, seed)),
+        "doubts" => Ok(host::runs::doubts::run(count, seed)),
         _ => with_feature(what, count, seed),
     }
 }
@@ -127,7 +129,7 @@ fn store_leaves(dir: &Path) -> ExitCode {
 fn refuse(words: &[&str]) -> ExitCode {
     let fits = |form: &[&str]| {
         let same = |(word, wanted): &(&&str, &&str)| {
-            let any = ["DIR", "FILE", "COUNT", "MINUTES", "N", "SEED"].contains(wanted);
+            let any = ["DIR", "FILE", "COUNT", "MINUTES", "N", "RECORD", "SEED"].contains(wanted);
             word == wanted || (any && !word.starts_with("--"))
         };
         words.iter().zip(form).take_while(same).count()

@@ -5,6 +5,7 @@ pub mod bench;
 pub mod differences;
 pub mod documents;
 pub mod doubt;
+pub mod explain;
 pub mod help;
 pub mod number;
 pub mod picture;
@@ -29,12 +30,13 @@ use std::thread::sleep;
 use std::time::Duration;
 
 /// The forms of these commands; a word in capitals stands for any word that is no option.
-pub const FORMS: [&[&str]; 10] = [
+pub const FORMS: [&[&str]; 11] = [
     &["make"],
     &["list", "FILE"],
     &["text", "FILE"],
     &["show", "FILE", "--csv"],
     &["show", "--csv", "FILE"],
+    &["explain", "FILE", "RECORD"],
     &["compare", "FILE", "--csv"],
     &["compare", "--csv", "FILE"],
     &["compare", "FILE", "--differences"],
@@ -67,6 +69,8 @@ pub fn run(words: &[&str]) -> Option<ExitCode> {
         ["list", file] if named(file) => list(file),
         ["text"] => text_of("-"),
         ["text", file] if named(file) => text_of(file),
+        ["explain", file] if named(file) => explain(file, None),
+        ["explain", file, record] if named(file) && named(record) => explain(file, Some(record)),
         ["compare", file, "--differences"] if named(file) => compare(file, As::Rows),
         ["random", count, seed] => random(count, seed, false),
         ["random", count, seed, "--damage"] => random(count, seed, true),
@@ -135,6 +139,24 @@ fn show(file: &str, csv: bool) -> Outcome {
     let bytes = bytes_of(file)?;
     let all = shown(&bytes, port::list_file).or_else(|e| failed(format!("{file}: {e}")))?;
     let text = if csv { table::csv(&all) } else { table::table(&all) };
+    emit(text.as_bytes()).map(|()| ExitCode::SUCCESS)
+}
+
+fn explain(file: &str, record: Option<&str>) -> Outcome {
+    let number = record.map(whole).transpose()?;
+    let bytes = bytes_of(file)?;
+    let all = shown(&bytes, port::list_file).or_else(|e| failed(format!("{file}: {e}")))?;
+    let text = match number {
+        None => explain::doubtful(&all),
+        Some(n) => match all.iter().find(|shown| shown.item.number as u64 == n) {
+            Some(shown) => explain::named(shown),
+            None => {
+                let last = all.last().map_or(0, |shown| shown.item.number);
+                let why = format!("{}: no record {n}: the file has {last}", name(file));
+                return Err(Failure(why, 2));
+            }
+        },
+    };
     emit(text.as_bytes()).map(|()| ExitCode::SUCCESS)
 }
 

@@ -5,8 +5,8 @@ use crate::truth::hall_file::Record;
 /// The equation, its highest power first.
 pub fn equation(record: &Record) -> String {
     let sum = match record {
-        Record::List { coeffs, .. } => polynomial(coeffs),
-        Record::Quadratic { abc: [a, b, c], .. } => polynomial(&[*c, *b, *a]),
+        Record::List { coeffs, .. } => polynomial(coeffs, "x"),
+        Record::Quadratic { abc: [a, b, c], .. } => polynomial(&[*c, *b, *a], "x"),
         Record::Crank { terms, .. } => {
             let names = ["cos 2t", "sin 2t", "cos t", "sin t", ""].map(str::to_string);
             sum(terms.iter().copied().zip(names))
@@ -26,12 +26,12 @@ pub fn tolerances(record: &Record) -> String {
     }
 }
 
-/// With these coefficients, ascending.
-fn polynomial(coeffs: &[f64]) -> String {
+/// With these coefficients, ascending, in the variable of this name.
+pub fn polynomial(coeffs: &[f64], name: &str) -> String {
     let power = |i: usize| match i {
         0 => String::new(),
-        1 => "x".to_string(),
-        i => format!("x^{i}"),
+        1 => name.to_string(),
+        i => format!("{name}^{i}"),
     };
     sum(coeffs.iter().enumerate().rev().map(|(i, a)| (*a, power(i))))
 }
