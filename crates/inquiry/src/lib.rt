@@ -211,8 +211,8 @@ pub fn start(coeffs: &[f64], tol: f64) -> Started
 pub fn asked_with(s: poly::Solved, replies: touching::Replies) -> Asked
     ensures { λ r. ⌜ r ≡ askedOf (given (freshBy s) replies) ⌝ }
 {
-    let inquiry = begun(s, replies);
-    inquiry.ask()
+    let about = begun(s, replies);
+    about.ask()
 }
 
 // What `start` and `see` show with these replies put in at once. The inquiry is not handed out, so a level list is solved without logarithms.
