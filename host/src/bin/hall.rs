@@ -127,7 +127,7 @@ fn store_leaves(dir: &Path) -> ExitCode {
 fn refuse(words: &[&str]) -> ExitCode {
     let fits = |form: &[&str]| {
         let same = |(word, wanted): &(&&str, &&str)| {
-            let any = ["DIR", "FILE", "COUNT", "MINUTES", "N", "SEED"].contains(wanted);
+            let any = ["DIR", "FILE", "COUNT", "MINUTES", "N", "RECORD", "SEED"].contains(wanted);
             word == wanted || (any && !word.starts_with("--"))
         };
         words.iter().zip(form).take_while(same).count()

@@ -5,6 +5,7 @@ pub mod bench;
 pub mod differences;
 pub mod documents;
 pub mod doubt;
+pub mod draw;
 pub mod help;
 pub mod number;
 pub mod picture;
@@ -12,6 +13,7 @@ pub mod progress;
 pub mod question;
 pub mod show;
 pub mod slider;
+pub mod svg;
 pub mod table;
 pub mod text;
 
@@ -29,12 +31,13 @@ use std::thread::sleep;
 use std::time::Duration;
 
 /// The forms of these commands; a word in capitals stands for any word that is no option.
-pub const FORMS: [&[&str]; 10] = [
+pub const FORMS: [&[&str]; 11] = [
     &["make"],
     &["list", "FILE"],
     &["text", "FILE"],
     &["show", "FILE", "--csv"],
     &["show", "--csv", "FILE"],
+    &["draw", "FILE", "RECORD"],
     &["compare", "FILE", "--csv"],
     &["compare", "--csv", "FILE"],
     &["compare", "FILE", "--differences"],
@@ -67,6 +70,7 @@ pub fn run(words: &[&str]) -> Option<ExitCode> {
         ["list", file] if named(file) => list(file),
         ["text"] => text_of("-"),
         ["text", file] if named(file) => text_of(file),
+        ["draw", file, record] if named(file) && named(record) => draw(file, record),
         ["compare", file, "--differences"] if named(file) => compare(file, As::Rows),
         ["random", count, seed] => random(count, seed, false),
         ["random", count, seed, "--damage"] => random(count, seed, true),
@@ -136,6 +140,20 @@ fn show(file: &str, csv: bool) -> Outcome {
     let all = shown(&bytes, port::list_file).or_else(|e| failed(format!("{file}: {e}")))?;
     let text = if csv { table::csv(&all) } else { table::table(&all) };
     emit(text.as_bytes()).map(|()| ExitCode::SUCCESS)
+}
+
+fn draw(file: &str, record: &str) -> Outcome {
+    let number = whole(record)?;
+    let bytes = bytes_of(file)?;
+    let all = shown(&bytes, port::list_file).or_else(|e| failed(format!("{file}: {e}")))?;
+    let Some(own) = all.iter().find(|shown| shown.item.number as u64 == number) else {
+        let last = all.last().map_or(0, |shown| shown.item.number);
+        let why = format!("{}: no record {number}: the file has {last}", name(file));
+        return Err(Failure(why, 2));
+    };
+    let picture = draw::drawn(own)
+        .or_else(|why| failed(format!("{}: record {number} is not drawn: {why}", name(file))))?;
+    emit(picture.as_bytes()).map(|()| ExitCode::SUCCESS)
 }
 
 fn list(file: &str) -> Outcome {
