@@ -2,6 +2,7 @@
 use crate::inputs::lists::{KINDS, handed_in, tolerance};
 use crate::inputs::quadratics::{crank, quadratic};
 use crate::inputs::random::Random;
+use crate::truth::contact::Contact;
 use crate::truth::hall_file::{Item, Kind, MOST_COEFFICIENTS, Record, file, items};
 
 /// A record; `n` tells those of one kind apart.
@@ -44,6 +45,7 @@ fn of_edges(r: &mut Random, kind: Kind) -> Record {
             let terms = std::array::from_fn(|_| r.edge());
             Record::Crank { confusion: tolerance(r), terms }
         }
+        Kind::Contact => Record::Contact(Contact::new(std::array::from_fn(|_| r.edge()))),
     }
 }
 
