@@ -33,6 +33,7 @@ hall lists COUNT SEED     compare COUNT made lists with geomcore's Rust, on two 
                           where one differs, 2 where nothing was compared; so for those below
 hall inquiries COUNT SEED the same for inquiries: always no, always yes, and by a hash
 hall cranks COUNT SEED    the same for crank equations
+hall contacts COUNT SEED  the same for pin contacts, each question replied by the record
 hall quadratics COUNT SEED
                           the same for quadratics, their centres, shifted and touching ones
 hall files COUNT SEED     the same for whole hall files, every other one damaged
@@ -58,6 +59,9 @@ Records, as lines of text and as marks in the file
   list TOL c0 c1 ..              PL   c0 + c1 x + c2 x^2 .. = 0, of degree 1 to 4
   quad CONFUSION ANGULAR a b c   QD   a x^2 + b x + c = 0
   crank CONFUSION a2 b2 c1 d1 e  TG   a2 cos 2t + b2 sin 2t + c1 cos t + d1 sin t + e = 0
+  contact CONFUSION x0 x1 x2 y0 y1 y2 cx cy R
+                                 PC   the times t at which a ball at x0 + x1 t + x2 t^2 across
+                                      and y0 + y1 t + y2 t^2 along is at the distance R from cx, cy
   slider R L X                   TG   the crank equation of a slider-crank: a crank of radius R
                                       about the origin, a rod of length L, the slider on the x axis
                                       at X: -2XR cos t + R^2 + X^2 - L^2 = 0. Confusion is 2^-30
@@ -69,6 +73,8 @@ Tolerances
   tol        of a list: two roots within tol * (1 + |x|) of their middle count as one, twice
   confusion  of a quad: the same; where it is linear, |b| up to this is no equation
              of a crank: the same for u = tan((t - k * 45 degrees) / 2), the root that is listed
+             of a contact: the same for t, and where the ball comes nearest to the circle, or
+             is deepest in it, within confusion of it, it touches there, once for twice
   angular    of a quad: |a| up to this counts as 0, and the equation as linear
   2^-30, about 1e-9, is usual for all; geomcore itself has 1e-7 for confusion, 1e-12 for angular.
 ";

@@ -1,18 +1,27 @@
 //! The question of a record, as people write it.
 use crate::people::number::{shortest, word};
+use crate::truth::contact::Contact;
 use crate::truth::hall_file::Record;
 
 /// The equation, its highest power first.
 pub fn equation(record: &Record) -> String {
     let sum = match record {
-        Record::List { coeffs, .. } => polynomial(coeffs),
-        Record::Quadratic { abc: [a, b, c], .. } => polynomial(&[*c, *b, *a]),
+        Record::List { coeffs, .. } => polynomial(coeffs, "x"),
+        Record::Quadratic { abc: [a, b, c], .. } => polynomial(&[*c, *b, *a], "x"),
         Record::Crank { terms, .. } => {
             let names = ["cos 2t", "sin 2t", "cos t", "sin t", ""].map(str::to_string);
             sum(terms.iter().copied().zip(names))
         }
+        Record::Contact(contact) => return from_centre(contact),
     };
     format!("{sum} = 0")
+}
+
+/// The ball's distance from the circle's centre is the radius.
+fn from_centre(contact: &Contact) -> String {
+    let [x, y] = [contact.x, contact.y].map(|path| polynomial(&path, "t"));
+    let [cx, cy] = contact.centre.map(shortest);
+    format!("|({x}, {y}) - ({cx}, {cy})| = {}", shortest(contact.radius))
 }
 
 /// The tolerances, each behind its name.
@@ -22,16 +31,18 @@ pub fn tolerances(record: &Record) -> String {
         Record::Quadratic { confusion, angular, .. } => {
             format!("confusion {}, angular {}", word(*confusion), word(*angular))
         }
-        Record::Crank { confusion, .. } => format!("confusion {}", word(*confusion)),
+        Record::Crank { confusion, .. } | Record::Contact(Contact { confusion, .. }) => {
+            format!("confusion {}", word(*confusion))
+        }
     }
 }
 
 /// With these coefficients, ascending.
-fn polynomial(coeffs: &[f64]) -> String {
+fn polynomial(coeffs: &[f64], of: &str) -> String {
     let power = |i: usize| match i {
         0 => String::new(),
-        1 => "x".to_string(),
-        i => format!("x^{i}"),
+        1 => of.to_string(),
+        i => format!("{of}^{i}"),
     };
     sum(coeffs.iter().enumerate().rev().map(|(i, a)| (*a, power(i))))
 }
@@ -77,6 +88,11 @@ mod tests {
             ),
             ("crank 1 0 0 1 0 0", "confusion 1", "cos t = 0"),
             ("crank 1 0 0 0 0 1", "confusion 1", "1 = 0"),
+            (
+                "contact 1 4 0 0 -10 2 -1 1 0 5",
+                "confusion 1",
+                "|(4, -t^2 + 2 t - 10) - (1, 0)| = 5",
+            ),
         ];
         for (line, names, text) in known {
             let record = &read(line.as_bytes()).unwrap()[0];

@@ -132,6 +132,7 @@ fn equation(record: &Record, answer: &Answer) -> Vec<f64> {
         (Record::Quadratic { abc: [a, b, c], .. }, _) => vec![*c, *b, *a],
         (Record::Crank { terms, .. }, Answer::Crank(k, _)) => quartic(*terms, *k).to_vec(),
         (Record::Crank { .. }, _) => vec![],
+        (Record::Contact(contact), _) => contact.coefficients().to_vec(),
     }
 }
 

@@ -2,6 +2,7 @@
 //! and the untouched Rust beside both. `coverage`, `mutants` and `causes` say what they are worth.
 #[cfg(feature = "causes")]
 pub mod causes;
+pub mod contacts;
 #[cfg(feature = "coverage")]
 pub mod coverage;
 pub mod cranks;

@@ -1,6 +1,8 @@
 //! The refusals of document 01, 'What each operation refuses', by name, and in words for people.
+use crate::people::number::shortest;
 use crate::people::slider;
-use crate::truth::hall_file::{Item, Kind};
+use crate::truth::contact;
+use crate::truth::hall_file::{Item, Kind, Record};
 
 /// 'some coefficient not finite, wherever it stands'; 'one of a, b, c'; 'one of the five'.
 pub const NOT_FINITE: u8 = 1;
@@ -29,6 +31,15 @@ pub const COUNT_TOO_LARGE: u8 = 8;
 /// 'over 65,536 bytes'.
 pub const FILE_TOO_LONG: u8 = 9;
 
+/// 'a number of the record is not finite', of a contact by document 02.
+pub const RECORD_NOT_FINITE: u8 = 10;
+
+/// 'R is not above 0'.
+pub const NO_RADIUS: u8 = 11;
+
+/// 'a coefficient made is not finite'.
+pub const COEFFICIENT_NOT_FINITE: u8 = 12;
+
 /// A refusal in words; of a 6, 7 or 8 with the byte at which its record starts.
 pub fn in_words(bytes: &[u8], item: &Item, number: u8) -> String {
     let at = item.at;
@@ -37,6 +48,9 @@ pub fn in_words(bytes: &[u8], item: &Item, number: u8) -> String {
         (NOT_FINITE, _) => "a number is not finite".to_string(),
         (TOO_FEW, Some(Kind::Crank)) => {
             "no equation: the quartic in u is a constant at most".to_string()
+        }
+        (TOO_FEW, Some(Kind::Contact)) => {
+            "no equation: the ball stands still, or moves too little to tell".to_string()
         }
         (TOO_FEW, _) => {
             "no equation: once trailing zeros are dropped, a constant at most is left".to_string()
@@ -62,8 +76,33 @@ pub fn in_words(bytes: &[u8], item: &Item, number: u8) -> String {
             format!("byte {at}: a list with count {count}, and at most 32 is allowed")
         }
         (FILE_TOO_LONG, _) => format!("the file has {} bytes, more than 65,536", bytes.len()),
+        (RECORD_NOT_FINITE..=COEFFICIENT_NOT_FINITE, _) => of_contact(item, number),
         (n, _) => format!("no refusal has the number {n}"),
     }
+}
+
+/// What is wrong with the numbers of a contact.
+fn of_contact(item: &Item, number: u8) -> String {
+    let Ok(Record::Contact(contact)) = &item.record else {
+        return "no contact".to_string();
+    };
+    match number {
+        RECORD_NOT_FINITE => not_finite(&contact::NAMES, &contact.numbers()),
+        NO_RADIUS => format!("the radius R is {}, not above 0", shortest(contact.radius)),
+        _ => {
+            let names =
+                ["1", "t", "t^2", "t^3", "t^4"].map(|of| format!("the coefficient of {of}"));
+            not_finite(&names.each_ref().map(String::as_str), &contact.coefficients())
+        }
+    }
+}
+
+/// Which of these numbers are not.
+fn not_finite(names: &[&str], numbers: &[f64]) -> String {
+    let those = names.iter().zip(numbers).filter(|(_, x)| !x.is_finite());
+    let those: Vec<&str> = those.map(|(name, _)| *name).collect();
+    let verb = if those.len() == 1 { "is" } else { "are" };
+    format!("{} {verb} not finite", those.join(", "))
 }
 
 /// A hint where a file begins like lines of text, be it with a byte order mark or capital letters.
@@ -84,6 +123,7 @@ fn needed(kind: Kind, rest: &[u8]) -> Option<usize> {
         Kind::List => rest.get(2).map(|count| 11 + 8 * usize::from(*count)),
         Kind::Quadratic => Some(42),
         Kind::Crank => Some(50),
+        Kind::Contact => Some(82),
     }
 }
 
