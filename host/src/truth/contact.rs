@@ -34,7 +34,7 @@ impl Contact {
     }
 
     /// X0, X1, X2 and Y0, Y1, Y2: the path seen from the circle's centre.
-    fn from_centre(&self) -> [[f64; 3]; 2] {
+    pub fn from_centre(&self) -> [[f64; 3]; 2] {
         let ([x0, x1, x2], [y0, y1, y2], [cx, cy]) = (self.x, self.y, self.centre);
         [[x0 - cx, x1, x2], [y0 - cy, y1, y2]]
     }

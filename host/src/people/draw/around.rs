@@ -12,12 +12,6 @@ pub struct Scaled {
 }
 
 impl Scaled {
-    pub fn new(x: f64) -> Scaled {
-        digits(x).map_or(Scaled { f: 0.0, e: 0 }, |d| {
-            sum(&[(d.negative, Big::from(d.w), i64::from(d.k))])
-        })
-    }
-
     /// The logarithm of its size; minus infinity for 0.
     pub fn log2(self) -> f64 {
         self.f.abs().log2() + self.e as f64
@@ -112,7 +106,7 @@ mod tests {
     #[test]
     fn scaled_to_one() {
         for x in [1e300, -1e-300, 5e-324, 1.0, -3.0] {
-            assert_eq!(Scaled::new(x).over(0.0), x);
+            assert_eq!(around(&[x], 0.0)[0].over(0.0), x);
             let (p, unit) = in_halves(&around(&[x, x], x), x.abs().log2());
             let most = p.iter().fold(0.0f64, |most, a| most.max(a.abs()));
             assert!((0.9..1.1).contains(&most) && unit.is_finite(), "{x:e}: {p:?}");

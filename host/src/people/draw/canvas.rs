@@ -14,6 +14,8 @@ text { font: 12px monospace; fill: #1c2733; }
 .curve { fill: none; stroke: #1b4f7d; stroke-width: 2; }
 .dashed { fill: none; stroke: #5c6975; stroke-dasharray: 5 4; }
 .pin { fill: #e8ebee; stroke: #5c6975; stroke-width: 1.5; }
+.centre { fill: #5c6975; }
+.start { fill: #1b4f7d; }
 .arrow { fill: #1b4f7d; }
 .dot { fill: #a3241c; stroke: #ffffff; }
 .ring { fill: #ffffff; stroke: #a3241c; stroke-width: 2.5; }
@@ -53,6 +55,10 @@ impl Area {
 
     fn within(&self, other: &Area) -> bool {
         other.has([self.left, self.top]) && other.has([self.right, self.bottom])
+    }
+
+    fn distance(&self, [x, y]: Point) -> f64 {
+        (x - x.clamp(self.left, self.right)).hypot(y - y.clamp(self.top, self.bottom))
     }
 
     pub fn middle(&self) -> Point {
@@ -117,6 +123,7 @@ impl Canvas {
     pub fn anchored(&mut self, [x, y]: Point, right: bool, text: &str) {
         let width = WIDTH * text.chars().count() as f64;
         let left = x - if right { width } else { width / 2.0 };
+        let left = left.clamp(2.0, SIZE[0] - width - 2.0);
         self.text([left, y + 4.0], "faint", text);
         self.taken.push(Area {
             left,
@@ -197,11 +204,16 @@ impl Canvas {
                     [label.at[0] + u * (far + width / 2.0), label.at[1] + v * (far + LINE / 2.0)];
                 let area = Area::around(middle, width, LINE);
                 let hidden = self.taken.iter().filter(|other| other.meets(&area)).count();
-                let crossed = self.ink.iter().filter(|point| area.has(**point)).count();
+                let near = Area::around(middle, width + 4.0, LINE + 4.0);
+                let crossed = self.ink.iter().filter(|point| near.has(**point)).count();
+                let own = area.distance(label.at);
+                let nearer =
+                    self.labels.iter().filter(|other| area.distance(other.at) < own).count();
                 let away = 1.0 - (u * label.towards[0] + v * label.towards[1]);
+                let hidden = hidden + usize::from(self.blocked(label.at, &area));
                 let outside = usize::from(!area.within(&self.room));
                 let cost = far + 12.0 * away + 14.0 * crossed.min(12) as f64;
-                let cost = cost + 1e4 * hidden as f64 + 1e6 * outside as f64;
+                let cost = cost + 60.0 * nearer as f64 + 1e3 * hidden as f64 + 1e6 * outside as f64;
                 if cost < best.2 {
                     best = (area, far, cost);
                 }
@@ -210,14 +222,24 @@ impl Canvas {
         (best.0, best.1)
     }
 
+    /// Whether the line from a mark to its label goes over something else.
+    fn blocked(&self, at: Point, to: &Area) -> bool {
+        let [from, end] = leader(at, to);
+        let step = |k: u32, i: usize| from[i] + (end[i] - from[i]) * f64::from(k) / 16.0;
+        let over = |other: &&Area| (0..16).any(|k| other.has([step(k, 0), step(k, 1)]));
+        self.taken.iter().filter(|other| !other.has(at)).any(|other| over(&other))
+    }
+
     /// The labels, each with a line to its place where that is not beside it.
     fn put_labels(&mut self) {
-        for label in std::mem::take(&mut self.labels) {
-            let (area, far) = self.placed(&label);
+        for i in 0..self.labels.len() {
+            let (area, far) = self.placed(&self.labels[i]);
+            let Label { at, text, .. } = &self.labels[i];
+            let (at, text) = (*at, text.clone());
             if far > 20.0 {
-                self.line("axis", &leader(label.at, &area));
+                self.line("axis", &leader(at, &area));
             }
-            self.text([area.left, area.bottom - 4.0], "halo", &label.text);
+            self.text([area.left, area.bottom - 4.0], "halo", &text);
             self.taken.push(area);
         }
     }

@@ -2,7 +2,7 @@
 use super::canvas::{Canvas, Point};
 use super::figures::{figures, times};
 
-const RADIUS: f64 = 170.0;
+const RADIUS: f64 = 190.0;
 
 /// Positions in degrees, and how often each counts: 0 is to the right, and they count anticlockwise.
 pub fn draw(canvas: &mut Canvas, positions: &[(f64, u32)]) {
@@ -21,10 +21,10 @@ pub fn draw(canvas: &mut Canvas, positions: &[(f64, u32)]) {
             canvas.anchored(at(degrees, RADIUS - 28.0), false, &format!("{degrees}°"));
         }
     }
-    canvas.circle("axis", [x, y], 3.0);
     for (degrees, _) in positions {
         canvas.line("curve", &[[x, y], at(*degrees, RADIUS)]);
     }
+    canvas.circle("pin", [x, y], 4.0);
     let names = figures(&positions.iter().map(|position| position.0).collect::<Vec<_>>());
     for ((degrees, multiplicity), name) in positions.iter().zip(names) {
         let text = format!("{name}°{}", times(*multiplicity));

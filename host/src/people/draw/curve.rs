@@ -1,7 +1,8 @@
 //! The curve of a polynomial, with its roots on the axis.
 use super::around::{Scaled, around, in_halves, value};
 use super::canvas::{Area, Canvas, Point};
-use super::figures::{figure, figures, ticks, times};
+use super::figures::{figures, rough, ticks, times};
+use crate::people::svg::WIDTH;
 use crate::port;
 use crate::truth::lister::trimmed;
 
@@ -62,7 +63,7 @@ impl Part {
 }
 
 /// Where |p| is smallest, among the places without slope.
-fn lowest(p: &[f64]) -> f64 {
+pub fn lowest(p: &[f64]) -> f64 {
     // a quarter of the slope, so that nothing is beyond the largest double
     let slope: Vec<f64> = (1..p.len()).map(|i| p[i] * (i as f64 / 4.0)).collect();
     let flat = port::real_roots(&slope, 0.0);
@@ -123,21 +124,18 @@ impl Curve {
 fn cut(points: &[[f64; 2]], [lo, hi]: [f64; 2]) -> Vec<Vec<[f64; 2]>> {
     let mut pieces: Vec<Vec<[f64; 2]>> = Vec::new();
     for pair in points.windows(2) {
-        let ([s, a], [t, b]) = (pair[0], pair[1]);
+        let ([from, a], [t, b]) = (pair[0], pair[1]);
         if a.max(b) < lo || a.min(b) > hi {
             continue;
         }
-        let at = |y: f64| match (lo..=hi).contains(&y) {
-            true if y == a => [s, a],
-            true => [t, b],
-            false => {
-                let edge = y.clamp(lo, hi);
-                [s + (t - s) * (edge - a) / (b - a), edge]
-            }
+        let within = |s: f64, y: f64| match y.clamp(lo, hi) {
+            edge if edge == y => [s, y],
+            edge => [from + (t - from) * (edge - a) / (b - a), edge],
         };
+        let (first, last) = (within(from, a), within(t, b));
         match pieces.last_mut() {
-            Some(piece) if piece.last() == Some(&at(a)) => piece.push(at(b)),
-            _ => pieces.push(vec![at(a), at(b)]),
+            Some(piece) if piece.last() == Some(&first) => piece.push(last),
+            _ => pieces.push(vec![first, last]),
         }
     }
     pieces
@@ -177,10 +175,15 @@ pub fn draw(canvas: &mut Canvas, coeffs: &[f64], roots: &[(f64, u32)]) -> Result
 fn grid(canvas: &mut Canvas, curve: &Curve, part: &Part, ends: [f64; 2], heights: [f64; 2]) {
     let Area { left, top, right, bottom } = curve.seen;
     let across = ticks(ends[0], ends[1]);
-    for (x, name) in across.iter().zip(figures(&across)) {
+    let names = figures(&across);
+    let wide = names.iter().map(String::len).max().unwrap_or(0) as f64 * WIDTH + 12.0;
+    let every = (wide * across.len() as f64 / ACROSS as f64).ceil().max(1.0) as usize;
+    for (i, (x, name)) in across.iter().zip(names).enumerate() {
         let [at, _] = curve.point([part.share(*x), 0.0], heights);
         canvas.line("grid", &[[at, top], [at, bottom]]);
-        canvas.anchored([at, bottom + 14.0], false, &name);
+        if i % every == 0 {
+            canvas.anchored([at, bottom + 14.0], false, &name);
+        }
     }
     let unit = curve.unit.exp2();
     let up = ticks(heights[0] * unit, heights[1] * unit);
@@ -193,7 +196,7 @@ fn grid(canvas: &mut Canvas, curve: &Curve, part: &Part, ends: [f64; 2], heights
     let [zero, one] = [-1.0, 1.0].map(|s| curve.point([s, 0.0], heights));
     canvas.line("axis", &[zero, one]);
     canvas.text([right - 4.0, bottom + 34.0], "faint", "x");
-    canvas.text([left - 30.0, top - 6.0], "faint", "p(x)");
+    canvas.text([left, top - 5.0], "faint", "p(x)");
 }
 
 /// How near the curve comes to the axis.
@@ -204,8 +207,8 @@ fn no_root(canvas: &mut Canvas, curve: &Curve, part: &Part, heights: [f64; 2]) {
     let x = figures(&[part.middle]).concat();
     let y = low * curve.unit.exp2();
     let text = match y.is_finite() {
-        true => format!("no root; nearest at x = {x}, p(x) = {}", figure(y, y.abs())),
-        false => format!("no root; nearest at x = {x}"),
+        true => format!("nearest to 0 at x = {x}: p(x) = {}", rough(y)),
+        false => format!("nearest to 0 at x = {x}"),
     };
     canvas.label(at, [0.0, if low < 0.0 { -1.0 } else { 1.0 }], text);
 }

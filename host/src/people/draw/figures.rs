@@ -1,12 +1,26 @@
 //! Numbers beside a picture: a few digits, and round ones.
 use crate::people::number::shortest;
 
-/// x to at least six digits, and as many more as it takes to see steps of this size.
-pub fn figure(x: f64, step: f64) -> String {
+/// A longer number is written with a power of ten, where that is shorter.
+const LONG: usize = 9;
+
+/// x to so many digits.
+fn rounded(x: f64, digits: usize) -> String {
+    let near = format!("{:.*e}", digits - 1, x).parse::<f64>();
+    let near = near.ok().filter(|y| y.is_finite()).unwrap_or(x) + 0.0;
+    let (plain, power) = (shortest(near), format!("{near:e}"));
+    if plain.len() > LONG && power.len() < plain.len() { power } else { plain }
+}
+
+/// x to four digits.
+pub fn rough(x: f64) -> String {
+    rounded(x, 4)
+}
+
+/// x to six digits, and as many more as it takes to see steps of this size.
+fn figure(x: f64, step: f64) -> String {
     let wanted = x.abs().log10().floor() - step.log10().floor() + 1.0;
-    let digits = if wanted.is_finite() { wanted.clamp(6.0, 17.0) as usize } else { 6 };
-    let rounded = format!("{:.*e}", digits - 1, x).parse::<f64>();
-    shortest(rounded.ok().filter(|y| y.is_finite()).unwrap_or(x) + 0.0)
+    rounded(x, if wanted.is_finite() { wanted.clamp(6.0, 17.0) as usize } else { 6 })
 }
 
 /// These numbers, with digits enough to tell them apart.
@@ -26,9 +40,9 @@ pub fn round_below(x: f64) -> Option<f64> {
     (round.is_normal() && x.is_finite()).then_some(round)
 }
 
-/// Round numbers from lo to hi, some six of them; none where doubles are too few there.
+/// Round numbers from lo to hi, three to nine of them; none where doubles are too few there.
 pub fn ticks(lo: f64, hi: f64) -> Vec<f64> {
-    let Some(step) = round_below((hi / 4.0 - lo / 4.0) * 0.8) else {
+    let Some(step) = round_below(hi / 3.5 - lo / 3.5) else {
         return vec![];
     };
     let (first, last) = ((lo / step).ceil(), (hi / step).floor());

@@ -1,6 +1,7 @@
 //! `hall draw`: a record and its answer as a picture.
 mod around;
 mod canvas;
+mod contact;
 mod crank;
 mod curve;
 mod figures;
@@ -27,13 +28,15 @@ pub fn drawn(shown: &Shown) -> Result<String, String> {
     match record {
         Record::List { coeffs, .. } => curve::draw(&mut canvas, coeffs, &roots)?,
         Record::Quadratic { abc: [a, b, c], .. } => {
-            curve::draw(&mut canvas, &[*c, *b, *a], &roots)?
+            let a = if answer == "linear" { 0.0 } else { *a };
+            curve::draw(&mut canvas, &[*c, *b, a], &roots)?
         }
         Record::Crank { .. } => {
             let angles = shown.roots.iter().map(|root| root.angle.unwrap_or_default());
             let times = roots.iter().map(|root| root.1);
             crank::draw(&mut canvas, &angles.zip(times).collect::<Vec<_>>());
         }
+        Record::Contact(contact) => contact::draw(&mut canvas, contact, &roots)?,
     }
     Ok(canvas.finish())
 }
