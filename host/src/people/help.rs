@@ -12,10 +12,11 @@ hall show [FILE] [--csv]  the same for people: each record's equation, places as
                           is k * 45 degrees + 2 atan u), refusals in words with the byte of their
                           record, and roots that cannot be ones marked `no root`; with --csv as
                           comma-separated values
-hall draw FILE RECORD     a picture of one record and its answer, in SVG, on standard output: the curve
-                          of a list or a quad with its roots, the circle of a crank with its
-                          positions. FILE may be `-`. Status 1 where the record is refused, or is
-                          beyond what a picture shows, 2 where there is no such record
+hall draw FILE RECORD     a picture of one record and its answer, in SVG, on standard output: the
+                          curve of a list or a quad with its roots, the circle of a crank with its
+                          positions, the circle and the path of a contact with its times. FILE may
+                          be `-`. Status 1 where the record is refused or is beyond what a picture
+                          can show, 2 where there is no such record
 hall text [FILE]          write a hall file back as lines of text, of which `hall make` makes the
                           same file. Status 1 where the file is not read to its end
 hall compare FILE [--csv] each record by port, reference build and untouched Rust; prints those that

@@ -112,25 +112,23 @@ impl Canvas {
         canvas
     }
 
-    /// A text from its left end on.
+    /// A text from its left end on; labels keep off.
     pub fn text(&mut self, [x, y]: Point, class: &str, text: &str) {
-        let text = escaped(text);
-        let _ =
-            writeln!(self.body, "<text class=\"{class}\" x=\"{x:.1}\" y=\"{y:.1}\">{text}</text>");
+        let width = WIDTH * text.chars().count() as f64;
+        let (top, bottom) = (y + 4.0 - LINE, y + 4.0);
+        self.taken.push(Area { left: x, top, right: x + width, bottom });
+        let _ = writeln!(
+            self.body,
+            "<text class=\"{class}\" x=\"{x:.1}\" y=\"{y:.1}\">{}</text>",
+            escaped(text)
+        );
     }
 
-    /// A text whose middle, or whose right end, is here; labels keep off.
+    /// A text whose middle, or whose right end, is here.
     pub fn anchored(&mut self, [x, y]: Point, right: bool, text: &str) {
         let width = WIDTH * text.chars().count() as f64;
         let left = x - if right { width } else { width / 2.0 };
-        let left = left.clamp(2.0, SIZE[0] - width - 2.0);
-        self.text([left, y + 4.0], "faint", text);
-        self.taken.push(Area {
-            left,
-            top: y - LINE / 2.0,
-            right: left + width,
-            bottom: y + LINE / 2.0,
-        });
+        self.text([left.clamp(2.0, SIZE[0] - width - 2.0), y + 4.0], "faint", text);
     }
 
     /// Lines from point to point; labels keep off the curve and what else is not of the grid.
@@ -210,10 +208,11 @@ impl Canvas {
                 let nearer =
                     self.labels.iter().filter(|other| area.distance(other.at) < own).count();
                 let away = 1.0 - (u * label.towards[0] + v * label.towards[1]);
-                let hidden = hidden + usize::from(self.blocked(label.at, &area));
+                let blocked = usize::from(self.blocked(label.at, &area));
                 let outside = usize::from(!area.within(&self.room));
-                let cost = far + 12.0 * away + 14.0 * crossed.min(12) as f64;
-                let cost = cost + 60.0 * nearer as f64 + 1e3 * hidden as f64 + 1e6 * outside as f64;
+                let faults = 14 * crossed.min(12) + 60 * nearer + 300 * blocked;
+                let faults = faults + 10_000 * hidden + 1_000_000 * outside;
+                let cost = far + 12.0 * away + faults as f64;
                 if cost < best.2 {
                     best = (area, far, cost);
                 }
@@ -240,7 +239,6 @@ impl Canvas {
                 self.line("axis", &leader(at, &area));
             }
             self.text([area.left, area.bottom - 4.0], "halo", &text);
-            self.taken.push(area);
         }
     }
 

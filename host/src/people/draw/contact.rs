@@ -196,8 +196,8 @@ fn miss(canvas: &mut Canvas, view: &View, contact: &Contact, t: f64) {
     canvas.line("dashed", &[view.point(edge), view.point(at)]);
     canvas.circle("pin", view.point(at), 4.0);
     let gap = (contact.distance(t) - contact.radius).abs();
-    let text = format!("nearest at t = {}: gap {}", figures(&[t]).concat(), rough(gap));
-    canvas.label(view.point(at), outward(at), text);
+    let [t, gap] = [t, gap].map(|x| figures(&[x]).concat());
+    canvas.label(view.point(at), outward(at), format!("nearest at t = {t}: gap {gap}"));
 }
 
 /// A length to compare with, the pin's, and how far the ball is away at 0.

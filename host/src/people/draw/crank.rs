@@ -4,7 +4,7 @@ use super::figures::{figures, times};
 
 const RADIUS: f64 = 190.0;
 
-/// Positions in degrees, and how often each counts: 0 is to the right, and they count anticlockwise.
+/// Positions in degrees, with how often each counts; 0 is to the right, 90 at the top.
 pub fn draw(canvas: &mut Canvas, positions: &[(f64, u32)]) {
     let [x, y] = canvas.room.middle();
     let towards = |degrees: f64| [degrees.to_radians().cos(), -degrees.to_radians().sin()];

@@ -33,7 +33,8 @@ impl Part {
             }
             _ => {
                 let middle = first / 2.0 + last / 2.0;
-                Part { middle, half: (last / 2.0 - first / 2.0).log2() + 0.5 }
+                let half = [first, last].map(|end| less(end, middle).log2());
+                Part { middle, half: half[0].max(half[1]) + 0.5 }
             }
         }
     }
@@ -51,7 +52,7 @@ impl Part {
 
     /// From -1 to 1 across the part.
     fn share(&self, x: f64) -> f64 {
-        around(&[x, -1.0], self.middle)[0].over(self.half)
+        less(x, self.middle).over(self.half)
     }
 
     /// Both ends; none where they are not doubles, or not two of them.
@@ -60,6 +61,11 @@ impl Part {
         let ends = [self.middle - half, self.middle + half];
         (ends.iter().all(|end| end.is_finite()) && half.is_normal()).then_some(ends)
     }
+}
+
+/// x - m
+fn less(x: f64, m: f64) -> Scaled {
+    around(&[x, -1.0], m)[0]
 }
 
 /// Where |p| is smallest, among the places without slope.
