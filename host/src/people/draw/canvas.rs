@@ -173,15 +173,15 @@ impl Canvas {
         self.labels.push(Label { at, towards, text });
     }
 
-    /// An arrow's head with its tip here.
-    pub fn arrow(&mut self, [x, y]: Point, along: Point) {
+    /// An arrow's head with its tip here, if there is room for it.
+    pub fn arrow(&mut self, [x, y]: Point, along: Point) -> bool {
         let size = along[0].hypot(along[1]);
         let [u, v] = along.map(|n| n / size);
         let (back, side) = (12.0, 4.5);
         let [bx, by] = [x - back * u, y - back * v];
         let [p, q] = [[bx - side * v, by + side * u], [bx + side * v, by - side * u]];
         if !size.is_normal() || ![p, q].iter().all(|corner| self.room.has(*corner)) {
-            return;
+            return false;
         }
         let _ = writeln!(
             self.body,
@@ -189,6 +189,7 @@ impl Canvas {
             p[0], p[1], q[0], q[1]
         );
         self.taken.push(Area::around([bx, by], 14.0, 14.0));
+        true
     }
 
     /// Where a label has room: near its place, on no other one, and off the lines.

@@ -120,11 +120,12 @@ impl Pass {
             let [x, y] = point(*part);
             marks.iter().all(|mark| (mark[0] - x).hypot(mark[1] - y) > 26.0)
         };
-        let before = [0.15, 0.2, 0.1, 0.25, 0.3].into_iter().find(free);
-        for part in before.into_iter().chain([1.0]) {
-            let ([x, y], [u, v]) = (point(part), point(part - 0.01));
-            canvas.arrow([x, y], [x - u, y - v]);
-        }
+        let mut arrow = |part: &f64| {
+            let ([x, y], [u, v]) = (point(*part), point(*part - 0.01));
+            canvas.arrow([x, y], [x - u, y - v])
+        };
+        [0.15, 0.2, 0.1, 0.25, 0.3].iter().filter(|part| free(part)).any(&mut arrow);
+        [1.0, 0.98, 0.96, 0.94].iter().any(&mut arrow);
     }
 }
 
