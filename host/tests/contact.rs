@@ -38,7 +38,7 @@ fn entries() {
     answers("contact 2^-30 3 1 0 0 0 0 3 0 1", &[(-1.0, 1), (1.0, 1)]);
     answers("contact 2^-30 3 -2 1 2 0 0 2 2 1", &[(0.0, 1), (2.0, 1)]);
     // |D - R| at the middle is as large as confusion, or a double more
-    answers("contact 0.5 1 0 0 0 1 0 0 0 0.5", &[(0.0, 2)]);
+    answers("contact 0.5 1 0 0 0 1 0 0 0 0.5", &[(-0.0, 2)]);
     answers("contact 0x3FDFFFFFFFFFFFFF 1 0 0 0 1 0 0 0 0.5", &[]);
     // D = R, and no reply is yes below 0
     answers("contact 0 0.5 -1.2 0 1.2 0.5 0 0 0 1.3", &[(0.0, 2)]);
@@ -106,7 +106,7 @@ fn edges_in_each_place() {
     for (_, contact) in telling::contacts() {
         add(&mut outcome, &contact);
     }
-    say(&format!("edges: {}", outcome.text()));
+    say(&format!("edges in each place: {} contacts, {}", outcome.inputs, outcome.met.text()));
     assert!(outcome.wrong == 0, "{}", outcome.shown.join("\n"));
 }
 
@@ -126,18 +126,18 @@ fn made_contacts(seed: u64) {
 
 #[test]
 fn made_contacts_first() {
-    made_contacts(731);
+    made_contacts(741);
 }
 
 #[test]
 fn made_contacts_second() {
-    made_contacts(732);
+    made_contacts(742);
 }
 
 /// What each kind of made records is there for.
 #[test]
 fn kinds() {
-    let mut r = Random::new(733);
+    let mut r = Random::new(743);
     for (which, kind) in KINDS.iter().enumerate() {
         let (mut refused, mut asked, mut replied) = ([0; 13], 0, 0);
         for _ in 0..10_000 {
@@ -153,13 +153,15 @@ fn kinds() {
              {asked} questions, {replied} yes"
         ));
         let met = match which {
-            0 => answered > 0 && ten > 0 && twelve > 0,
-            1..=9 => answered > 9_000 && asked > 1_000 && (which < 4 || replied > 100),
-            10 => two > 1_000 && answered > 1_000,
-            11 => twelve > 1_000 && answered > 1_000,
+            0 => answered > 1_000 && ten > 100 && twelve > 1_000,
+            1 | 2 | 7 | 8 => answered > 9_000 && asked > 1_000,
+            3 => answered > 9_000 && asked > 100,
+            4..=6 | 9 => answered > 9_000 && replied > 100,
+            10 => answered > 1_000 && two > 1_000,
+            11 => answered > 1_000 && twelve > 1_000,
             12 => ten > 9_000,
             13 => eleven > 8_000,
-            _ => ten > 5_000,
+            _ => answered > 100 && ten > 1_000 && eleven > 100 && twelve > 100,
         };
         assert!(met, "{kind}");
     }

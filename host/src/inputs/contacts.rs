@@ -267,7 +267,7 @@ fn with_no_radius(r: &mut Random) -> Contact {
         2 => about_to_overflow(r),
         _ => plain(r),
     };
-    let sizes = [0.0, -0.0, -from.radius, -f64::from_bits(1), -f64::MAX];
+    let sizes = [0.0, -0.0, -from.radius.abs(), -f64::from_bits(1), -f64::MAX];
     Contact { radius: sizes[r.below(5) as usize], ..from }
 }
 
