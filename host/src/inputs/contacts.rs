@@ -11,13 +11,13 @@ pub const KINDS: [&str; 15] = [
     "far from the pin",
     "through it",
     "grazing it exactly",
-    "grazing it, or nearly",
+    "nearly grazing it",
     "grazing it at the start",
-    "grazing it twice, or nearly",
+    "nearly grazing it twice",
     "on a lane",
     "from the pin's centre",
     "with a tiny or huge circle",
-    "that stand, or nearly",
+    "standing or nearly so",
     "about to overflow",
     "not finite",
     "with no radius",
@@ -267,7 +267,7 @@ fn with_no_radius(r: &mut Random) -> Contact {
         2 => about_to_overflow(r),
         _ => plain(r),
     };
-    let sizes = [0.0, -0.0, -from.radius, -f64::from_bits(1), -f64::MAX];
+    let sizes = [0.0, -0.0, -from.radius.abs(), -f64::from_bits(1), -f64::MAX];
     Contact { radius: sizes[r.below(5) as usize], ..from }
 }
 

@@ -3,7 +3,7 @@
 //! for the crank of these lengths; '#' starts a comment. Capital letters count as small ones.
 use crate::people::number::{character, number, word};
 use crate::people::slider;
-use crate::truth::contact::{self, Contact};
+use crate::truth::contact::Contact;
 use crate::truth::hall_file::{Kind, MOST_BYTES, MOST_COEFFICIENTS, Record};
 use std::fmt;
 
@@ -97,9 +97,8 @@ fn record(words: &[&str]) -> Result<Option<Record>, Fault> {
             Ok(Record::Crank { confusion, terms: [a2, b2, c1, d1, e] })
         }
         Some(Kind::Contact) => {
-            let form =
-                format!("contact {}", contact::NAMES.join(" ").replace("confusion", "CONFUSION"));
-            Ok(Record::Contact(Contact::new(exactly(words, &numbers, &form)?)))
+            let form = "contact CONFUSION x0 x1 x2 y0 y1 y2 cx cy R";
+            Ok(Record::Contact(Contact::new(exactly(words, &numbers, form)?)))
         }
         None => crank_of_slider(words, &numbers),
     }

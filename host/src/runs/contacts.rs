@@ -27,7 +27,7 @@ pub fn reference(contact: &Contact) -> Ran {
     run_by(contact, &Reference, &|t| contact.touches(t))
 }
 
-pub const CASES: [&str; 19] = [
+pub const CASES: [&str; 21] = [
     "answered",
     "refused 2",
     "refused 10",
@@ -43,14 +43,16 @@ pub const CASES: [&str; 19] = [
     "with 1 asked",
     "with 2 asked",
     "with 3 asked",
-    "with a yes",
+    "with 1 yes",
+    "with 2 yes",
+    "with 3 yes",
+    "with a yes and a no",
     "with a yes at |D - R| = confusion",
     "with a no one double beyond",
-    "with a yes and a no",
 ];
 
-/// How many questions are replied yes.
-fn yes(contact: &Contact, places: &[f64]) -> usize {
+/// How many of the questions are replied yes.
+pub fn yes(contact: &Contact, places: &[f64]) -> usize {
     places.iter().filter(|t| contact.touches(**t)).count()
 }
 
@@ -82,15 +84,17 @@ fn cases(contact: &Contact, ran: &Ran) -> [bool; CASES.len()] {
         questions(1),
         questions(2),
         questions(3),
-        yes > 0,
+        yes == 1,
+        yes == 2,
+        yes == 3,
+        yes > 0 && yes < asked,
         some(&|d| d == contact.confusion),
         some(&|d| contact.confusion > 0.0 && d == step(contact.confusion, 1)),
-        yes > 0 && yes < asked,
     ]
 }
 
 /// One record, and what the others answer to it.
-fn add(outcome: &mut Outcome, contact: &Contact) {
+pub fn add(outcome: &mut Outcome, contact: &Contact) {
     let ran = reference(contact);
     let other = run_by(contact, &Untouched, &|t| contact.touches(t));
     outcome.beside(&other.list, &ran.list, same_places(&other.places, &ran.places));

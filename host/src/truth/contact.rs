@@ -116,10 +116,7 @@ mod tests {
         };
         assert_eq!(with(&[]), 0);
         for i in 0..10 {
-            assert_eq!(
-                with(&[(i, f64::NAN), (9, -1.0), (5, 0.0)]).min(11),
-                if i == 5 || i == 9 { 11 } else { 10 }
-            );
+            assert_eq!(with(&[(5, 1e300), (9, -1.0), (i, f64::NAN)]), 10);
         }
         assert_eq!(with(&[(0, -1.0)]), 0);
         assert_eq!(with(&[(9, 0.0), (5, 1e300)]), 11);

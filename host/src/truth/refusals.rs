@@ -130,7 +130,8 @@ fn needed(kind: Kind, rest: &[u8]) -> Option<usize> {
 #[cfg(test)]
 mod tests {
     use super::*;
-    use crate::truth::hall_file::items;
+    use crate::people::text::read;
+    use crate::truth::hall_file::{file, items};
 
     fn said(bytes: &[u8]) -> Vec<String> {
         let told = |item: &Item| Some(in_words(bytes, item, item.record.as_ref().err().copied()?));
@@ -162,7 +163,33 @@ mod tests {
             with(b"QDabc"),
             ["byte 11: the file ends inside this quad, 5 bytes of it are there of 42"]
         );
+        assert_eq!(
+            with(b"PCabc"),
+            ["byte 11: the file ends inside this contact, 5 bytes of it are there of 82"]
+        );
         assert_eq!(with(b"PL\x21"), ["byte 11: a list with count 33, and at most 32 is allowed"]);
         assert_eq!(said(&[0; 65_537]), ["the file has 65537 bytes, more than 65,536"]);
+    }
+
+    #[test]
+    fn refusals_of_contacts() {
+        for (line, number, words) in [
+            ("nan 0 1 0 0 0 0 3 0 1", 10, "confusion is not finite"),
+            ("0 0 inf 0 0 0 0 3 0 -inf", 10, "x1, R are not finite"),
+            ("0 0 1 0 0 0 0 3 0 -0.5", 11, "the radius R is -0.5, not above 0"),
+            ("0 0 1 0 0 0 0 3 0 1e200", 12, "the coefficient of 1 is not finite"),
+            (
+                "0 0 0 1e200 0 0 0 -1e200 0 1",
+                12,
+                "the coefficient of 1, the coefficient of t^2, the coefficient of t^4 are not finite",
+            ),
+            ("0 0 0 0 0 0 0 3 0 1", 2, "no equation: the ball stands still, or moves too little"),
+        ] {
+            let bytes = file(&read(format!("contact {line}").as_bytes()).unwrap());
+            let item = &items(&bytes)[0];
+            let Ok(Record::Contact(contact)) = &item.record else { panic!("{line}") };
+            let told = in_words(&bytes, item, number);
+            assert_eq!((contact.refusal(), told.starts_with(words)), (number, true), "{told}");
+        }
     }
 }
