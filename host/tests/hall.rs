@@ -6,10 +6,12 @@ use host::port;
 use run::{hall, said, scratch, text};
 use std::fs;
 
-const COMMANDS: [&str; 19] = [
+const COMMANDS: [&str; 22] = [
     "make",
     "list",
     "show",
+    "explain",
+    "draw",
     "text",
     "compare",
     "random",
@@ -21,6 +23,7 @@ const COMMANDS: [&str; 19] = [
     "quadratics",
     "files",
     "damage",
+    "doubts",
     "coverage",
     "mutants",
     "causes",
@@ -102,9 +105,13 @@ fn words_not_known() {
         (&["lanes", "--help"], "unknown word `lanes`"),
         (&["show", "--cvs"], "unknown word `--cvs`"),
         (&["show", "a", "b"], "unknown word `b`"),
+        (&["explain"], "a word is missing after `hall explain`"),
+        (&["explain", "--csv"], "unknown word `--csv`"),
+        (&["explain", "a", "b", "c"], "unknown word `c`"),
         (&["make", "--csv"], "unknown word `--csv`"),
         (&["compare", "--csv"], "a word is missing after `hall compare --csv`"),
         (&["lists", "0", "1"], "nothing was compared: COUNT is 0"),
+        (&["doubts", "0", "1"], "nothing was compared: COUNT is 0"),
         (&["mutants", "0", "1"], "nothing was compared: COUNT is 0"),
         (&[], "a word is missing after `hall`"),
     ];

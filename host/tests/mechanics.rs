@@ -83,7 +83,8 @@ fn tables_of_made_files() {
     for seed in ["1", "2", "3", "4", "5"] {
         let bytes = hall(&["random", "400", seed, "--damage"], b"").stdout;
         let table = text(&hall(&["show"], &bytes).stdout);
-        for line in table.lines() {
+        let reasons = text(&hall(&["explain", "-"], &bytes).stdout);
+        for line in table.lines().chain(reasons.lines()) {
             assert!(line.chars().count() <= 100, "{line}");
         }
         let csv = text(&hall(&["show", "--csv"], &bytes).stdout);
@@ -199,18 +200,208 @@ fn listings() {
     assert_eq!((&out.stdout[..], out.status.code()), (&b""[..], Some(0)));
 }
 
+/// Which places are marked, in the table and as comma-separated values.
+fn marked(line: &str) -> Vec<String> {
+    let csv = text(&hall(&["show", "--csv"], &made(line)).stdout);
+    let rows: Vec<Vec<String>> = csv.lines().skip(1).map(fields).collect();
+    assert!(rows.iter().all(|row| ["", "doubtful"].contains(&&row[13][..])), "{csv}");
+    let found: Vec<String> =
+        rows.into_iter().filter(|row| row[13] == "doubtful").map(|row| row[9].clone()).collect();
+    let table = text(&hall(&["show"], &made(line)).stdout);
+    let own = |row: &&str| row.starts_with("  doubtful  ");
+    assert_eq!(table.lines().filter(own).count(), found.len(), "{table}");
+    for (row, bits) in table.lines().filter(own).zip(&found) {
+        assert!(row.contains(&bits[..]), "{row}");
+    }
+    let hint = "`hall explain FILE` says why";
+    assert_eq!(table.lines().last().unwrap().contains(hint), !found.is_empty(), "{table}");
+    found
+}
+
+/// The lists of docs/DIFFERENCES.md, 'Wrong and kept', and their false places.
+const WRONG: [(&str, &[&str]); 12] = [
+    (
+        "list 2^-30 1 0 2 2^-25 1",
+        &["C11FFFFFFFFF80FE", "BEC0000000003FD7", "3EC000000000402C", "411FFFFFFFFF7EFE"],
+    ),
+    (
+        "list 2^-30 1 0 16 2^-21 64",
+        &["C10555555554F5D2", "BEA8000000006BD4", "3EA8000000006C32", "410555555554F4D4"],
+    ),
+    (
+        "list 2^-30 0xD18F69A5BB66F672 0xB6817C5B52617DF6 0x47E7DEC653C3E908 \
+         0xC2DAB4256470939C 0x33BEE167499F4A18",
+        &["CB81E0E24AAA0FA4", "4B81E0E24AAA0FA6"],
+    ),
+    (
+        "list 2^-30 0x50A3780000000000 0xA282918B5BC2EDC9 0xB9CE000000000000 \
+         0xA89B4E1000000000 0x1DD0007FFFFFFFFF",
+        &["CEC9725902F71B06", "4EC9725902F71B06"],
+    ),
+    ("list 2^-30 2 -3 1 2^-538", &["0000000000000000", "4007504F333F9DE6"]),
+    ("list 2^-30 -6 11 -6 1 2^-359", &["400C2BC91FAC3082"]),
+    ("list 2^-30 -1 0 1 2^-538", &["8000000000000000"]),
+    ("list 2^-30 1 0 0 1 2^-359", &["0000000000000000"]),
+    (
+        "list 2^-30 0xBF10000000008000 0x3F9FF7FFFFFFFFC0 0xC00FDFF800000000 \
+         0xC000100000000000 0x3FF0000000000000",
+        &["3F6FFFFCEA301683", "3F7000018AE7F5F1"],
+    ),
+    (
+        "list 2^-30 0xB2D84AD47FAA673F 0xBF5175DDDCC73F22 0x3FB3AD6EE6E8F948 \
+         0xBFF69F39AADADD2A 0x3FF0000000000000",
+        &[],
+    ),
+    ("list 2^-30 0 1 1.5 1", &["BFE5555555555555"]),
+    ("list 2^-30 0 -1 2 -2", &["3FE0000000000000"]),
+];
+
+/// They are marked, and the right ones of these lists are not.
 #[test]
-fn roots_that_cannot_be_ones_are_marked() {
-    let marked = |line: &str| {
-        let table = text(&hall(&["show"], &made(line)).stdout);
-        table.lines().filter(|row| row.contains("no root")).count()
+fn false_places_are_marked() {
+    for (line, wanted) in WRONG {
+        assert_eq!(marked(line), wanted, "{line}");
+    }
+}
+
+/// Roots are not, but places that stand for roots that lie apart and are joined.
+#[test]
+fn roots_are_not_marked() {
+    let lines = [
+        "list 2^-30 24 -50 35 -10 1",
+        "list 2^-30 4.738138394651668e118 8.568255354516641e74",
+        "list 2^-30 0 0 3",
+        "list 2^-30 2^-1074 1",
+        "list 2^-30 0x7FEFFFFFFFFFFFFF -1",
+        "quad 2^-30 2^-30 1 2 1",
+        "quad 2^-30 2^-30 1 -3 2",
+        "quad 2^-30 1 0.5 2 -4",
+        "crank 2^-30 1 0 0 0 0.5",
+        "slider 45 130 150 10",
+    ];
+    for line in lines {
+        assert!(marked(line).is_empty(), "{line}");
+    }
+    // by a tolerance of 1, and small ones by 2^-30
+    assert_eq!(marked("quad 1 2^-30 1 2 0.9"), ["BFF0000000000000"]);
+    assert_eq!(marked("list 2^-30 5e-20 -6e-10 1"), ["3DF49DA7E361CE4C"]);
+}
+
+/// Sorted by what is doubtful: a place that counts once, one that counts twice, none, a refusal.
+const DOUBTS: &str = "list 2^-30 2 -3 1 2^-538\nlist 2^-30 5e-20 -6e-10 1\nlist 2^-30 2 -3 1\n\
+                      list 2^-30 7\ncrank 2^-30 1 0 0 0 0.5\nquad 2^-30 1 0.5 2 -4\n";
+
+const EXPLAINED: &str = "\
+1 list, tol 2^-30: 1.1113793747425387e-162 x^3 + x^2 - 3 x + 2 = 0
+  p is the left side, computed without rounding
+  -8.997827589086393e161 (E190000000000000), once: a root, p reaches 0 within 2 doubles of it
+  0 (0000000000000000), once: doubtful
+    p is above 0 at the place and 2 doubles to either side:
+      -1e-323                   8000000000000002  p = 2
+      -5e-324                   8000000000000001  p = 2
+      0                         0000000000000000  p = 2
+      5e-324                    0000000000000001  p = 2
+      1e-323                    0000000000000002  p = 2
+    At the place |p| is 2 and the sum of its terms' sizes 2: 1 of that is left, and 2^-47 is
+    7.11e-15. Nor does p change sign further off, within 2.17e-311.
+  2.914213562373095 (4007504F333F9DE6), once: doubtful
+    p is above 0 at the place and 2 doubles to either side:
+      2.914213562373094         4007504F333F9DE4  p = 1.75
+      2.9142135623730945        4007504F333F9DE5  p = 1.75
+      2.914213562373095         4007504F333F9DE6  p = 1.75
+      2.9142135623730954        4007504F333F9DE7  p = 1.75
+      2.914213562373096         4007504F333F9DE8  p = 1.75
+    At the place |p| is 1.75 and the sum of its terms' sizes 19.2: 0.091 of that is left, and 2^-47
+    is 7.11e-15. Nor does p change sign further off, within 0.00195.
+2 list, tol 2^-30: x^2 - 6e-10 x + 5e-20 = 0
+  p is the left side, computed without rounding
+  3e-10 (3DF49DA7E361CE4C), 2 times: doubtful
+    At the place |p| is 4e-20 and the sum of its terms' sizes 3.2e-19: 0.125 of that is left, and
+    2^-47 is 7.11e-15. The tolerance joins roots within 9.31e-10 of their middle.
+records: 6, refused: 1, roots: 11, doubtful: 3
+";
+
+#[test]
+fn doubts_are_explained() {
+    let path = scratch("doubts.hall");
+    fs::write(&path, made(DOUBTS)).unwrap();
+    let path = path.to_str().unwrap();
+    let out = hall(&["explain", path], b"");
+    assert_eq!((out.status.code(), &out.stderr[..]), (Some(0), &b""[..]));
+    let told = text(&out.stdout);
+    let (found, reasons) = told.split_once("Why: ").unwrap();
+    assert_eq!(found, EXPLAINED);
+    for part in ["\nWhat it means: ", "'Wrong and kept'", "\nWhat to do: "] {
+        assert!(reasons.replace("\n    ", " ").contains(part), "{reasons}");
+    }
+    assert!(told.lines().all(|line| line.chars().count() <= 100), "{told}");
+    assert_eq!(hall(&["explain", "-"], &made(DOUBTS)).stdout, out.stdout);
+}
+
+/// A record is explained whatever it is.
+#[test]
+fn records_are_explained() {
+    let explained = |record: &str| {
+        let out = hall(&["explain", "-", record], &made(DOUBTS));
+        (text(&out.stdout), out.status.code())
     };
-    assert_eq!(marked("list 2^-30 1 0 2 2^-25 1"), 4);
-    assert_eq!(marked("list 2^-30 1 0 16 2^-21 64"), 4);
-    assert_eq!(marked("list 2^-30 24 -50 35 -10 1"), 0);
-    assert_eq!(marked("quad 2^-30 2^-30 1 2 1"), 0);
-    assert_eq!(marked("quad 2^-30 1 0.5 2 -4"), 0);
-    assert_eq!(marked("crank 2^-30 1 0 0 0 0.5"), 0);
+    let known = [
+        (
+            "3",
+            "3 list, tol 2^-30: x^2 - 3 x + 2 = 0\n  p is the left side, computed without rounding\n  \
+             1 (3FF0000000000000), once: a root, p is 0 there\n  \
+             2 (4000000000000000), once: a root, p is 0 there\nroots: 2, none of them doubtful\n",
+        ),
+        (
+            "4",
+            "4 list, tol 2^-30: 7 = 0\n  \
+             refused 2: no equation: once trailing zeros are dropped, a constant at most is left\n",
+        ),
+        (
+            "6",
+            "6 quad, confusion 2^-30, angular 1: 0.5 x^2 + 2 x - 4 = 0\n  \
+             p is 2 x - 4, computed without rounding: the places are those of p = 0\n  \
+             2 (4000000000000000), once: a root, p is 0 there\nroots: 1, none of them doubtful\n",
+        ),
+    ];
+    for (record, wanted) in known {
+        assert_eq!(explained(record), (wanted.to_string(), Some(0)));
+    }
+    let (crank, _) = explained("5");
+    assert!(crank.contains("\n  p is 1.5 u^4 - 5 u^2 + 1.5, computed"), "{crank}");
+    let (one, _) = explained("2");
+    assert!(one.contains("\nroots: 1, doubtful: 1\nWhy: "), "{one}");
+    for record in ["0", "7", "18446744073709551615"] {
+        let out = hall(&["explain", "-", record], &made(DOUBTS));
+        assert_eq!((out.status.code(), &out.stdout[..]), (Some(2), &b""[..]), "{record}");
+        let line = format!("hall: standard input: no record {record}: the file has 6\n");
+        assert_eq!(said(&out), line);
+    }
+}
+
+/// Nothing doubtful, a place that is off, junk, an empty file.
+#[test]
+fn other_explanations() {
+    let explained = |bytes: &[u8]| {
+        let out = hall(&["explain", "-"], bytes);
+        assert_eq!((out.status.code(), &out.stderr[..]), (Some(0), &b""[..]));
+        text(&out.stdout)
+    };
+    assert_eq!(explained(b""), "no record: the file is empty\n");
+    let good = "records: 1, refused: 0, roots: 2, none of them doubtful\n";
+    assert_eq!(explained(&made("list 2^-30 2 -3 1")), good);
+    let junk = "1 --\n  refused 6: byte 0: unknown mark `XX`\n\
+                records: 1, refused: 1, roots: 0, none of them doubtful\n";
+    assert_eq!(explained(b"XX"), junk);
+    let off = explained(&made("list 2^-30 -1/2 -27 0x001FFFFFFFFFFFFF"));
+    let off = off.replace("\n    ", " ");
+    assert!(
+        off.contains("Further off p does change sign, within 256 doubles, or 8.88e-16."),
+        "{off}"
+    );
+    let below = explained(&made("list 2^-30 0 1 1.5 1"));
+    assert!(below.contains("    p is below 0 at the place"), "{below}");
+    assert!(below.contains("BFE5555555555557  p = -0.296\n"), "{below}");
 }
 
 #[test]
@@ -228,8 +419,10 @@ fn random_files() {
 
 #[test]
 fn faults_are_named() {
-    let known: [(&[&str], i32, &str); 11] = [
+    let known: [(&[&str], i32, &str); 13] = [
         (&["show", "/no/such/file"], 1, "hall: /no/such/file: "),
+        (&["explain", "/no/such/file"], 1, "hall: /no/such/file: "),
+        (&["explain", "x", "ten"], 2, "`ten` is no whole number"),
         (&["list", "/no/such/file"], 1, "hall: /no/such/file: "),
         (&["text", "/no/such/file"], 1, "hall: /no/such/file: "),
         (&["list", "x", "y"], 2, "unknown word `y`"),
@@ -252,13 +445,14 @@ fn faults_are_named() {
 #[cfg(not(geomcore))]
 #[test]
 fn nothing_to_compare_with() {
-    let commands: [&[&str]; 7] = [
+    let commands: [&[&str]; 8] = [
         &["compare", "-"],
         &["compare", "-", "--csv"],
         &["lists", "5", "1"],
         &["cranks", "5", "1"],
         &["files", "5", "1"],
         &["damage", "0", "1"],
+        &["doubts", "5", "1"],
         &["stored", "files", "x"],
     ];
     for words in commands {

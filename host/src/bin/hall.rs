@@ -6,7 +6,7 @@ use std::path::Path;
 use std::process::ExitCode;
 
 /// The long runs, and what their first number says.
-const RUNS: [(&str, &str); 10] = [
+const RUNS: [(&str, &str); 11] = [
     ("lists", "COUNT"),
     ("inquiries", "COUNT"),
     ("cranks", "COUNT"),
@@ -14,6 +14,7 @@ const RUNS: [(&str, &str); 10] = [
     ("files", "COUNT"),
     ("damage", "MINUTES"),
     ("quadratics", "COUNT"),
+    ("doubts", "COUNT"),
     ("coverage", "COUNT"),
     ("mutants", "COUNT"),
     ("causes", "COUNT"),
@@ -79,6 +80,7 @@ fn long_run(what: &str, count: u64, seed: u64) -> Result<bool, String> {
         "cranks" => Ok(host::runs::cranks::run(count, seed)),
         "contacts" => Ok(host::runs::contacts::run(count, seed)),
         "quadratics" => Ok(host::runs::quadratics::run(count, seed)),
+        "doubts" => Ok(host::runs::doubts::run(count, seed)),
         _ => with_feature(what, count, seed),
     }
 }

@@ -10,8 +10,11 @@ hall list [FILE]          the listing of a hall file, or of standard input, by t
 hall show [FILE] [--csv]  the same for people: each record's equation, places as decimals and bits,
                           a crank's roots by their angle t from 0 to 360 degrees, and in radians (t
                           is k * 45 degrees + 2 atan u), refusals in words with the byte of their
-                          record, and roots that cannot be ones marked `no root`; with --csv as
-                          comma-separated values
+                          record, and places at which exact arithmetic finds no root marked
+                          `doubtful`; with --csv as comma-separated values
+hall explain FILE         why roots are doubtful, with the numbers, and what to do about it: the
+                          records that have such, or that there are none. FILE may be `-`
+hall explain FILE RECORD  the same of one record, whatever it is
 hall draw FILE RECORD     a picture of one record and its answer, in SVG, on standard output: the
                           curve of a list or a quad with its roots, the circle of a crank with its
                           positions, the circle and the path of a contact with its times. FILE may
@@ -39,6 +42,8 @@ hall quadratics COUNT SEED
                           the same for quadratics, their centres, shifted and touching ones
 hall files COUNT SEED     the same for whole hall files, every other one damaged
 hall damage MINUTES SEED  damage stored and made files, those again that met something new
+hall doubts COUNT SEED    how many good and how many false roots `hall show` marks as doubtful, over
+                          COUNT made lists and cranks at the tolerance 2^-30
 hall coverage COUNT SEED  how often each branch of the reference build was taken, COUNT inputs of
                           each sort; with the feature `coverage`
 hall mutants COUNT SEED   after how many made inputs the comparison notices each mistake in a copy
@@ -118,7 +123,7 @@ pub fn of_command(name: &str) -> String {
 pub fn with_topics(name: &str) -> String {
     let topics: &[&str] = match name {
         "make" => &[RECORDS, NUMBERS],
-        "list" | "show" | "draw" | "text" | "compare" => &[RECORDS],
+        "list" | "show" | "explain" | "draw" | "text" | "compare" => &[RECORDS],
         _ => &[],
     };
     of_command(name) + &topics.concat()

@@ -37,12 +37,12 @@ pub fn tolerances(record: &Record) -> String {
     }
 }
 
-/// With these coefficients, ascending.
-fn polynomial(coeffs: &[f64], of: &str) -> String {
+/// With these coefficients, ascending, in the variable of this name.
+pub fn polynomial(coeffs: &[f64], name: &str) -> String {
     let power = |i: usize| match i {
         0 => String::new(),
-        1 => of.to_string(),
-        i => format!("{of}^{i}"),
+        1 => name.to_string(),
+        i => format!("{name}^{i}"),
     };
     sum(coeffs.iter().enumerate().rev().map(|(i, a)| (*a, power(i))))
 }

@@ -1,5 +1,5 @@
 //! A listing, with what people want to see beside it.
-use crate::people::doubt::{Doubt, doubt};
+use crate::people::doubt::Look;
 use crate::people::question;
 use crate::truth::hall_file::{Item, Kind, Record, items};
 use crate::truth::lister::{Answer, Line, Solution, lines};
@@ -44,17 +44,29 @@ pub struct Shown {
     pub answer: String,
     /// Its number, and the reason in words.
     pub refusal: Option<(u8, String)>,
+    /// The coefficients, ascending, of the polynomial whose roots are listed; empty for a refusal.
+    pub coeffs: Vec<f64>,
     /// Those of a crank in the order of their angles.
     pub roots: Vec<Place>,
+}
+
+impl Shown {
+    /// Whether one of its roots is.
+    pub fn doubtful(&self) -> bool {
+        self.roots.iter().any(|root| root.doubtful)
+    }
 }
 
 /// A place of an answer.
 pub struct Place {
     pub place: f64,
+    /// As it is listed: not for a quadratic.
     pub times: Option<u32>,
+    /// How often it counts, for a quadratic too.
+    pub multiplicity: u32,
     /// t of a crank's root, in degrees.
     pub angle: Option<f64>,
-    pub doubt: Option<Doubt>,
+    pub doubtful: bool,
 }
 
 /// All records of a file; an error where the lister's lines are not those of its records.
@@ -69,26 +81,32 @@ fn shown_record(bytes: &[u8], item: Item, line: &Line) -> Shown {
         _ => None,
     };
     let text = |of: fn(&Record) -> String| item.record.as_ref().map(of).unwrap_or_default();
+    let coeffs = item.record.as_ref().map(|record| equation(record, &line.answer));
+    let coeffs = coeffs.unwrap_or_default();
     Shown {
         kind: line.kind.map_or("--", Kind::word),
         question: text(question::equation),
         tolerances: text(question::tolerances),
         answer: heading(&line.answer),
         refusal,
-        roots: places(&item, &line.answer),
+        roots: places(&coeffs, &line.answer),
+        coeffs,
         item,
     }
 }
 
-fn places(item: &Item, answer: &Answer) -> Vec<Place> {
-    let coeffs = item.record.as_ref().ok().map(|record| equation(record, answer));
+fn places(coeffs: &[f64], answer: &Answer) -> Vec<Place> {
     let place = |(place, times): (f64, Option<u32>)| {
         let angle = match answer {
             Answer::Crank(k, _) => Some(degrees(*k, place)),
             _ => None,
         };
-        let doubt = coeffs.as_ref().and_then(|coeffs| doubt(coeffs, place));
-        Place { place, times, angle, doubt }
+        let multiplicity = match answer {
+            Answer::Quadratic(Solution::One(_)) => 2,
+            _ => times.unwrap_or(1),
+        };
+        let doubtful = Look::at(coeffs, place, multiplicity).doubtful();
+        Place { place, times, multiplicity, angle, doubtful }
     };
     let mut all: Vec<Place> = answer.roots().into_iter().map(place).collect();
     all.sort_by(|a, b| a.angle.partial_cmp(&b.angle).unwrap_or(Ordering::Equal));
@@ -125,6 +143,7 @@ pub fn nine_decimals(x: f64) -> String {
 /// The coefficients, ascending, of the equation whose roots an answer lists.
 fn equation(record: &Record, answer: &Answer) -> Vec<f64> {
     match (record, answer) {
+        (_, Answer::Refused(_)) => vec![],
         (Record::List { coeffs, .. }, _) => coeffs.clone(),
         (Record::Quadratic { abc: [_, b, c], .. }, Answer::Quadratic(Solution::Linear(_))) => {
             vec![*c, *b]

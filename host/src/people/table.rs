@@ -8,6 +8,14 @@ pub const COLUMNS: usize = 100;
 
 const HEAD: [&str; 6] = ["answer", "place", "bits", "times", "t in degrees", "t in radians"];
 
+/// What stands beside a root that exact arithmetic does not confirm.
+pub const DOUBTFUL: &str = "doubtful";
+
+const DOUBTS: &str =
+    "doubtful: exact arithmetic does not confirm the place; `hall explain FILE` says why";
+
+pub const EMPTY: &str = "no record: the file is empty\n";
+
 type Cells = [String; HEAD.len()];
 
 enum Row {
@@ -18,32 +26,48 @@ enum Row {
 /// For each record its question, and then a row for each root, or one that says why there is none.
 pub fn table(all: &[Shown]) -> String {
     if all.is_empty() {
-        return "no record: the file is empty\n".to_string();
+        return EMPTY.to_string();
     }
-    laid_out(&all.iter().flat_map(rows).collect::<Vec<_>>())
+    let mut text = laid_out(&all.iter().flat_map(rows).collect::<Vec<_>>());
+    if all.iter().any(Shown::doubtful) {
+        text += &wrapped(DOUBTS);
+    }
+    text
+}
+
+/// The record's number and kind, its tolerances and its question.
+pub fn front(shown: &Shown) -> String {
+    let Shown { item, kind, question, tolerances, .. } = shown;
+    match question.is_empty() {
+        true => format!("{} {kind}", item.number),
+        false => format!("{} {kind}, {tolerances}: {question}", item.number),
+    }
 }
 
 fn rows(shown: &Shown) -> Vec<Row> {
-    let Shown { item, kind, question, tolerances, .. } = shown;
-    let front = match question.is_empty() {
-        true => format!("{} {kind}", item.number),
-        false => format!("{} {kind}, {tolerances}: {question}", item.number),
-    };
-    let mut all = vec![Row::Text(front)];
-    if let Some((number, why)) = &shown.refusal {
-        all.push(Row::Text(format!("  refused {number}: {why}")));
+    let mut all = vec![Row::Text(front(shown))];
+    if let Some(refused) = refused(shown) {
+        all.push(Row::Text(refused));
         return all;
     }
     let mut answer = shown.answer.clone();
-    for root in &shown.roots {
-        let front = std::mem::take(&mut answer);
-        all.push(Row::Cells(cells(front, root)));
-        all.extend(root.doubt.map(|doubt| Row::Text(format!("  {}", doubt.words()))));
+    // its place in the column is the mark's then
+    if shown.roots.first().is_none_or(|root| root.doubtful) {
+        all.push(Row::Text(format!("  {}", std::mem::take(&mut answer))));
     }
-    if shown.roots.is_empty() {
-        all.push(Row::Text(format!("  {answer}")));
+    for root in &shown.roots {
+        let front = match root.doubtful {
+            true => DOUBTFUL.to_string(),
+            false => std::mem::take(&mut answer),
+        };
+        all.push(Row::Cells(cells(front, root)));
     }
     all
+}
+
+/// The line of a refusal.
+pub fn refused(shown: &Shown) -> Option<String> {
+    shown.refusal.as_ref().map(|(number, why)| format!("  refused {number}: {why}"))
 }
 
 fn cells(answer: String, root: &Place) -> Cells {
@@ -113,19 +137,20 @@ pub fn csv(all: &[Shown]) -> String {
 }
 
 fn csv_record(shown: &Shown) -> String {
-    let Shown { item, kind, question, tolerances, answer, refusal, roots } = shown;
+    let Shown { item, kind, question, tolerances, answer, refusal, roots, .. } = shown;
     let (number, why) = refusal.clone().map(|(n, why)| (n.to_string(), why)).unwrap_or_default();
     let place = [item.number, item.at].map(|n| n.to_string());
     let rest = [kind, &tolerances[..], question, answer, &number, &why].map(str::to_string);
     let front = [&place[..], &rest].concat();
-    let line = |root: [String; 5], doubt: &str| {
-        let fields = [&front[..], &root, &[doubt.to_string()]].concat();
+    let line = |root: [String; 5], mark: &str| {
+        let fields = [&front[..], &root, &[mark.to_string()]].concat();
         fields.iter().map(|field| quoted(field)).collect::<Vec<_>>().join(",") + "\n"
     };
     match &roots[..] {
         [] => line(Default::default(), ""),
         roots => {
-            roots.iter().map(|r| line(columns(r), r.doubt.map_or("", |d| d.words()))).collect()
+            let mark = |root: &Place| if root.doubtful { DOUBTFUL } else { "" };
+            roots.iter().map(|root| line(columns(root), mark(root))).collect()
         }
     }
 }

@@ -1,5 +1,6 @@
 //! Comparisons of any length, each behind a command of `hall`: the port beside the reference build,
-//! and the untouched Rust beside both. `coverage`, `mutants` and `causes` say what they are worth.
+//! and the untouched Rust beside both. `coverage`, `mutants` and `causes` say what they are worth;
+//! `doubts` holds what `hall show` marks against the exact roots.
 #[cfg(feature = "causes")]
 pub mod causes;
 pub mod contacts;
@@ -7,6 +8,7 @@ pub mod contacts;
 pub mod coverage;
 pub mod cranks;
 pub mod damage;
+pub mod doubts;
 pub mod files;
 pub mod inquiries;
 pub mod lists;

@@ -1,7 +1,7 @@
 //! What the right answers are. `exact` and `methods` have the leaves as document 01 defines them, on
 //! whole numbers, and `plain` says the same more slowly; `reference` is the Rust; `hall_file` and
 //! `lister` have the hall file and its listing, `contact` what document 02 makes of a path and a
-//! circle. Nothing here calls the port.
+//! circle; `sturm` has where a polynomial's roots are. Nothing here calls the port.
 pub mod big;
 pub mod contact;
 pub mod exact;
@@ -11,3 +11,4 @@ pub mod methods;
 pub mod plain;
 pub mod reference;
 pub mod refusals;
+pub mod sturm;
