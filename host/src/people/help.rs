@@ -9,7 +9,8 @@ hall list [FILE]          the listing of a hall file, or of standard input, by t
                           its end, which is a refusal under 6, 7, 8 or 9
 hall show [FILE] [--csv]  the same for people: each record's equation, places as decimals and bits,
                           a crank's roots by their angle t from 0 to 360 degrees, and in radians (t
-                          is k * 45 degrees + 2 atan u), refusals in words with the byte of their
+                          is k * 45 degrees + 2 atan u), at a contact the ball's place and its
+                          distance from the circle, refusals in words with the byte of their
                           record, and places at which exact arithmetic finds no root marked
                           `doubtful`; with --csv as comma-separated values
 hall explain FILE         why roots are doubtful, with the numbers, and what to do about it: the

@@ -6,6 +6,10 @@ use crate::truth::refusals;
 /// The names of a record's numbers, in the file's order.
 pub const NAMES: [&str; 10] = ["confusion", "x0", "x1", "x2", "y0", "y1", "y2", "cx", "cy", "R"];
 
+fn along([a, b, c]: [f64; 3], t: f64) -> f64 {
+    a + t * (b + t * c)
+}
+
 /// A record of the kind.
 #[derive(Clone, Copy, Debug, PartialEq)]
 pub struct Contact {
@@ -51,9 +55,14 @@ impl Contact {
         ]
     }
 
+    /// The ball's place at t: x and y.
+    pub fn ball(&self, t: f64) -> [f64; 2] {
+        [self.x, self.y].map(|path| along(path, t))
+    }
+
     /// X and Y: the ball's place at t, seen from the circle's centre.
     pub fn place(&self, t: f64) -> [f64; 2] {
-        self.from_centre().map(|[a, b, c]| a + t * (b + t * c))
+        self.from_centre().map(|path| along(path, t))
     }
 
     /// D: its distance from there.
@@ -62,9 +71,14 @@ impl Contact {
         (x * x + y * y).sqrt()
     }
 
+    /// D - R: its distance from the circle, below 0 inside.
+    pub fn gap(&self, t: f64) -> f64 {
+        self.distance(t) - self.radius
+    }
+
     /// The reply to a question at t.
     pub fn touches(&self, t: f64) -> bool {
-        (self.distance(t) - self.radius).abs() <= self.confusion
+        self.gap(t).abs() <= self.confusion
     }
 
     /// Under which number it is refused, 0 where it is not.

@@ -1,4 +1,5 @@
 //! A picture of 800 by 600 with a title, marks, and labels that keep clear of each other.
+use super::Mark;
 use crate::people::svg::{WIDTH, document, escaped, wrapped};
 use std::fmt::Write;
 
@@ -19,6 +20,7 @@ text { font: 12px monospace; fill: #1c2733; }
 .arrow { fill: #1b4f7d; }
 .dot { fill: #a3241c; stroke: #ffffff; }
 .ring { fill: #ffffff; stroke: #a3241c; stroke-width: 2.5; }
+.doubtful { fill: #ffffff; stroke: #5c6975; stroke-width: 2; stroke-dasharray: 3 2; }
 ";
 
 /// Characters of the title in a line.
@@ -159,14 +161,12 @@ impl Canvas {
         self.ink.extend(edge);
     }
 
-    /// A root or a contact, with a label: a dot where it counts once, a ring where more often.
-    pub fn mark(&mut self, at: Point, multiplicity: u32, towards: Point, text: String) {
-        match multiplicity {
-            0 | 1 => self.circle("dot", at, 4.5),
-            _ => self.circle("ring", at, 5.5),
-        }
+    /// A mark, with a label behind whose name stand its own words.
+    pub fn mark(&mut self, at: Point, mark: &Mark, towards: Point, name: &str) {
+        let (class, radius) = mark.form();
+        self.circle(class, at, radius);
         self.taken.push(Area::around(at, 12.0, 12.0));
-        self.label(at, towards, text);
+        self.label(at, towards, format!("{name}{}", mark.words()));
     }
 
     pub fn label(&mut self, at: Point, towards: Point, text: String) {

@@ -1,9 +1,10 @@
 //! A pin's circle, the ball's path past it, and their contacts. Lengths are in radii of the circle,
 //! places are seen from its centre.
+use super::Mark;
 use super::around::{around, value};
 use super::canvas::{Area, Canvas, Point, SIZE};
 use super::curve::lowest;
-use super::figures::{figures, rough, round_below, times};
+use super::figures::{figures, rough, round_below};
 use crate::truth::contact::Contact;
 
 /// How much of the picture the pin and the contacts take, at most.
@@ -135,28 +136,26 @@ fn solved([c, b, a]: [f64; 3]) -> Vec<f64> {
     [q / a, c / q].into_iter().filter(|time| time.is_finite() && *time != 0.0).collect()
 }
 
-/// The pin, the path and these contacts, times with their multiplicities.
-pub fn draw(canvas: &mut Canvas, contact: &Contact, contacts: &[(f64, u32)]) -> Result<(), String> {
-    let near = |root: &&(f64, u32)| distance(place(contact, root.0)) <= FAR;
-    let near: Vec<(f64, u32)> = contacts.iter().filter(near).copied().collect();
+/// The pin, the path and these contacts.
+pub fn draw(canvas: &mut Canvas, contact: &Contact, contacts: &[Mark]) -> Result<(), String> {
+    let near = |mark: &&Mark| distance(place(contact, mark.place)) <= FAR;
+    let near: Vec<&Mark> = contacts.iter().filter(near).collect();
     let nearest = lowest(&contact.coefficients());
     let seen: Vec<f64> = match &near[..] {
         [] => vec![nearest],
-        near => near.iter().map(|root| root.0).collect(),
+        near => near.iter().map(|mark| mark.place).collect(),
     };
-    let places: Vec<Point> = seen.iter().map(|t| place(contact, *t)).collect();
-    if !places.iter().all(|at| distance(*at) < 1e100) {
+    let balls: Vec<Point> = seen.iter().map(|t| place(contact, *t)).collect();
+    if !balls.iter().all(|at| distance(*at) < 1e100) {
         return Err("the path is too far from the circle for a picture".to_string());
     }
     let area = Area { left: EDGE, right: SIZE[0] - EDGE, bottom: BOTTOM, ..canvas.room };
-    let view = View::new(area, &places);
+    let view = View::new(area, &balls);
     canvas.circle("pin", view.point([0.0, 0.0]), view.scale.max(LEAST));
     canvas.circle("centre", view.point([0.0, 0.0]), 1.5);
     path(canvas, &view, contact, &seen);
-    let names = figures(&near.iter().map(|root| root.0).collect::<Vec<_>>());
-    for (((_, multiplicity), at), name) in near.iter().zip(&places).zip(names) {
-        let text = format!("t = {name}{}", times(*multiplicity));
-        canvas.mark(view.point(*at), *multiplicity, outward(*at), text);
+    for ((mark, at), name) in near.iter().zip(&balls).zip(figures(&seen)) {
+        canvas.mark(view.point(*at), mark, outward(*at), &format!("t = {name}"));
     }
     if near.is_empty() {
         miss(canvas, &view, contact, nearest);

@@ -1,11 +1,12 @@
 //! The circle of a crank, with its positions.
 use super::canvas::{Canvas, Point};
-use super::figures::{figures, times};
+use super::figures::figures;
+use super::{Mark, places};
 
 const RADIUS: f64 = 190.0;
 
-/// Positions in degrees, with how often each counts; 0 is to the right, 90 at the top.
-pub fn draw(canvas: &mut Canvas, positions: &[(f64, u32)]) {
+/// Positions in degrees: 0 is to the right, 90 at the top.
+pub fn draw(canvas: &mut Canvas, positions: &[Mark]) {
     let [x, y] = canvas.room.middle();
     let towards = |degrees: f64| [degrees.to_radians().cos(), -degrees.to_radians().sin()];
     let at = |degrees: f64, r: f64| -> Point {
@@ -21,14 +22,12 @@ pub fn draw(canvas: &mut Canvas, positions: &[(f64, u32)]) {
             canvas.anchored(at(degrees, RADIUS - 28.0), false, &format!("{degrees}°"));
         }
     }
-    for (degrees, _) in positions {
-        canvas.line("curve", &[[x, y], at(*degrees, RADIUS)]);
+    for mark in positions {
+        canvas.line("curve", &[[x, y], at(mark.place, RADIUS)]);
     }
     canvas.circle("pin", [x, y], 4.0);
-    let names = figures(&positions.iter().map(|position| position.0).collect::<Vec<_>>());
-    for ((degrees, multiplicity), name) in positions.iter().zip(names) {
-        let text = format!("{name}°{}", times(*multiplicity));
-        canvas.mark(at(*degrees, RADIUS), *multiplicity, towards(*degrees), text);
+    for (mark, name) in positions.iter().zip(figures(&places(positions))) {
+        canvas.mark(at(mark.place, RADIUS), mark, towards(mark.place), &format!("{name}°"));
     }
     if positions.is_empty() {
         canvas.anchored([x, y + 24.0], false, "no position");

@@ -1,7 +1,8 @@
 //! The curve of a polynomial, with its roots on the axis.
 use super::around::{Scaled, around, in_halves, value};
 use super::canvas::{Area, Canvas, Point};
-use super::figures::{figures, rough, ticks, times};
+use super::figures::{figures, rough, ticks};
+use super::{Mark, places};
 use crate::people::svg::WIDTH;
 use crate::port;
 use crate::truth::lister::trimmed;
@@ -22,14 +23,14 @@ struct Part {
 
 impl Part {
     /// Of p, so that all roots are seen; where there is none, what is nearest to one.
-    fn new(p: &[f64], roots: &[(f64, u32)]) -> Part {
-        let places = || roots.iter().map(|root| root.0);
-        let (first, last) =
-            (places().fold(f64::INFINITY, f64::min), places().fold(f64::NEG_INFINITY, f64::max));
+    fn new(p: &[f64], roots: &[Mark]) -> Part {
+        let places = places(roots);
+        let first = places.iter().copied().fold(f64::INFINITY, f64::min);
+        let last = places.iter().copied().fold(f64::NEG_INFINITY, f64::max);
         match roots {
             [] => Part::reach(p, lowest(p), 0),
             _ if first == last => {
-                Part::reach(p, first, roots.iter().map(|root| root.1 as usize).sum())
+                Part::reach(p, first, roots.iter().map(|root| root.multiplicity as usize).sum())
             }
             _ => {
                 let middle = first / 2.0 + last / 2.0;
@@ -148,7 +149,7 @@ fn cut(points: &[[f64; 2]], [lo, hi]: [f64; 2]) -> Vec<Vec<[f64; 2]>> {
 }
 
 /// The curve of the polynomial with these coefficients, ascending, and its roots.
-pub fn draw(canvas: &mut Canvas, coeffs: &[f64], roots: &[(f64, u32)]) -> Result<(), String> {
+pub fn draw(canvas: &mut Canvas, coeffs: &[f64], roots: &[Mark]) -> Result<(), String> {
     let p = &coeffs[..trimmed(coeffs)];
     let part = Part::new(p, roots);
     let ends = part.ends().ok_or("its places are too far apart, or too near, for a picture")?;
@@ -157,19 +158,17 @@ pub fn draw(canvas: &mut Canvas, coeffs: &[f64], roots: &[(f64, u32)]) -> Result
     let seen =
         Area { left: LEFT, right: LEFT + ACROSS as f64, bottom: 556.0, top: room.top + 12.0 };
     let curve = Curve { q, unit, seen };
-    let mut places: Vec<f64> = roots.iter().map(|root| part.share(root.0)).collect();
-    places.sort_by(f64::total_cmp);
-    let heights = curve.heights(&places);
+    let mut shares: Vec<f64> = roots.iter().map(|root| part.share(root.place)).collect();
+    shares.sort_by(f64::total_cmp);
+    let heights = curve.heights(&shares);
     grid(canvas, &curve, &part, ends, heights);
     for piece in cut(&curve.samples().collect::<Vec<_>>(), heights) {
         let points: Vec<Point> = piece.into_iter().map(|at| curve.point(at, heights)).collect();
         canvas.line("curve", &points);
     }
-    let names = figures(&roots.iter().map(|root| root.0).collect::<Vec<_>>());
-    for ((x, multiplicity), name) in roots.iter().zip(names) {
-        let at = curve.point([part.share(*x), 0.0], heights);
-        let text = format!("x = {name}{}", times(*multiplicity));
-        canvas.mark(at, *multiplicity, [0.0, -1.0], text);
+    for (root, name) in roots.iter().zip(figures(&places(roots))) {
+        let at = curve.point([part.share(root.place), 0.0], heights);
+        canvas.mark(at, root, [0.0, -1.0], &format!("x = {name}"));
     }
     if roots.is_empty() {
         no_root(canvas, &curve, &part, heights);

@@ -23,13 +23,13 @@ fn figure(x: f64, step: f64) -> String {
     rounded(x, if wanted.is_finite() { wanted.clamp(6.0, 17.0) as usize } else { 6 })
 }
 
-/// These numbers, with digits enough to tell them apart.
+/// These numbers, each with digits enough to tell it from the others.
 pub fn figures(all: &[f64]) -> Vec<String> {
-    let mut sorted = all.to_vec();
-    sorted.sort_by(f64::total_cmp);
-    let gaps = sorted.windows(2).map(|pair| pair[1] - pair[0]).filter(|gap| *gap > 0.0);
-    let step = gaps.fold(f64::INFINITY, f64::min) / 10.0;
-    all.iter().map(|x| figure(*x, step)).collect()
+    let next = |x: f64| {
+        let gaps = all.iter().map(|y| (y - x).abs()).filter(|gap| *gap > 0.0);
+        gaps.fold(f64::INFINITY, f64::min)
+    };
+    all.iter().map(|x| figure(*x, next(*x) / 10.0)).collect()
 }
 
 /// The largest of 1, 2 and 5 times a power of ten that is at most x; none where there is no such
@@ -52,15 +52,6 @@ pub fn ticks(lo: f64, hi: f64) -> Vec<f64> {
     (0..=(last - first) as usize).map(|i| (first + i as f64) * step).collect()
 }
 
-/// How often a root counts, behind its place.
-pub fn times(multiplicity: u32) -> String {
-    match multiplicity {
-        1 => String::new(),
-        2 => ", twice".to_string(),
-        n => format!(", {n} times"),
-    }
-}
-
 #[cfg(test)]
 mod tests {
     use super::*;
@@ -71,7 +62,10 @@ mod tests {
         assert_eq!(figures(&[1.0, 1.000000001]), ["1", "1.000000001"]);
         assert_eq!(figures(&[999999.5, 1000000.5]), ["999999.5", "1000000.5"]);
         assert_eq!(figures(&[f64::MAX, -f64::MAX, 5e-324])[2], "5e-324");
-        assert!(figures(&[f64::MAX])[0].starts_with("1.7976931"));
+        assert_eq!(figures(&[f64::MAX]), ["1.79769e308"]);
+        // four digits of it would be beyond the largest double
+        assert_eq!(rough(f64::MAX), "1.7976931348623157e308");
+        assert_eq!([2e12, 1234.56, 0.0].map(rough), ["2e12", "1235", "0"]);
     }
 
     #[test]
