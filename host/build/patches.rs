@@ -268,12 +268,14 @@ pub const COUNTED: &[Patch] = &[
 ];
 
 /// The host's own reader and lister of hall files.
-pub const OWN: [&str; 2] = ["hall_file.rs", "lister.rs"];
+pub const OWN: [&str; 3] = ["hall_file.rs", "contact.rs", "lister.rs"];
 
 /// In their copies: what is private is opened, paths lead to the copies, and printing is a function
 /// of its own.
 pub const OWN_OPENED: &[Patch] = &[
     ("hall_file.rs", "\nfn ", "\npub fn ", 5),
+    ("hall_file.rs", "use crate::truth::contact::", "use super::contact::", 1),
+    ("contact.rs", "    fn from_centre(", "    pub fn from_centre(", 1),
     ("lister.rs", "use crate::truth::hall_file::", "use super::hall_file::", 1),
     (
         "lister.rs",

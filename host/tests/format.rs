@@ -11,7 +11,7 @@ fn read(text: &str) -> Result<Vec<u8>, TextError> {
 #[test]
 fn text_to_file() {
     let text = "# lanes 1 to 4\n\nlist 2^-30 2 -3 1 # two roots\n\tquad 0.5 0x0000000000000001 1 -3 2\r\n\
-                crank -inf nan 0 1 -0 7#\nlist 1";
+                crank -inf nan 0 1 -0 7#\nlist 1\ncontact 2 1 2 -3 0.5 -0 inf 1 2 7";
     let mut wanted = Vec::new();
     let mut add = |mark: &[u8], numbers: &[u64]| {
         wanted.extend(mark);
@@ -22,6 +22,8 @@ fn text_to_file() {
     add(b"QD", &[0x3FE0 << 48, 1, one, minus_three, two]);
     add(b"TG", &[0xFFF0 << 48, 0x7FF8 << 48, 0, one, 1 << 63, 0x401C << 48]);
     add(b"PL\0", &[one]);
+    let path = [one, two, minus_three, 0x3FE0 << 48, 1 << 63, 0x7FF0 << 48];
+    add(b"PC", &[&[two], &path[..], &[one, two, 0x401C << 48]].concat());
     assert_eq!(read(text).unwrap(), wanted);
     assert_eq!(read("").unwrap(), b"");
     assert_eq!(read("# nothing\n\n").unwrap(), b"");
@@ -39,7 +41,7 @@ fn file_to_text_and_back() {
 }
 
 /// A text, and the line, the word and the reason of its first fault.
-const FAULTS: [(&str, usize, &str, &str); 28] = [
+const FAULTS: [(&str, usize, &str, &str); 31] = [
     ("lst 1 2", 1, "lst", "no kind of record"),
     ("list 1\n\nPL 1", 3, "PL", "no kind of record"),
     ("list", 1, "list", "the tolerance is missing"),
@@ -59,6 +61,9 @@ const FAULTS: [(&str, usize, &str, &str); 28] = [
     ("quad 1 2 3 4 5 6", 1, "6", "one number too many"),
     ("crank 1 2 3 4 5 # 6", 1, "5", "a number is missing behind it: crank CONFUSION"),
     ("crank 1 2 3 4 5 6 7 8", 1, "7", "one number too many"),
+    ("contact 0 0 1 0 0 0 0 3 0", 1, "0", "a number is missing behind it: contact CONFUSION x0"),
+    ("contact 0 0 1 0 0 0 0 3 0 1 9", 1, "9", "one number too many: contact CONFUSION x0"),
+    ("contacts 1", 1, "contacts", "no kind of record: a line begins with list, quad, crank, c"),
     ("slider 1 3", 1, "3", "a number is missing behind it: slider R L X"),
     ("slider 1 2 3 4 5 6", 1, "6", "one number too many: slider R L X"),
     ("slider 0 3 3", 1, "0", "the lengths R and L are above 0"),
@@ -95,6 +100,7 @@ fn other_ways_to_type() {
         ("CRANK 2^-30 0 0 1E0 0 NaN", "crank 2^-30 0 0 1 0 nan"),
         ("Quad 10^-9 1/2 1 -3/2 +Inf", "quad 1e-9 0.5 1 -1.5 inf"),
         ("list 0X3E10000000000000 1", "list 2^-30 1"),
+        ("Contact 1/2 0 1E0 0 0 0 0 3 0 +1", "contact 0.5 0 1 0 0 0 0 3 0 1"),
     ];
     for (typed, plain) in same {
         assert_eq!(read(typed), read(plain), "{typed}");
@@ -135,7 +141,7 @@ fn lists_and_files_too_long() {
 
 #[test]
 fn marks() {
-    assert_eq!(Kind::ALL.map(Kind::mark), ["PL", "QD", "TG"]);
+    assert_eq!(Kind::ALL.map(Kind::mark), ["PL", "QD", "TG", "PC"]);
     for mark in [&b"PLX"[..], b"P", b"", b"pl", b"LP"] {
         assert_eq!(Kind::of_mark(mark), None);
     }
@@ -188,10 +194,17 @@ mod listings {
             "7 TG refused 1",
             "8 TG refused 5",
             "9 TG refused 2",
-            "10 PL ok 2 3FF0000000000000 1 4000000000000000 1",
+            "10 PC refused 10",
+            "11 PC refused 10",
+            "12 PC refused 11",
+            "13 PC refused 11",
+            "14 PC refused 11",
+            "15 PC refused 12",
+            "16 PC refused 2",
+            "17 PL ok 2 3FF0000000000000 1 4000000000000000 1",
         ];
         assert_eq!(listed_text(REFUSED), wanted);
-        let known: [(&[u8], &str); 9] = [
+        let known: [(&[u8], &str); 10] = [
             (b"", ""),
             (b"P", "1 -- refused 7\n"),
             (b"PX", "1 -- refused 6\n"),
@@ -201,6 +214,7 @@ mod listings {
             (b"PL\x21", "1 PL refused 8\n"),
             (b"QD", "1 QD refused 7\n"),
             (b"TG\0", "1 TG refused 7\n"),
+            (b"PC", "1 PC refused 7\n"),
         ];
         for (bytes, lines) in known {
             assert_eq!(listed(bytes), lines, "{bytes:?}");
@@ -260,9 +274,12 @@ mod listings {
     #[test]
     fn truncation_at_every_byte() {
         let first = read("list 2^-30 -6 2").unwrap();
-        for (mark, line) in
-            [("PL", "list 2^-30 7"), ("QD", "quad 0 0 1 2 1"), ("TG", "crank 0 0 0 1 0 0")]
-        {
+        for (mark, line) in [
+            ("PL", "list 2^-30 7"),
+            ("QD", "quad 0 0 1 2 1"),
+            ("TG", "crank 0 0 0 1 0 0"),
+            ("PC", "contact 0 0 1 0 0 0 0 3 0 1"),
+        ] {
             let bytes = read(line).unwrap();
             for cut in 1..bytes.len() {
                 let mark = if cut < 2 { "--" } else { mark };
@@ -312,7 +329,7 @@ mod listings {
     #[test]
     fn made_files() {
         let mut r = Random::new(12);
-        let mut refused = [0u64; 10];
+        let mut refused = [0u64; 13];
         for _ in 0..20_000 {
             let bytes = any_file(&mut r);
             let read = lines(&listing(&bytes, &Reference)).unwrap();
@@ -323,8 +340,8 @@ mod listings {
                 refused[number] += 1;
             }
         }
-        say(&format!("made files: lines by refusal 0 to 9: {refused:?}"));
-        assert!([0, 1, 2, 3, 5, 6, 7, 8].iter().all(|&n| refused[n] > 100));
+        say(&format!("made files: lines by refusal 0 to 12: {refused:?}"));
+        assert!([0, 1, 2, 3, 5, 6, 7, 8, 10, 11, 12].iter().all(|&n| refused[n] > 100));
     }
 
     #[test]

@@ -6,11 +6,12 @@ use host::port;
 use run::{hall, said, scratch, text};
 use std::fs;
 
-const COMMANDS: [&str; 20] = [
+const COMMANDS: [&str; 22] = [
     "make",
     "list",
     "show",
     "explain",
+    "draw",
     "text",
     "compare",
     "random",
@@ -18,6 +19,7 @@ const COMMANDS: [&str; 20] = [
     "lists",
     "inquiries",
     "cranks",
+    "contacts",
     "quadratics",
     "files",
     "damage",
@@ -54,7 +56,7 @@ fn help() {
     assert!(all.lines().all(|line| line.chars().count() <= 100));
 }
 
-/// The marks, the three equations, the tolerances, the slider-crank, the statuses.
+/// The marks, the equations, the tolerances, the slider-crank, the statuses.
 #[test]
 fn help_explains() {
     let all = text(&hall(&["--help"], b"").stdout);
@@ -63,6 +65,7 @@ fn help_explains() {
         "list TOL c0 c1 ..              PL   c0 + c1 x + c2 x^2 .. = 0",
         "quad CONFUSION ANGULAR a b c   QD   a x^2 + b x + c = 0",
         "TG   a2 cos 2t + b2 sin 2t + c1 cos t + d1 sin t + e = 0",
+        "contact CONFUSION x0 x1 x2 y0 y1 y2 cx cy R\n",
         "slider R L X ",
         "tol        of a list",
         "confusion  of a quad",
@@ -96,6 +99,7 @@ fn words_not_known() {
         (&["lists", "5"], "a word is missing after `hall lists 5`"),
         (&["lists", "five", "1"], "`five` is no number"),
         (&["cranks", "5"], "a word is missing after `hall cranks 5`"),
+        (&["contacts", "5"], "a word is missing after `hall contacts 5`"),
         (&["files", "5"], "a word is missing after `hall files 5`"),
         (&["damage", "ten", "1"], "`ten` is no number"),
         (&["lanes", "--help"], "unknown word `lanes`"),

@@ -124,14 +124,41 @@ fn a_file_as_csv() {
     let csv = text(&hall(&["show", path, "--csv"], b"").stdout);
     let lines: Vec<&str> = csv.lines().collect();
     let head = "record,byte,kind,tolerances,question,answer,refused,why,place,bits,times,degrees,\
-                radians,doubt";
+                radians,x,y,distance,doubt";
     assert_eq!(lines[0], head);
     assert_eq!(lines.len(), 12);
     let crank = "4,88,crank,confusion 2^-30,cos t = 0,\"k 4, 2 roots\",,,-1,BFF0000000000000,1,90,";
-    assert_eq!(lines[6], format!("{crank}1.570796327,"));
-    assert_eq!(lines[11], "7,223,--,,,,6,byte 223: unknown mark `XX`,,,,,,");
+    assert_eq!(lines[6], format!("{crank}1.570796327,,,,"));
+    assert_eq!(lines[11], "7,223,--,,,,6,byte 223: unknown mark `XX`,,,,,,,,,");
     assert_eq!(text(&hall(&["show", "--csv", path], b"").stdout), csv);
     assert_eq!(text(&hall(&["show", "--csv"], &bytes).stdout), csv);
+}
+
+/// At each contact the ball's place, and its distance from the circle; a touch within confusion is
+/// no doubtful one.
+#[test]
+fn contacts() {
+    let bytes = made("contact 1e-9 4 0 0 -10 2 0 1 0 5\ncontact 0.5 5.25 0 0 -10 2 0 0 0 5");
+    let head = "  answer   place  bits              times\n";
+    let table = "\
+1 contact, confusion 1e-9: |(4, 2 t - 10) - (1, 0)| = 5
+  2 roots  3      4008000000000000  1
+    ball at x = 4, y = -4, D - R = 0
+           7      401C000000000000  1
+    ball at x = 4, y = 4, D - R = 0
+2 contact, confusion 0.5: |(5.25, 2 t - 10) - (0, 0)| = 5
+  1 root   5      4014000000000000  2
+    ball at x = 5.25, y = 0, D - R = 0.25
+";
+    assert_eq!(text(&hall(&["show"], &bytes).stdout), format!("{head}{table}"));
+    let csv = text(&hall(&["show", "--csv"], &bytes).stdout);
+    let ends: Vec<Vec<String>> =
+        csv.lines().skip(1).map(|line| fields(line).split_off(11)).collect();
+    assert_eq!(ends[0], ["", "", "4", "-4", "0", ""]);
+    assert_eq!(ends[2], ["", "", "5.25", "0", "0.25", ""]);
+    let why = text(&hall(&["explain", "-", "2"], &bytes).stdout);
+    assert!(why.contains("  5 (4014000000000000), 2 times: a contact, D - R is 0.25\n"), "{why}");
+    assert!(why.contains("p is 4 t^2 - 40 t + 102.5625, computed without rounding"), "{why}");
 }
 
 /// A slider-crank whose rod reaches, and one whose rod does not.
@@ -204,9 +231,9 @@ fn listings() {
 fn marked(line: &str) -> Vec<String> {
     let csv = text(&hall(&["show", "--csv"], &made(line)).stdout);
     let rows: Vec<Vec<String>> = csv.lines().skip(1).map(fields).collect();
-    assert!(rows.iter().all(|row| ["", "doubtful"].contains(&&row[13][..])), "{csv}");
+    assert!(rows.iter().all(|row| ["", "doubtful"].contains(&&row[16][..])), "{csv}");
     let found: Vec<String> =
-        rows.into_iter().filter(|row| row[13] == "doubtful").map(|row| row[9].clone()).collect();
+        rows.into_iter().filter(|row| row[16] == "doubtful").map(|row| row[9].clone()).collect();
     let table = text(&hall(&["show"], &made(line)).stdout);
     let own = |row: &&str| row.starts_with("  doubtful  ");
     assert_eq!(table.lines().filter(own).count(), found.len(), "{table}");

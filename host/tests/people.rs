@@ -65,12 +65,14 @@ fn columns() {
 /// Text, junk or nothing: status 2. Behind a whole record it is a refusal like another.
 #[test]
 fn nothing_to_compare() {
-    let known: [(&[u8], &str); 6] = [
+    let known: [(&[u8], &str); 8] = [
         (b"", "the file is empty"),
         (b"Slider 1 3 3\n", "byte 0: unknown mark `Sl`; for lines of text, `hall make`"),
         (b"list 2^-30 2 -3 1\n", "byte 0: unknown mark `li`; for lines of text, `hall make`"),
         (b"\x7FELF", "byte 0: unknown mark `\\x7fE`"),
         (b"TG\0", "byte 0: the file ends inside this crank"),
+        (b"PC\0", "byte 0: the file ends inside this contact, 3 bytes of it are there of 82"),
+        (b"Contact 0 0 1", "byte 0: unknown mark `Co`; for lines of text, `hall make`"),
         (&[0; 70_000], "the file has 70000 bytes, more than 65,536"),
     ];
     for (bytes, why) in known {

@@ -1,10 +1,13 @@
-//! Stored lists by the port against the reference build, under all three closures.
+//! Stored lists by the port against the reference build, under all three closures, and stored
+//! contacts.
 #![cfg(geomcore)]
 use host::compare::outcome::Outcome;
 use host::port;
+use host::port::contacts::pin_contact;
+use host::runs::contacts;
 use host::runs::inquiries::{List, add, cases};
 use host::runs::lists::reference;
-use host::stored::telling::{LISTS, Telling};
+use host::stored::telling::{self, LISTS, Telling};
 
 #[test]
 fn stored_lists() {
@@ -17,4 +20,12 @@ fn stored_lists() {
         add(&mut outcome, &List(&a, tol), true);
     }
     assert!(outcome.wrong == 0, "{}", outcome.shown.join("\n"));
+}
+
+#[test]
+fn stored_contacts() {
+    for (name, contact) in telling::contacts() {
+        let (given, wanted) = (pin_contact(contact.numbers()), contacts::reference(&contact).list);
+        assert!(given.same(&wanted), "{name}: port {}, reference {}", given.text(), wanted.text());
+    }
 }

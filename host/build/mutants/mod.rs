@@ -1,5 +1,6 @@
 //! Plausible mistakes, and one for each operator of the definitions.
 mod bands;
+mod contacts;
 mod critical_points;
 mod cubics;
 mod equations;
@@ -36,6 +37,7 @@ pub fn all() -> Vec<Variant> {
         equations::ALL,
         solutions::ALL,
         files::ALL,
+        contacts::ALL,
     ]
     .concat()
 }

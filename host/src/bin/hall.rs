@@ -6,10 +6,11 @@ use std::path::Path;
 use std::process::ExitCode;
 
 /// The long runs, and what their first number says.
-const RUNS: [(&str, &str); 10] = [
+const RUNS: [(&str, &str); 11] = [
     ("lists", "COUNT"),
     ("inquiries", "COUNT"),
     ("cranks", "COUNT"),
+    ("contacts", "COUNT"),
     ("files", "COUNT"),
     ("damage", "MINUTES"),
     ("quadratics", "COUNT"),
@@ -77,6 +78,7 @@ fn long_run(what: &str, count: u64, seed: u64) -> Result<bool, String> {
         "files" => Ok(host::runs::files::run(count, seed)),
         "damage" => Ok(host::runs::damage::run(count, seed)),
         "cranks" => Ok(host::runs::cranks::run(count, seed)),
+        "contacts" => Ok(host::runs::contacts::run(count, seed)),
         "quadratics" => Ok(host::runs::quadratics::run(count, seed)),
         "doubts" => Ok(host::runs::doubts::run(count, seed)),
         _ => with_feature(what, count, seed),

@@ -1,7 +1,9 @@
 //! Made hall files: records of every kind, edges more often than chance gives, and damage.
+use crate::inputs::contacts;
 use crate::inputs::lists::{KINDS, handed_in, tolerance};
 use crate::inputs::quadratics::{crank, quadratic};
 use crate::inputs::random::Random;
+use crate::truth::contact::Contact;
 use crate::truth::hall_file::{Item, Kind, MOST_COEFFICIENTS, Record, file, items};
 
 /// A record; `n` tells those of one kind apart.
@@ -19,10 +21,14 @@ pub fn record(r: &mut Random, n: u64) -> Record {
             let (abc, [confusion, angular]) = quadratic(r, which);
             Record::Quadratic { confusion, angular, abc }
         }
-        _ => {
+        6 => {
             let which = r.below(9) as usize;
             let terms = crank(r, which);
             Record::Crank { confusion: tolerance(r), terms }
+        }
+        _ => {
+            let which = r.below(contacts::KINDS.len() as u64) as usize;
+            Record::Contact(contacts::contact(r, which))
         }
     };
     if r.below(12) == 0 { of_edges(r, record.kind()) } else { record }
@@ -44,6 +50,7 @@ fn of_edges(r: &mut Random, kind: Kind) -> Record {
             let terms = std::array::from_fn(|_| r.edge());
             Record::Crank { confusion: tolerance(r), terms }
         }
+        Kind::Contact => Record::Contact(Contact::new(std::array::from_fn(|_| r.edge()))),
     }
 }
 
@@ -63,8 +70,10 @@ pub fn any_file(r: &mut Random) -> Vec<u8> {
 }
 
 /// Ends of files, of which each is refused.
-const ENDS: [&[u8]; 12] =
-    [b"P", b"Q", b"\0", b"XX", b"PQ", b"pl", b"PL", b"QD", b"TG", b"PL\0", b"PL\x21", b"PL\xFF"];
+const ENDS: [&[u8]; 13] = [
+    b"P", b"Q", b"\0", b"XX", b"PQ", b"pl", b"PL", b"QD", b"TG", b"PC", b"PL\0", b"PL\x21",
+    b"PL\xFF",
+];
 
 /// Cuts, changes, adds or takes off bytes.
 pub fn damage(r: &mut Random, bytes: &mut Vec<u8>) {
@@ -90,7 +99,7 @@ fn front_of_a_record(r: &mut Random, bytes: &mut [u8]) {
     };
     if let Some(byte) = bytes.get_mut(at + r.below(3) as usize) {
         *byte = match r.below(2) {
-            0 => b"PLQDTG\x20\x21"[r.below(8) as usize],
+            0 => b"PLQDTGC\x20\x21"[r.below(9) as usize],
             _ => byte.wrapping_add(r.below(3) as u8).wrapping_sub(1),
         };
     }

@@ -1,6 +1,7 @@
 //! What is compared on: made by chance from a seed, edges more often than chance gives.
 #[cfg(geomcore)]
 pub mod clustering;
+pub mod contacts;
 pub mod hall_files;
 pub mod leaves;
 pub mod lists;

@@ -276,6 +276,35 @@ fn cranks(r: &mut Random) -> Vec<Row> {
     vec![row(("crank, uniform", "geomcore's"), Aim::Open, &inputs, port, rust)]
 }
 
+/// Balls on a lane, at the confusion 2^-30: the Rust with the same equation and closure.
+#[cfg(geomcore)]
+fn contacts(r: &mut Random) -> Vec<Row> {
+    use crate::inputs::contacts::on_a_lane;
+    use crate::inputs::quadratics::TOL;
+    use crate::port::contacts::pin_contact_bytes;
+    use crate::truth::contact::Contact;
+    use reference::untouched::poly::real_roots_touching;
+    let inputs: Vec<_> =
+        (0..FACTORED).map(|_| Contact { confusion: TOL, ..on_a_lane(r) }).collect();
+    let port = |contact: Contact| {
+        let mut out = [0; 72];
+        pin_contact_bytes(contact.numbers(), &mut out);
+        port::double(&out, 1)
+    };
+    let rust = |contact: Contact| {
+        let coeffs = contact.coefficients();
+        let list = real_roots_touching(&coeffs, contact.confusion, |t| contact.touches(t));
+        list.first().map_or(0.0, |root| root.value)
+    };
+    vec![row(("contact, on a lane", "geomcore's"), Aim::Open, &inputs, port, rust)]
+}
+
+#[cfg(not(geomcore))]
+fn contacts(_: &mut Random) -> Vec<Row> {
+    say(&format!("contacts beside geomcore's: {}", reference::SKIPPED));
+    Vec::new()
+}
+
 #[cfg(not(geomcore))]
 fn inquiries(_: &mut Random) -> Vec<Row> {
     say(&format!("inquiries beside geomcore's: {}", reference::SKIPPED));
@@ -370,7 +399,7 @@ fn verdict(row: &Row) -> String {
 pub fn run() {
     let mut r = Random::new(1);
     let parts = [
-        roots, angles, logarithms, scales, factors, lists, inquiries, quadratics, cranks,
+        roots, angles, logarithms, scales, factors, lists, inquiries, quadratics, cranks, contacts,
         full_files,
     ];
     let mut progress = Progress::new("measurements", parts.len());

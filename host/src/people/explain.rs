@@ -113,7 +113,11 @@ fn record(shown: &Shown) -> String {
 
 /// What p is.
 fn meant(shown: &Shown) -> String {
-    let name = if shown.kind == Kind::Crank.word() { "u" } else { "x" };
+    let name = match shown.item.kind {
+        Some(Kind::Crank) => "u",
+        Some(Kind::Contact) => "t",
+        _ => "x",
+    };
     let p = polynomial(&shown.coeffs, name);
     match shown.question == format!("{p} = 0") {
         true => "  p is the left side, computed without rounding".to_string(),
@@ -129,6 +133,9 @@ fn root(shown: &Shown, root: &Place) -> String {
     };
     let (place, bits) = (shortest(root.place), bits(root.place));
     let front = format!("  {place} ({bits:016X}), {times}: ");
+    if let (Some(ball), false) = (&root.ball, root.doubtful) {
+        return wrapped(&format!("{front}a contact, D - R is {}", shortest(ball.gap)));
+    }
     match (look.doubtful(), look.multiple()) {
         (false, _) => wrapped(&(front + "a root, " + &trusted(&look))),
         (true, false) => wrapped(&(front + "doubtful")) + &no_crossing(&shown.coeffs, root, &look),

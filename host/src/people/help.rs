@@ -9,12 +9,18 @@ hall list [FILE]          the listing of a hall file, or of standard input, by t
                           its end, which is a refusal under 6, 7, 8 or 9
 hall show [FILE] [--csv]  the same for people: each record's equation, places as decimals and bits,
                           a crank's roots by their angle t from 0 to 360 degrees, and in radians (t
-                          is k * 45 degrees + 2 atan u), refusals in words with the byte of their
+                          is k * 45 degrees + 2 atan u), at a contact the ball's place and its
+                          distance from the circle, refusals in words with the byte of their
                           record, and places at which exact arithmetic finds no root marked
                           `doubtful`; with --csv as comma-separated values
 hall explain FILE         why roots are doubtful, with the numbers, and what to do about it: the
                           records that have such, or that there are none. FILE may be `-`
 hall explain FILE RECORD  the same of one record, whatever it is
+hall draw FILE RECORD     a picture of one record and its answer, in SVG, on standard output: the
+                          curve of a list or a quad with its roots, the circle of a crank with its
+                          positions, the circle and the path of a contact with its times. FILE may
+                          be `-`. Status 1 where the record is refused or is beyond what a picture
+                          can show, 2 where there is no such record
 hall text [FILE]          write a hall file back as lines of text, of which `hall make` makes the
                           same file. Status 1 where the file is not read to its end
 hall compare FILE [--csv] each record by port, reference build and untouched Rust; prints those that
@@ -32,6 +38,7 @@ hall lists COUNT SEED     compare COUNT made lists with geomcore's Rust, on two 
                           where one differs, 2 where nothing was compared; so for those below
 hall inquiries COUNT SEED the same for inquiries: always no, always yes, and by a hash
 hall cranks COUNT SEED    the same for crank equations
+hall contacts COUNT SEED  the same for pin contacts, each question replied by the record
 hall quadratics COUNT SEED
                           the same for quadratics, their centres, shifted and touching ones
 hall files COUNT SEED     the same for whole hall files, every other one damaged
@@ -59,6 +66,9 @@ Records, as lines of text and as marks in the file
   list TOL c0 c1 ..              PL   c0 + c1 x + c2 x^2 .. = 0, of degree 1 to 4
   quad CONFUSION ANGULAR a b c   QD   a x^2 + b x + c = 0
   crank CONFUSION a2 b2 c1 d1 e  TG   a2 cos 2t + b2 sin 2t + c1 cos t + d1 sin t + e = 0
+  contact CONFUSION x0 x1 x2 y0 y1 y2 cx cy R
+                                 PC   the times t at which a ball at x0 + x1 t + x2 t^2 across
+                                      and y0 + y1 t + y2 t^2 along is at the distance R from cx, cy
   slider R L X                   TG   the crank equation of a slider-crank: a crank of radius R
                                       about the origin, a rod of length L, the slider on the x axis
                                       at X: -2XR cos t + R^2 + X^2 - L^2 = 0. Confusion is 2^-30
@@ -70,6 +80,8 @@ Tolerances
   tol        of a list: two roots within tol * (1 + |x|) of their middle count as one, twice
   confusion  of a quad: the same; where it is linear, |b| up to this is no equation
              of a crank: the same for u = tan((t - k * 45 degrees) / 2), the root that is listed
+             of a contact: the same for t, and where the ball comes nearest to the circle, or
+             is deepest in it, within confusion of it, it touches there, once for twice
   angular    of a quad: |a| up to this counts as 0, and the equation as linear
   2^-30, about 1e-9, is usual for all; geomcore itself has 1e-7 for confusion, 1e-12 for angular.
 ";
@@ -112,7 +124,7 @@ pub fn of_command(name: &str) -> String {
 pub fn with_topics(name: &str) -> String {
     let topics: &[&str] = match name {
         "make" => &[RECORDS, NUMBERS],
-        "list" | "show" | "explain" | "text" | "compare" => &[RECORDS],
+        "list" | "show" | "explain" | "draw" | "text" | "compare" => &[RECORDS],
         _ => &[],
     };
     of_command(name) + &topics.concat()

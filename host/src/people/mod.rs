@@ -5,6 +5,7 @@ pub mod bench;
 pub mod differences;
 pub mod documents;
 pub mod doubt;
+pub mod draw;
 pub mod explain;
 pub mod help;
 pub mod number;
@@ -13,12 +14,13 @@ pub mod progress;
 pub mod question;
 pub mod show;
 pub mod slider;
+pub mod svg;
 pub mod table;
 pub mod text;
 
 use crate::inputs::hall_files::{damage, records};
 use crate::inputs::random::Random;
-use crate::people::show::{shown, whole_listing};
+use crate::people::show::{Shown, shown, whole_listing};
 use crate::port;
 use crate::truth::hall_file::{self, Item, MOST_BYTES, items};
 use crate::truth::refusals;
@@ -30,13 +32,14 @@ use std::thread::sleep;
 use std::time::Duration;
 
 /// The forms of these commands; a word in capitals stands for any word that is no option.
-pub const FORMS: [&[&str]; 11] = [
+pub const FORMS: [&[&str]; 12] = [
     &["make"],
     &["list", "FILE"],
     &["text", "FILE"],
     &["show", "FILE", "--csv"],
     &["show", "--csv", "FILE"],
     &["explain", "FILE", "RECORD"],
+    &["draw", "FILE", "RECORD"],
     &["compare", "FILE", "--csv"],
     &["compare", "--csv", "FILE"],
     &["compare", "FILE", "--differences"],
@@ -71,6 +74,7 @@ pub fn run(words: &[&str]) -> Option<ExitCode> {
         ["text", file] if named(file) => text_of(file),
         ["explain", file] if named(file) => explain(file, None),
         ["explain", file, record] if named(file) && named(record) => explain(file, Some(record)),
+        ["draw", file, record] if named(file) && named(record) => draw(file, record),
         ["compare", file, "--differences"] if named(file) => compare(file, As::Rows),
         ["random", count, seed] => random(count, seed, false),
         ["random", count, seed, "--damage"] => random(count, seed, true),
@@ -142,22 +146,32 @@ fn show(file: &str, csv: bool) -> Outcome {
     emit(text.as_bytes()).map(|()| ExitCode::SUCCESS)
 }
 
+/// Of all records that of the number that is typed.
+fn of_number<'a>(file: &str, all: &'a [Shown], number: u64) -> Result<&'a Shown, Failure> {
+    all.iter().find(|shown| shown.item.number as u64 == number).ok_or_else(|| {
+        let last = all.last().map_or(0, |shown| shown.item.number);
+        Failure(format!("{}: no record {number}: the file has {last}", name(file)), 2)
+    })
+}
+
 fn explain(file: &str, record: Option<&str>) -> Outcome {
     let number = record.map(whole).transpose()?;
     let bytes = bytes_of(file)?;
     let all = shown(&bytes, port::list_file).or_else(|e| failed(format!("{file}: {e}")))?;
     let text = match number {
         None => explain::doubtful(&all),
-        Some(n) => match all.iter().find(|shown| shown.item.number as u64 == n) {
-            Some(shown) => explain::named(shown),
-            None => {
-                let last = all.last().map_or(0, |shown| shown.item.number);
-                let why = format!("{}: no record {n}: the file has {last}", name(file));
-                return Err(Failure(why, 2));
-            }
-        },
+        Some(n) => explain::named(of_number(file, &all, n)?),
     };
     emit(text.as_bytes()).map(|()| ExitCode::SUCCESS)
+}
+
+fn draw(file: &str, record: &str) -> Outcome {
+    let number = whole(record)?;
+    let bytes = bytes_of(file)?;
+    let all = shown(&bytes, port::list_file).or_else(|e| failed(format!("{file}: {e}")))?;
+    let picture = draw::drawn(of_number(file, &all, number)?)
+        .or_else(|why| failed(format!("{}: record {number} is not drawn: {why}", name(file))))?;
+    emit(picture.as_bytes()).map(|()| ExitCode::SUCCESS)
 }
 
 fn list(file: &str) -> Outcome {

@@ -1,6 +1,7 @@
 //! The layers as a picture: the lowest at the foot, a crate above all that it rests on, and from each
 //! crate one line up to those that rest on it.
 use crate::people::architecture::Layers;
+use crate::people::svg::{WIDTH, document, escaped, wrapped};
 use std::fmt::Write;
 
 /// From row to row, the height of a box, and the room for the titles.
@@ -9,10 +10,15 @@ const HEIGHT: f64 = 22.0;
 const TITLES: f64 = 245.0;
 /// Between two boxes or lines of a row, and at the edges.
 const APART: f64 = 16.0;
-/// Of a character.
-const WIDTH: f64 = 7.3;
 const COLOURS: [&str; 7] =
     ["#1b6ca8", "#b3541e", "#2e7d32", "#7b3fa0", "#a8862b", "#b0305a", "#3f6f75"];
+
+const STYLE: &str = "\
+text { font: 12px monospace; text-anchor: middle; fill: #1c2733; }
+.title { font: 11px sans-serif; text-anchor: start; fill: #4a5866; }
+.box { fill: #ffffff; stroke-width: 1.4; }
+path { fill: none; stroke-width: 1.4; }
+";
 
 /// Where a row has the box of a crate, or its line on the way up.
 struct Spot {
@@ -210,22 +216,6 @@ fn apart(wanted: &[f64], half: &[f64]) -> Vec<f64> {
     pooled.zip(&room).map(|(x, before)| x + before).collect()
 }
 
-/// Words in lines of at most so many characters.
-fn wrapped(text: &str, most: usize) -> Vec<String> {
-    let mut lines = vec![String::new()];
-    for word in text.split(' ') {
-        let last = lines.len() - 1;
-        match lines[last].is_empty() {
-            true => lines[last] += word,
-            false if lines[last].len() + 1 + word.len() <= most => {
-                lines[last] += &format!(" {word}")
-            }
-            false => lines.push(word.to_string()),
-        }
-    }
-    lines
-}
-
 /// The y of a row's middle.
 fn middle(rows: usize, row: usize) -> f64 {
     PITCH * ((rows - 1 - row) as f64 + 0.5)
@@ -246,6 +236,7 @@ fn stripes(layers: &Layers, row: &[usize], width: f64) -> String {
         );
         for (n, line) in wrapped(&format!("{title}: {words}"), 38).iter().enumerate() {
             let y = y + 14.0 + 13.0 * n as f64;
+            let line = escaped(line);
             let _ = writeln!(text, "<text class=\"title\" x=\"8\" y=\"{y}\">{line}</text>");
         }
     }
@@ -301,19 +292,8 @@ pub fn drawn(layers: &Layers) -> String {
     graph.move_together();
     let width = graph.spots.iter().map(|s| s.x + s.half).fold(0.0, f64::max) + APART;
     let height = PITCH * graph.rows.len() as f64;
-    format!(
-        "<svg xmlns=\"http://www.w3.org/2000/svg\" width=\"{width:.0}\" height=\"{height}\" viewBox=\"0 0 {width:.0} {height}\">\n\
-         <!-- Made by `hall documents` from crates.txt. -->\n\
-         <style>\n\
-         text {{ font: 12px monospace; text-anchor: middle; fill: #1c2733; }}\n\
-         .title {{ font: 11px sans-serif; text-anchor: start; fill: #4a5866; }}\n\
-         .box {{ fill: #ffffff; stroke-width: 1.4; }}\n\
-         path {{ fill: none; stroke-width: 1.4; }}\n\
-         </style>\n{}{}{}</svg>\n",
-        stripes(layers, &row, width),
-        lines(&graph),
-        boxes(layers, &graph, &row),
-    )
+    let body = [stripes(layers, &row, width), lines(&graph), boxes(layers, &graph, &row)].concat();
+    document([width, height], "Made by `hall documents` from crates.txt.", STYLE, &body)
 }
 
 #[cfg(test)]

@@ -1,5 +1,6 @@
 //! The question of a record, as people write it.
 use crate::people::number::{shortest, word};
+use crate::truth::contact::Contact;
 use crate::truth::hall_file::Record;
 
 /// The equation, its highest power first.
@@ -11,8 +12,16 @@ pub fn equation(record: &Record) -> String {
             let names = ["cos 2t", "sin 2t", "cos t", "sin t", ""].map(str::to_string);
             sum(terms.iter().copied().zip(names))
         }
+        Record::Contact(contact) => return from_centre(contact),
     };
     format!("{sum} = 0")
+}
+
+/// The ball's distance from the circle's centre is the radius.
+fn from_centre(contact: &Contact) -> String {
+    let [x, y] = [contact.x, contact.y].map(|path| polynomial(&path, "t"));
+    let [cx, cy] = contact.centre.map(shortest);
+    format!("|({x}, {y}) - ({cx}, {cy})| = {}", shortest(contact.radius))
 }
 
 /// The tolerances, each behind its name.
@@ -22,7 +31,9 @@ pub fn tolerances(record: &Record) -> String {
         Record::Quadratic { confusion, angular, .. } => {
             format!("confusion {}, angular {}", word(*confusion), word(*angular))
         }
-        Record::Crank { confusion, .. } => format!("confusion {}", word(*confusion)),
+        Record::Crank { confusion, .. } | Record::Contact(Contact { confusion, .. }) => {
+            format!("confusion {}", word(*confusion))
+        }
     }
 }
 
@@ -77,6 +88,11 @@ mod tests {
             ),
             ("crank 1 0 0 1 0 0", "confusion 1", "cos t = 0"),
             ("crank 1 0 0 0 0 1", "confusion 1", "1 = 0"),
+            (
+                "contact 1 4 0 0 -10 2 -1 1 0 5",
+                "confusion 1",
+                "|(4, -t^2 + 2 t - 10) - (1, 0)| = 5",
+            ),
         ];
         for (line, names, text) in known {
             let record = &read(line.as_bytes()).unwrap()[0];

@@ -66,7 +66,16 @@ pub struct Place {
     pub multiplicity: u32,
     /// t of a crank's root, in degrees.
     pub angle: Option<f64>,
+    /// Of a contact.
+    pub ball: Option<Ball>,
     pub doubtful: bool,
+}
+
+/// Where a ball is.
+pub struct Ball {
+    pub at: [f64; 2],
+    /// D - R: its distance from the circle, below 0 inside.
+    pub gap: f64,
 }
 
 /// All records of a file; an error where the lister's lines are not those of its records.
@@ -89,13 +98,17 @@ fn shown_record(bytes: &[u8], item: Item, line: &Line) -> Shown {
         tolerances: text(question::tolerances),
         answer: heading(&line.answer),
         refusal,
-        roots: places(&coeffs, &line.answer),
+        roots: places(&item, &coeffs, &line.answer),
         coeffs,
         item,
     }
 }
 
-fn places(coeffs: &[f64], answer: &Answer) -> Vec<Place> {
+fn places(item: &Item, coeffs: &[f64], answer: &Answer) -> Vec<Place> {
+    let contact = match &item.record {
+        Ok(Record::Contact(contact)) => Some(contact),
+        _ => None,
+    };
     let place = |(place, times): (f64, Option<u32>)| {
         let angle = match answer {
             Answer::Crank(k, _) => Some(degrees(*k, place)),
@@ -105,8 +118,11 @@ fn places(coeffs: &[f64], answer: &Answer) -> Vec<Place> {
             Answer::Quadratic(Solution::One(_)) => 2,
             _ => times.unwrap_or(1),
         };
-        let doubtful = Look::at(coeffs, place, multiplicity).doubtful();
-        Place { place, times, multiplicity, angle, doubtful }
+        let ball = contact.map(|c| Ball { at: c.ball(place), gap: c.gap(place) });
+        // a ball within confusion of the circle is a contact by the customer's word
+        let touches = contact.is_some_and(|c| c.touches(place));
+        let doubtful = !touches && Look::at(coeffs, place, multiplicity).doubtful();
+        Place { place, times, multiplicity, angle, ball, doubtful }
     };
     let mut all: Vec<Place> = answer.roots().into_iter().map(place).collect();
     all.sort_by(|a, b| a.angle.partial_cmp(&b.angle).unwrap_or(Ordering::Equal));
@@ -151,6 +167,7 @@ fn equation(record: &Record, answer: &Answer) -> Vec<f64> {
         (Record::Quadratic { abc: [a, b, c], .. }, _) => vec![*c, *b, *a],
         (Record::Crank { terms, .. }, Answer::Crank(k, _)) => quartic(*terms, *k).to_vec(),
         (Record::Crank { .. }, _) => vec![],
+        (Record::Contact(contact), _) => contact.coefficients().to_vec(),
     }
 }
 

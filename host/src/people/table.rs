@@ -1,7 +1,7 @@
 //! What `show` found, as a table in 100 columns, and as CSV.
 use crate::compare::bits;
 use crate::people::number::shortest;
-use crate::people::show::{Place, Shown, nine_decimals};
+use crate::people::show::{Ball, Place, Shown, nine_decimals};
 
 /// No line is longer, but for a word that is.
 pub const COLUMNS: usize = 100;
@@ -61,8 +61,20 @@ fn rows(shown: &Shown) -> Vec<Row> {
             false => std::mem::take(&mut answer),
         };
         all.push(Row::Cells(cells(front, root)));
+        all.extend(root.ball.as_ref().map(|ball| Row::Text(at(ball))));
     }
     all
+}
+
+/// Where a ball is at a contact.
+fn at(ball: &Ball) -> String {
+    let [x, y, gap] = numbers(ball);
+    format!("    ball at x = {x}, y = {y}, D - R = {gap}")
+}
+
+/// x, y and D - R.
+fn numbers(Ball { at: [x, y], gap }: &Ball) -> [String; 3] {
+    [*x, *y, *gap].map(shortest)
 }
 
 /// The line of a refusal.
@@ -129,7 +141,7 @@ pub fn in_columns(text: &str) -> String {
 }
 
 const NAMES: &str = "record,byte,kind,tolerances,question,answer,refused,why,place,bits,times,\
-                     degrees,radians,doubt\n";
+                     degrees,radians,x,y,distance,doubt\n";
 
 /// The same as comma-separated values: a line for each root, or one for a record without any.
 pub fn csv(all: &[Shown]) -> String {
@@ -142,17 +154,22 @@ fn csv_record(shown: &Shown) -> String {
     let place = [item.number, item.at].map(|n| n.to_string());
     let rest = [kind, &tolerances[..], question, answer, &number, &why].map(str::to_string);
     let front = [&place[..], &rest].concat();
-    let line = |root: [String; 5], mark: &str| {
-        let fields = [&front[..], &root, &[mark.to_string()]].concat();
+    let line = |root: [String; 9]| {
+        let fields = [&front[..], &root].concat();
         fields.iter().map(|field| quoted(field)).collect::<Vec<_>>().join(",") + "\n"
     };
     match &roots[..] {
-        [] => line(Default::default(), ""),
-        roots => {
-            let mark = |root: &Place| if root.doubtful { DOUBTFUL } else { "" };
-            roots.iter().map(|root| line(columns(root), mark(root))).collect()
-        }
+        [] => line(Default::default()),
+        roots => roots.iter().map(|root| line(csv_root(root))).collect(),
     }
+}
+
+/// What of a line belongs to one root.
+fn csv_root(root: &Place) -> [String; 9] {
+    let [place, bits, times, degrees, radians] = columns(root);
+    let mark = if root.doubtful { DOUBTFUL } else { "" }.to_string();
+    let [x, y, gap] = root.ball.as_ref().map(numbers).unwrap_or_default();
+    [place, bits, times, degrees, radians, x, y, gap, mark]
 }
 
 /// A field; in quotes where it has to be.

@@ -1,8 +1,9 @@
 //! Records as lines of text: `list TOL c0 c1 ..`, `quad CONFUSION ANGULAR a b c`,
-//! `crank CONFUSION a2 b2 c1 d1 e`, and `slider R L X` for the crank of these lengths; '#' starts a
-//! comment. Capital letters count as small ones.
+//! `crank CONFUSION a2 b2 c1 d1 e`, `contact CONFUSION x0 x1 x2 y0 y1 y2 cx cy R`, and `slider R L X`
+//! for the crank of these lengths; '#' starts a comment. Capital letters count as small ones.
 use crate::people::number::{character, number, word};
 use crate::people::slider;
+use crate::truth::contact::Contact;
 use crate::truth::hall_file::{Kind, MOST_BYTES, MOST_COEFFICIENTS, Record};
 use std::fmt;
 
@@ -78,7 +79,7 @@ fn record(words: &[&str]) -> Result<Option<Record>, Fault> {
     if kind.is_none() && name != slider::WORD {
         let odd = first.chars().find(|c| !c.is_ascii_graphic());
         let odd = odd.map(|c| format!(" ({})", character(c))).unwrap_or_default();
-        let known = "a line begins with list, quad, crank or slider";
+        let known = "a line begins with list, quad, crank, contact or slider";
         return fault(first, format!("no kind of record: {known}{odd}"));
     }
     let numbers = rest.iter().map(|word| number(word).or_else(|why| fault(word, why)));
@@ -94,6 +95,10 @@ fn record(words: &[&str]) -> Result<Option<Record>, Fault> {
             let form = "crank CONFUSION a2 b2 c1 d1 e";
             let [confusion, a2, b2, c1, d1, e] = exactly(words, &numbers, form)?;
             Ok(Record::Crank { confusion, terms: [a2, b2, c1, d1, e] })
+        }
+        Some(Kind::Contact) => {
+            let form = "contact CONFUSION x0 x1 x2 y0 y1 y2 cx cy R";
+            Ok(Record::Contact(Contact::new(exactly(words, &numbers, form)?)))
         }
         None => crank_of_slider(words, &numbers),
     }

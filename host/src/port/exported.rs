@@ -136,6 +136,10 @@ exported! {
     /// k of the crank equation, and then what its inquiry shows, as for a list, thirteen doubles.
     fn crank_inquire(confusion: f64, a2: f64, b2: f64, c1: f64, d1: f64, e: f64, replies: &[u8],
         out: &mut [u8]) -> u64;
+    /// The list of a path's contacts with a circle, every question replied as its numbers say; nine
+    /// doubles as for `real_roots`.
+    fn pin_contact(confusion: f64, x0: f64, x1: f64, x2: f64, y0: f64, y1: f64, y2: f64, cx: f64,
+        cy: f64, r: f64, out: &mut [u8]) -> u64;
     /// What the inquiry about the doubles in `coeffs` shows after these replies, one byte each and 0
     /// for no: 0, or 4 where a reply was refused; 1 and the place where it asks, 0 and 0 where not;
     /// and the list as for `real_roots`; twelve doubles.

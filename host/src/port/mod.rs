@@ -3,6 +3,7 @@
 use crate::compare::answer::Answer;
 
 pub mod clustering;
+pub mod contacts;
 pub mod exported;
 pub mod inquiries;
 pub mod quadratics;
@@ -174,10 +175,15 @@ pub fn factorize(a: [f64; 5], d: u64, depth: u32) -> [f64; 10] {
     numbers(|out| exported::factorize(&forty(a), d, depth, out))
 }
 
-/// `real_roots`'s answer.
-pub fn real_roots(coeffs: &[f64], tol: f64) -> Answer {
-    match answered::<9>(|out| of_bytes(coeffs, |from| exported::real_roots(from, tol, out))) {
+/// The list in nine doubles, or its refusal.
+fn list(fill: impl FnOnce(&mut [u8]) -> u64) -> Answer {
+    match answered::<9>(fill) {
         Ok(list) => Answer::read(&list),
         Err(refusal) => Answer::new(refusal, &[]),
     }
+}
+
+/// `real_roots`'s answer.
+pub fn real_roots(coeffs: &[f64], tol: f64) -> Answer {
+    list(|out| of_bytes(coeffs, |from| exported::real_roots(from, tol, out)))
 }

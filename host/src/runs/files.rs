@@ -13,10 +13,11 @@ use crate::truth::lister::{Answer, Line, Reference, line};
 use std::fmt::Write;
 
 /// Of the records of all files.
-pub const CASES: [&str; 12] = [
+pub const CASES: [&str; 16] = [
     "lists",
     "quadratics",
     "cranks",
+    "contacts",
     "with no whole known mark",
     "refused 1",
     "refused 2",
@@ -26,15 +27,20 @@ pub const CASES: [&str; 12] = [
     "refused 7",
     "refused 8",
     "refused 9",
+    "refused 10",
+    "refused 11",
+    "refused 12",
 ];
+
+/// The numbers of the last of them.
+const REFUSED: [u8; 11] = [1, 2, 3, 5, 6, 7, 8, 9, 10, 11, 12];
 
 fn cases(line: &Line) -> [bool; CASES.len()] {
     let kind = |k| line.kind == Some(k);
     let refused = |n| line.answer == Answer::Refused(n);
-    let [lists, quadratics, cranks] = Kind::ALL.map(kind);
-    let [one, two, three, five, six, seven, eight, nine] = [1, 2, 3, 5, 6, 7, 8, 9].map(refused);
-    let none = line.kind.is_none();
-    [lists, quadratics, cranks, none, one, two, three, five, six, seven, eight, nine]
+    let known = Kind::ALL.into_iter().map(kind).chain([line.kind.is_none()]);
+    let mut all = known.chain(REFUSED.into_iter().map(refused));
+    std::array::from_fn(|_| all.next().expect("a case"))
 }
 
 /// Bytes that no listing has: what the port leaves as it was.

@@ -3,6 +3,7 @@
 //! `doubts` holds what `hall show` marks against the exact roots.
 #[cfg(feature = "causes")]
 pub mod causes;
+pub mod contacts;
 #[cfg(feature = "coverage")]
 pub mod coverage;
 pub mod cranks;

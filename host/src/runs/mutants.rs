@@ -9,14 +9,17 @@ use crate::inputs::quadratics::{quadratic, solution};
 use crate::inputs::random::Random;
 use crate::people::show::whole_listing;
 use crate::port;
+use crate::port::contacts::pin_contact;
 use crate::port::inquiries::Shown;
 use crate::port::quadratics::{self, Solution};
+use crate::runs::contacts;
 use crate::runs::cranks::{self, Crank};
 use crate::runs::files;
 use crate::runs::inquiries::{Inquiry, List, REPLIES, Ran, Touches, recorded, same_places};
 use crate::runs::lists::{shown, tolerance_for};
 use crate::runs::trees::{REFERENCE, Tree, tree};
 use crate::stored::telling::{self, Telling};
+use crate::truth::contact::Contact;
 use crate::truth::lister::{finite, refusal, trimmed};
 use crate::truth::reference::own;
 use std::sync::atomic::{AtomicUsize, Ordering};
@@ -34,7 +37,8 @@ pub fn chosen() -> usize {
 }
 
 /// The sorts of inputs.
-const SORTS: [&str; 6] = ["lists", "inquiries", "cranks", "quadratics", "functions", "files"];
+const SORTS: [&str; 7] =
+    ["lists", "inquiries", "cranks", "quadratics", "functions", "files", "contacts"];
 
 enum Input {
     List(Vec<f64>, f64),
@@ -44,6 +48,7 @@ enum Input {
     Quadratic([f64; 3], [f64; 2], Solution, f64),
     Pieces(Box<Pieces>),
     File(Vec<u8>),
+    Contact(Contact),
 }
 
 /// What port and copies answer to it.
@@ -110,6 +115,9 @@ impl Input {
         if sort == 5 {
             return Input::File(files::nth(r, n));
         }
+        if sort == 6 {
+            return Input::Contact(contacts::made_record(r, n));
+        }
         if sort == 3 {
             let (abc, tol) = quadratic(r, (n % polynomials::KINDS.len() as u64) as usize);
             let (s, x) = solution(r);
@@ -137,6 +145,9 @@ impl Input {
             }
             Input::Pieces(p) => Given::Bits(p.by_port().into_iter().map(bits).collect()),
             Input::File(bytes) => Given::Listing(whole_listing(bytes, port::list_file)),
+            Input::Contact(contact) => {
+                Given::Listing(pin_contact(contact.numbers()).text().into_bytes())
+            }
         }
     }
 
@@ -158,6 +169,12 @@ impl Input {
             Input::File(bytes) => {
                 Given::Listing(own::lister::listing(bytes, &own::lister::Reference))
             }
+            Input::Contact(contact) => {
+                let copy = own::contact::Contact::new(contact.numbers());
+                let record = own::hall_file::Record::Contact(copy);
+                let answer = own::lister::answer(&record, &own::lister::Reference);
+                Given::Listing(answer.to_string().into_bytes())
+            }
         }
     }
 
@@ -170,6 +187,10 @@ impl Input {
                 format!("{} ({})", shown(&all, tol[0]), s.0)
             }
             Input::Pieces(p) => shown(&p.list.0[..=p.list.1 as usize], p.tol),
+            Input::Contact(contact) => {
+                let [confusion, ref numbers @ ..] = contact.numbers();
+                shown(numbers, confusion)
+            }
             Input::File(bytes) => {
                 let front = &bytes[..bytes.len().min(64)];
                 front.iter().map(|b| format!("{b:02X}")).collect()
@@ -198,11 +219,13 @@ impl Mutant {
     }
 
     /// Mistakes in equation.rs are not in lists, others not in quadratics or in cranks, which are
-    /// lists of five, and those of the hall file in files alone.
+    /// lists of five, those of the hall file in files and contacts, and those of contacts
+    /// in contacts alone.
     fn asks_for(&self, sort: usize) -> bool {
         match self.file {
             "equation.rs" => [2, 3].contains(&sort),
-            "hall_file.rs" | "lister.rs" => sort == 5,
+            "hall_file.rs" | "lister.rs" => sort >= 5,
+            "contact.rs" => sort == 6,
             _ => [0, 1, 4].contains(&sort),
         }
     }
@@ -244,18 +267,23 @@ fn try_sort(all: &mut [Mutant], sort: usize, count: u64, seed: u64) {
     }
 }
 
-/// The stored inputs.
-fn try_stored(all: &mut [Mutant]) {
-    for Telling { name, tol, numbers } in telling::LISTS {
+/// A stored input, and what it shows.
+fn stored() -> impl Iterator<Item = (&'static str, Input)> {
+    let lists = telling::LISTS.iter().flat_map(|Telling { name, tol, numbers }| {
         let a: Vec<f64> = numbers.iter().copied().map(f64::from_bits).collect();
         let tol = f64::from_bits(*tol);
-        let inputs = [Input::List(a.clone(), tol), Input::Inquiry(a, tol)];
-        for input in inputs {
-            let given = input.by_port();
-            for mutant in all.iter_mut().filter(|m| m.told.is_none()) {
-                if !mutant.same(&input, &given) {
-                    mutant.told = Some(name);
-                }
+        [(*name, Input::List(a.clone(), tol)), (*name, Input::Inquiry(a, tol))]
+    });
+    let contacts = telling::contacts().map(|(name, contact)| (name, Input::Contact(contact)));
+    lists.chain(contacts)
+}
+
+fn try_stored(all: &mut [Mutant]) {
+    for (name, input) in stored() {
+        let given = input.by_port();
+        for mutant in all.iter_mut().filter(|m| m.told.is_none()) {
+            if !mutant.same(&input, &given) {
+                mutant.told = Some(name);
             }
         }
     }

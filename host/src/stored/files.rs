@@ -4,6 +4,7 @@ use crate::inputs::hall_files::{damage, records};
 use crate::inputs::random::Random;
 use crate::people::progress::Progress;
 use crate::people::text;
+use crate::stored::telling;
 use crate::truth::hall_file::{MOST_BYTES, Record, file};
 use crate::truth::lister::{Reference, listing};
 use std::fs;
@@ -152,8 +153,42 @@ quad 2^-30 -1 0 1 1
 crank 2^-30 0 0 nan 0 0
 crank 2^-30 1e308 1e308 1e308 1e308 1e308
 crank 2^-30 0 0 0 0 0
+contact inf 0 1 0 0 0 0 3 0 1
+contact 2^-30 0 1 0 0 0 0 3 nan 1
+contact 2^-30 0 1 0 0 0 0 3 0 0
+contact 2^-30 0 1 0 0 0 0 3 0 -0
+contact 2^-30 0 1 0 0 0 0 3 0 -1
+contact 2^-30 0 1e200 0 0 0 0 3 0 1
+contact 2^-30 0 0 0 0 0 0 3 0 1
 list 2^-30 2 -3 1
 ";
+
+/// Through a pin, past it, grazing it, and beside it by more or less than confusion.
+const CONTACTS: &str = "\
+contact 2^-30 0 1 0 0 0 0 3 0 1
+contact 2^-30 0 1 0 2 0 0 3 0 1
+contact 2^-30 0 1 0 1 0 0 3 0 1
+contact 1e-7 0 0.001 0 1.00000005 0 0 3 0 1
+contact 1e-7 0 0.001 0 0.99999995 0 0 3 0 1
+contact 1e-7 0 0.001 0 1.0000002 0 0 3 0 1
+# bent: from far, from the centre, turning back before the pin
+contact 2^-30 0 8 -1 0 0.5 0 12 1 1
+contact 2^-30 3 1 0.25 0 1 -0.5 3 0 1
+contact 2^-30 0 2 -1 0 0 0 3 0 1
+contact 2^-30 0 4 -1 0 0 0 3 0 1
+contact 2^-30 0 4 -1 0 0 0 5 0 1
+# the tests in their order: 10, 11, 12, 2
+contact nan 0 1e200 0 0 0 0 3 0 0
+contact 2^-30 0 1e200 0 0 0 0 3 0 0
+contact 2^-30 0 0 0 0 0 0 3 0 1e200
+contact 2^-30 0 2^-600 0 0 0 0 3 0 1
+";
+
+/// The same, with what tells a mistake.
+fn contacts() -> Vec<u8> {
+    let telling = telling::contacts().map(|(_, contact)| Record::Contact(contact));
+    [of_text(CONTACTS), file(&telling.collect::<Vec<_>>())].concat()
+}
 
 /// The bytes of a text's records.
 fn of_text(lines: &str) -> Vec<u8> {
@@ -182,7 +217,7 @@ pub fn of_size(size: usize) -> Vec<u8> {
     file(&records)
 }
 
-/// Tolerances of every kind on one double root, one pair and one crank.
+/// Tolerances of every kind on one double root, one pair, one crank and one contact.
 fn tolerances() -> Vec<u8> {
     let mut lines = String::new();
     for tol in
@@ -191,6 +226,7 @@ fn tolerances() -> Vec<u8> {
         lines += &format!("list {tol} 1 -2 1\nlist {tol} 3 -7 5 -1\nlist {tol} 1.0001 0 2 0 1\n");
         lines +=
             &format!("quad {tol} {tol} 1 2 1\nquad {tol} 0 1 -3 2\ncrank {tol} 1 0 0 0 0.9999\n");
+        lines += &format!("contact {tol} 0 0.001 0 1.00000005 0 0 3 0 1\n");
     }
     of_text(&lines)
 }
@@ -234,7 +270,7 @@ fn ends() -> Vec<Named> {
         named("unknown_mark", behind(b"XX")),
         named("unknown_mark_alone", b"\0\0"),
         named("lower_case_mark", behind(b"pl\x01")),
-        named("marks_exchanged", behind(b"LPDQGT")),
+        named("marks_exchanged", behind(b"LPDQGTCP")),
         named("no_count", behind(b"PL")),
         named("count_0", whole(&[]).bytes()),
         named("count_32", count(32)),
@@ -253,7 +289,12 @@ fn ends() -> Vec<Named> {
 /// A record of each kind behind a whole one, cut at each of its bytes.
 fn cuts() -> Vec<Named> {
     let first = of_text("list 2^-30 -6 2");
-    let lines = ["list 2^-30 7", "quad 2^-30 2^-30 1 -3 2", "crank 2^-30 0 0 1 0 0"];
+    let lines = [
+        "list 2^-30 7",
+        "quad 2^-30 2^-30 1 -3 2",
+        "crank 2^-30 0 0 1 0 0",
+        "contact 2^-30 0 1 0 0 0 0 3 0 1",
+    ];
     let cut = |line: &&str| {
         let (first, bytes) = (first.clone(), of_text(line));
         let kind = String::from_utf8_lossy(&bytes[..2]).to_lowercase();
@@ -287,6 +328,7 @@ pub fn files() -> Vec<Named> {
         named("fine_points", of_text(FINE_POINTS)),
         named("kept", of_text(KEPT)),
         named("refused", of_text(REFUSED)),
+        named("contacts", contacts()),
         named("tolerances", tolerances()),
         named("long_lists", long_lists()),
     ];

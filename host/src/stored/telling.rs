@@ -1,4 +1,7 @@
-//! Stored lists that tell mistakes which made lists seldom or never show.
+//! Stored lists and contacts that tell mistakes which made ones seldom or never show.
+use crate::people::text;
+use crate::truth::contact::Contact;
+use crate::truth::hall_file::Record;
 
 /// What the list shows, the tolerance's bits, and the coefficients'.
 pub struct Telling {
@@ -60,3 +63,36 @@ pub const LISTS: &[Telling] = &[
         ],
     },
 ];
+
+/// What a contact shows, and its line of text. Where D - R is what decides, confusion is |D - R| at
+/// the place asked about, or a double beside it.
+pub const CONTACTS: &[(&str, &str)] = &[
+    ("a yes at D = R", "contact 0 0.5 -1.2 0 1.2 0.5 0 0 0 1.3"),
+    ("confusion below 0", "contact -1 0.5 -1.2 0 1.2 0.5 0 0 0 1.3"),
+    ("confusion below 0, a pair", "contact -1 0.8 -1.5 0 1.5 0.8 0 0 0 1.7"),
+    ("2(X1X2 + Y1Y2)", "contact 2^-30 0 5e153 5e153 0 9.7e153 -9.7e153 3 0 1"),
+    ("2(X0X1 + Y0Y1)", "contact 2^-30 5e153 5e153 0 9.7e153 -9.7e153 0 0 0 1"),
+    ("12 before 2", "contact 2^-30 0.5 0 0 -0.25 0 0 0 0 1e200"),
+    ("R² last", "contact 0 0.1 1 0 0.7 1 0 0 0 0.3"),
+    (
+        "X by Horner's rule",
+        "contact 0x3F81A70FDC5F34E4 0x3FB9D7850FD8B4EC 0xBFD6BF5118CBEEB2 0x3FE1F27066ED032E \
+         0xBFE491E2EBBA592A 0x3FD124450CC5A1F8 0xBFE1260D372EAB28 0x3FA1B0561A993100 \
+         0xBFE39279C6E80546 0x3F93274A2C2D5ADE",
+    ),
+    (
+        "X² + Y² rounded",
+        "contact 0x38BA69E14C725F30 0xBC32CA7431F58795 0 0x3C1C84E691EE525A 0 0x3C300F2634804103 \
+         0 0 0 0x3C32C7115129D896",
+    ),
+    ("|D - R| at confusion", "contact 0.5 1 0 0 0 1 0 0 0 0.5"),
+    ("|D - R| beyond confusion", "contact 0x3FDFFFFFFFFFFFFF 1 0 0 0 1 0 0 0 0.5"),
+];
+
+/// The same as records.
+pub fn contacts() -> impl Iterator<Item = (&'static str, Contact)> {
+    CONTACTS.iter().map(|(name, line)| match text::read(line.as_bytes()).as_deref() {
+        Ok([Record::Contact(contact)]) => (*name, *contact),
+        other => panic!("{name}: {other:?}"),
+    })
+}

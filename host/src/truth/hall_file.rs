@@ -1,6 +1,7 @@
 //! The hall file of document 01: records to bytes, and bytes to records or to the number under which
 //! reading ends.
 
+use crate::truth::contact::Contact;
 use crate::truth::refusals;
 
 /// A longer file is refused whole.
@@ -15,10 +16,11 @@ pub enum Kind {
     List,
     Quadratic,
     Crank,
+    Contact,
 }
 
 impl Kind {
-    pub const ALL: [Kind; 3] = [Kind::List, Kind::Quadratic, Kind::Crank];
+    pub const ALL: [Kind; 4] = [Kind::List, Kind::Quadratic, Kind::Crank, Kind::Contact];
 
     /// The two bytes before each record.
     pub fn mark(self) -> &'static str {
@@ -26,6 +28,7 @@ impl Kind {
             Kind::List => "PL",
             Kind::Quadratic => "QD",
             Kind::Crank => "TG",
+            Kind::Contact => "PC",
         }
     }
 
@@ -35,6 +38,7 @@ impl Kind {
             Kind::List => "list",
             Kind::Quadratic => "quad",
             Kind::Crank => "crank",
+            Kind::Contact => "contact",
         }
     }
 
@@ -50,6 +54,7 @@ pub enum Record {
     List { tolerance: f64, coeffs: Vec<f64> },
     Quadratic { confusion: f64, angular: f64, abc: [f64; 3] },
     Crank { confusion: f64, terms: [f64; 5] },
+    Contact(Contact),
 }
 
 impl Record {
@@ -58,6 +63,7 @@ impl Record {
             Record::List { .. } => Kind::List,
             Record::Quadratic { .. } => Kind::Quadratic,
             Record::Crank { .. } => Kind::Crank,
+            Record::Contact(_) => Kind::Contact,
         }
     }
 
@@ -69,6 +75,7 @@ impl Record {
                 [&[*confusion, *angular], &abc[..]].concat()
             }
             Record::Crank { confusion, terms } => [&[*confusion], &terms[..]].concat(),
+            Record::Contact(contact) => contact.numbers().to_vec(),
         }
     }
 
@@ -152,6 +159,7 @@ fn behind_mark(kind: Kind, bytes: &[u8]) -> Result<Record, u8> {
             let [confusion, a2, b2, c1, d1, e] = array(bytes)?;
             Ok(Record::Crank { confusion, terms: [a2, b2, c1, d1, e] })
         }
+        Kind::Contact => Ok(Record::Contact(Contact::new(array(bytes)?))),
     }
 }
 
@@ -184,13 +192,14 @@ mod tests {
             Record::List { tolerance: 0.5, coeffs: vec![2.0, -3.0, 1.0] },
             Record::Quadratic { confusion: 0.25, angular: -0.0, abc: [1.0, -3.0, f64::NAN] },
             Record::Crank { confusion: f64::INFINITY, terms: [0.0, 0.0, 1.0, 0.0, 7.0] },
+            Record::Contact(Contact::new(std::array::from_fn(|i| i as f64 - 4.0))),
         ]
     }
 
     #[test]
     fn sizes() {
         let sizes = one_of_each().iter().map(Record::size).collect::<Vec<_>>();
-        assert_eq!(sizes, [35, 42, 50]);
+        assert_eq!(sizes, [35, 42, 50, 82]);
         for record in one_of_each() {
             assert_eq!(record.size(), record.bytes().len());
         }
@@ -200,7 +209,7 @@ mod tests {
     fn back_from_bytes() {
         let bytes = file(&one_of_each());
         let items = items(&bytes);
-        assert_eq!(items.iter().map(|i| i.at).collect::<Vec<_>>(), [0, 35, 77]);
+        assert_eq!(items.iter().map(|i| i.at).collect::<Vec<_>>(), [0, 35, 77, 127]);
         let back: Vec<Record> = items.into_iter().map(|i| i.record.unwrap()).collect();
         assert_eq!(file(&back), bytes);
     }

@@ -54,6 +54,8 @@ pub trait Solver {
     fn quadratic(&self, abc: [f64; 3], confusion: f64, angular: f64) -> Solution;
     /// `solve_trig`, every question replied no
     fn crank(&self, terms: [f64; 5], confusion: f64) -> Turned;
+    /// `real_roots_touching`
+    fn touching(&self, coeffs: &[f64], tolerance: f64, touches: &dyn Fn(f64) -> bool) -> Vec<Root>;
 }
 
 /// What stands behind the mark of a line.
@@ -152,6 +154,14 @@ pub fn answer(record: &Record, solver: &impl Solver) -> Answer {
                 _ => Answer::Crank(k, roots),
             }
         }
+        Record::Contact(contact) => match contact.refusal() {
+            0 => {
+                let touches = |t| contact.touches(t);
+                let coeffs = contact.coefficients();
+                Answer::List(solver.touching(&coeffs, contact.confusion, &touches))
+            }
+            number => Answer::Refused(number),
+        },
     }
 }
 
@@ -199,7 +209,9 @@ fn read_line(text: &str) -> Option<Line> {
 fn read_answer(kind: Option<Kind>, words: &[&str]) -> Option<Answer> {
     match (kind, words) {
         (_, ["refused", n]) => Some(Answer::Refused(n.parse().ok()?)),
-        (Some(Kind::List), ["ok", _, roots @ ..]) => Some(Answer::List(read_roots(roots)?)),
+        (Some(Kind::List | Kind::Contact), ["ok", _, roots @ ..]) => {
+            Some(Answer::List(read_roots(roots)?))
+        }
         (Some(Kind::Crank), ["ok", k, _, roots @ ..]) => {
             Some(Answer::Crank(k.parse().ok()?, read_roots(roots)?))
         }
@@ -267,6 +279,17 @@ macro_rules! solver {
                 let roots = roots.iter().map(|r| (r.value, r.multiplicity)).collect();
                 Turned { k, quartic, roots }
             }
+
+            fn touching(
+                &self,
+                coeffs: &[f64],
+                tolerance: f64,
+                touches: &dyn Fn(f64) -> bool,
+            ) -> Vec<Root> {
+                use crate::truth::reference::$tree::poly;
+                let roots = poly::real_roots_touching(coeffs, tolerance, touches);
+                roots.iter().map(|r| (r.value, r.multiplicity)).collect()
+            }
         }
     };
 }
@@ -285,7 +308,7 @@ mod tests {
         let text = "1 PL ok 2 3FF0000000000000 1 4000000000000000 1\n2 PL refused 2\n\
                     3 QD two 3FF0000000000000 4000000000000000\n4 QD degenerate\n\
                     5 TG ok 4 2 BFF0000000000000 1 3FF0000000000000 1\n6 TG ok 7 0\n\
-                    7 -- refused 6\n";
+                    7 PC ok 1 3FF0000000000000 2\n8 PC refused 11\n9 -- refused 6\n";
         let read = lines(text.as_bytes()).unwrap();
         assert_eq!(read.iter().map(|line| format!("{line}\n")).collect::<String>(), text);
         assert_eq!(lines(b""), Ok(vec![]));
@@ -309,6 +332,7 @@ mod tests {
             "1 PL refused\n",
             "1 -- ok 0\n",
             "1 TG ok 0\n",
+            "1 PC ok 4 0\n",
             "1 PL refused 300\n",
             "1 QD three\n",
         ];

@@ -1,8 +1,9 @@
 //! What the right answers are. `exact` and `methods` have the leaves as document 01 defines them, on
 //! whole numbers, and `plain` says the same more slowly; `reference` is the Rust; `hall_file` and
-//! `lister` have the hall file and its listing; `sturm` has where a polynomial's roots are. Nothing
-//! here calls the port.
+//! `lister` have the hall file and its listing, `contact` what document 02 makes of a path and a
+//! circle; `sturm` has where a polynomial's roots are. Nothing here calls the port.
 pub mod big;
+pub mod contact;
 pub mod exact;
 pub mod hall_file;
 pub mod lister;

@@ -1,6 +1,8 @@
 //! The refusals of document 01, 'What each operation refuses', by name, and in words for people.
+use crate::people::number::shortest;
 use crate::people::slider;
-use crate::truth::hall_file::{Item, Kind};
+use crate::truth::contact;
+use crate::truth::hall_file::{Item, Kind, Record};
 
 /// 'some coefficient not finite, wherever it stands'; 'one of a, b, c'; 'one of the five'.
 pub const NOT_FINITE: u8 = 1;
@@ -29,6 +31,15 @@ pub const COUNT_TOO_LARGE: u8 = 8;
 /// 'over 65,536 bytes'.
 pub const FILE_TOO_LONG: u8 = 9;
 
+/// 'a number of the record is not finite', of a contact by document 02.
+pub const RECORD_NOT_FINITE: u8 = 10;
+
+/// 'R is not above 0'.
+pub const NO_RADIUS: u8 = 11;
+
+/// 'a coefficient made is not finite'.
+pub const COEFFICIENT_NOT_FINITE: u8 = 12;
+
 /// A refusal in words; of a 6, 7 or 8 with the byte at which its record starts.
 pub fn in_words(bytes: &[u8], item: &Item, number: u8) -> String {
     let at = item.at;
@@ -37,6 +48,9 @@ pub fn in_words(bytes: &[u8], item: &Item, number: u8) -> String {
         (NOT_FINITE, _) => "a number is not finite".to_string(),
         (TOO_FEW, Some(Kind::Crank)) => {
             "no equation: the quartic in u is a constant at most".to_string()
+        }
+        (TOO_FEW, Some(Kind::Contact)) => {
+            "no equation: the ball stands still, or moves too little to tell".to_string()
         }
         (TOO_FEW, _) => {
             "no equation: once trailing zeros are dropped, a constant at most is left".to_string()
@@ -62,8 +76,33 @@ pub fn in_words(bytes: &[u8], item: &Item, number: u8) -> String {
             format!("byte {at}: a list with count {count}, and at most 32 is allowed")
         }
         (FILE_TOO_LONG, _) => format!("the file has {} bytes, more than 65,536", bytes.len()),
+        (RECORD_NOT_FINITE..=COEFFICIENT_NOT_FINITE, _) => of_contact(item, number),
         (n, _) => format!("no refusal has the number {n}"),
     }
+}
+
+/// What is wrong with the numbers of a contact.
+fn of_contact(item: &Item, number: u8) -> String {
+    let Ok(Record::Contact(contact)) = &item.record else {
+        return "no contact".to_string();
+    };
+    match number {
+        RECORD_NOT_FINITE => not_finite(&contact::NAMES, &contact.numbers()),
+        NO_RADIUS => format!("the radius R is {}, not above 0", shortest(contact.radius)),
+        _ => {
+            let names =
+                ["1", "t", "t^2", "t^3", "t^4"].map(|of| format!("the coefficient of {of}"));
+            not_finite(&names.each_ref().map(String::as_str), &contact.coefficients())
+        }
+    }
+}
+
+/// Which of these numbers are not.
+fn not_finite(names: &[&str], numbers: &[f64]) -> String {
+    let those = names.iter().zip(numbers).filter(|(_, x)| !x.is_finite());
+    let those: Vec<&str> = those.map(|(name, _)| *name).collect();
+    let verb = if those.len() == 1 { "is" } else { "are" };
+    format!("{} {verb} not finite", those.join(", "))
 }
 
 /// A hint where a file begins like lines of text, be it with a byte order mark or capital letters.
@@ -84,13 +123,15 @@ fn needed(kind: Kind, rest: &[u8]) -> Option<usize> {
         Kind::List => rest.get(2).map(|count| 11 + 8 * usize::from(*count)),
         Kind::Quadratic => Some(42),
         Kind::Crank => Some(50),
+        Kind::Contact => Some(82),
     }
 }
 
 #[cfg(test)]
 mod tests {
     use super::*;
-    use crate::truth::hall_file::items;
+    use crate::people::text::read;
+    use crate::truth::hall_file::{file, items};
 
     fn said(bytes: &[u8]) -> Vec<String> {
         let told = |item: &Item| Some(in_words(bytes, item, item.record.as_ref().err().copied()?));
@@ -122,7 +163,33 @@ mod tests {
             with(b"QDabc"),
             ["byte 11: the file ends inside this quad, 5 bytes of it are there of 42"]
         );
+        assert_eq!(
+            with(b"PCabc"),
+            ["byte 11: the file ends inside this contact, 5 bytes of it are there of 82"]
+        );
         assert_eq!(with(b"PL\x21"), ["byte 11: a list with count 33, and at most 32 is allowed"]);
         assert_eq!(said(&[0; 65_537]), ["the file has 65537 bytes, more than 65,536"]);
+    }
+
+    #[test]
+    fn refusals_of_contacts() {
+        for (line, number, words) in [
+            ("nan 0 1 0 0 0 0 3 0 1", 10, "confusion is not finite"),
+            ("0 0 inf 0 0 0 0 3 0 -inf", 10, "x1, R are not finite"),
+            ("0 0 1 0 0 0 0 3 0 -0.5", 11, "the radius R is -0.5, not above 0"),
+            ("0 0 1 0 0 0 0 3 0 1e200", 12, "the coefficient of 1 is not finite"),
+            (
+                "0 0 0 1e200 0 0 0 -1e200 0 1",
+                12,
+                "the coefficient of 1, the coefficient of t^2, the coefficient of t^4 are not finite",
+            ),
+            ("0 0 0 0 0 0 0 3 0 1", 2, "no equation: the ball stands still, or moves too little"),
+        ] {
+            let bytes = file(&read(format!("contact {line}").as_bytes()).unwrap());
+            let item = &items(&bytes)[0];
+            let Ok(Record::Contact(contact)) = &item.record else { panic!("{line}") };
+            let told = in_words(&bytes, item, number);
+            assert_eq!((contact.refusal(), told.starts_with(words)), (number, true), "{told}");
+        }
     }
 }
