@@ -73,7 +73,7 @@ pub const CONTACTS: &[(&str, &str)] = &[
     ("2(X1X2 + Y1Y2)", "contact 2^-30 0 5e153 5e153 0 9.7e153 -9.7e153 3 0 1"),
     ("2(X0X1 + Y0Y1)", "contact 2^-30 5e153 5e153 0 9.7e153 -9.7e153 0 0 0 1"),
     ("12 before 2", "contact 2^-30 0.5 0 0 -0.25 0 0 0 0 1e200"),
-    ("R² last", "contact 0 0.4 -0.8 0 0.8 0.4 0 0 0 0.9"),
+    ("R² last", "contact 0 3.4 -3.8 0 3.8 3.4 0 0 0 5.1"),
     (
         "X by Horner's rule",
         "contact 0x3F81A70FDC5F34E4 0x3FB9D7850FD8B4EC 0xBFD6BF5118CBEEB2 0x3FE1F27066ED032E \
@@ -81,7 +81,7 @@ pub const CONTACTS: &[(&str, &str)] = &[
          0xBFE39279C6E80546 0x3F93274A2C2D5ADE",
     ),
     (
-        "X² + Y² rounded, not the root alone",
+        "X² + Y² rounded",
         "contact 0x38BA69E14C725F30 0xBC32CA7431F58795 0 0x3C1C84E691EE525A 0 0x3C300F2634804103 \
          0 0 0 0x3C32C7115129D896",
     ),
@@ -92,7 +92,7 @@ pub const CONTACTS: &[(&str, &str)] = &[
          0xBFE02E41CAC5BBDA 0x3FD70158403E3AA6",
     ),
     (
-        "X² rounded",
+        "X² rounded first",
         "contact 0x3CA47D9932801E3E 0xBFD3115D2805AD44 0xBFB544FF277B2822 0 0x3FE544FF277B2822 \
          0xBFA3115D2805AD44 0 0 0 0x3FE74EFC518E8F8D",
     ),
