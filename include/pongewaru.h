@@ -1,4 +1,4 @@
-/* Pongewaru for C and C++: real roots of polynomials up to degree 4, quadratics, crank equations and hall files, as proved. docs/CONTRACTS.md says what is
+/* Pongewaru for C and C++: real roots of polynomials up to degree 4, quadratics, crank equations, pin contacts and hall files, as proved. docs/CONTRACTS.md says what is
  * proved of each function, and docs/HALL-FILE.md what a hall file is.
  *
  * Linking: `rt staticlib pongewaru` makes target/staticlib/libpongewaru.a, which holds all functions of the first part; it needs the C library alone.
@@ -46,6 +46,11 @@ extern "C" {
 #define PONGEWARU_CUT 7
 #define PONGEWARU_COUNT_TOO_LARGE 8
 #define PONGEWARU_FILE_TOO_LONG 9
+
+/* Of a pin contact: a number handed in is not finite; R is not above 0; a coefficient made of them is not finite. */
+#define PONGEWARU_RECORD_NOT_FINITE 10
+#define PONGEWARU_NO_RADIUS 11
+#define PONGEWARU_MADE_NOT_FINITE 12
 
 /* `coeffs_len` is no multiple of 8: the bytes are no whole doubles. */
 #define PONGEWARU_CUT_DOUBLE 20
@@ -114,6 +119,11 @@ uint64_t pongewaru_crank_inquire(double confusion, double a2, double b2, double 
 
 /* The quartic that is solved for it. Stores pongewaru_quartic; refuses 1, 5. */
 uint64_t pongewaru_crank_front(double a2, double b2, double c1, double d1, double e, void *out, size_t out_len);
+
+/* The times t at which a ball at x0 + x1*t + x2*t^2, y0 + y1*t + y2*t^2 is r away from cx, cy; where it only comes near, it touches if it is so within
+ * `confusion`. Stores pongewaru_list; refuses 10, 11, 12, 2. */
+uint64_t pongewaru_pin_contact(double confusion, double x0, double x1, double x2, double y0, double y1, double y2, double cx, double cy, double r, void *out,
+    size_t out_len);
 
 /* a*t^2 + b*t + c = 0. Stores pongewaru_solution; refuses 1, 5. */
 uint64_t pongewaru_quadratic(double a, double b, double c, double confusion, double angular, void *out, size_t out_len);

@@ -114,7 +114,7 @@ fn declared_for_the_host() {
 fn refusals() {
     let (header, source) = (text("include/pongewaru.h"), text("crates/refusals/src/lib.rt"));
     let consts: Vec<&str> = source.split("pub const ").skip(1).collect();
-    assert_eq!(consts.len(), 10);
+    assert_eq!(consts.len(), 13);
     for one in consts {
         let (name, rest) = one.split_once(": u32 = ").expect("a number");
         let number = rest.split_once(';').expect("an end").0;

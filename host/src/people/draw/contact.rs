@@ -23,7 +23,7 @@ const SCALE: Point = [20.0, 582.0];
 /// The ball's place at t.
 fn place(contact: &Contact, t: f64) -> Point {
     let radius = contact.radius.log2();
-    contact.from_centre().map(|path| around(&path, t)[0].over(radius))
+    contact.about_centre().map(|path| around(&path, t)[0].over(radius))
 }
 
 fn distance([x, y]: Point) -> f64 {
@@ -73,7 +73,7 @@ struct Pass {
 
 impl Pass {
     fn new(contact: &Contact, t: f64, view: &View) -> Pass {
-        let path = contact.from_centre().map(|path| around(&path, t));
+        let path = contact.about_centre().map(|path| around(&path, t));
         let radius = contact.radius.log2();
         // in one unit the ball is carried about as far as the view is wide
         let across = radius + ((view.area.right - view.area.left) / view.scale).log2();
