@@ -134,7 +134,7 @@ fn root(shown: &Shown, root: &Place) -> String {
     let (place, bits) = (shortest(root.place), bits(root.place));
     let front = format!("  {place} ({bits:016X}), {times}: ");
     if let (Some(ball), false) = (&root.ball, root.doubtful) {
-        return wrapped(&format!("{front}a contact, D - R is {}", shortest(ball.gap)));
+        return wrapped(&format!("{front}a contact, D - R is {}", shortest(ball.beyond)));
     }
     match (look.doubtful(), look.multiple()) {
         (false, _) => wrapped(&(front + "a root, " + &trusted(&look))),

@@ -68,13 +68,13 @@ fn rows(shown: &Shown) -> Vec<Row> {
 
 /// Where a ball is at a contact.
 fn at(ball: &Ball) -> String {
-    let [x, y, gap] = numbers(ball);
-    format!("    ball at x = {x}, y = {y}, D - R = {gap}")
+    let [x, y, beyond] = numbers(ball);
+    format!("    ball at x = {x}, y = {y}, D - R = {beyond}")
 }
 
 /// x, y and D - R.
-fn numbers(Ball { at: [x, y], gap }: &Ball) -> [String; 3] {
-    [*x, *y, *gap].map(shortest)
+fn numbers(Ball { at: [x, y], beyond }: &Ball) -> [String; 3] {
+    [*x, *y, *beyond].map(shortest)
 }
 
 /// The line of a refusal.
@@ -168,8 +168,8 @@ fn csv_record(shown: &Shown) -> String {
 fn csv_root(root: &Place) -> [String; 9] {
     let [place, bits, times, degrees, radians] = columns(root);
     let mark = if root.doubtful { DOUBTFUL } else { "" }.to_string();
-    let [x, y, gap] = root.ball.as_ref().map(numbers).unwrap_or_default();
-    [place, bits, times, degrees, radians, x, y, gap, mark]
+    let [x, y, beyond] = root.ball.as_ref().map(numbers).unwrap_or_default();
+    [place, bits, times, degrees, radians, x, y, beyond, mark]
 }
 
 /// A field; in quotes where it has to be.
