@@ -275,7 +275,7 @@ pub const OWN: [&str; 3] = ["hall_file.rs", "contact.rs", "lister.rs"];
 pub const OWN_OPENED: &[Patch] = &[
     ("hall_file.rs", "\nfn ", "\npub fn ", 5),
     ("hall_file.rs", "use crate::truth::contact::", "use super::contact::", 1),
-    ("contact.rs", "    fn from_centre(", "    pub fn from_centre(", 1),
+    ("contact.rs", "    fn about_centre(", "    pub fn about_centre(", 1),
     ("lister.rs", "use crate::truth::hall_file::", "use super::hall_file::", 1),
     (
         "lister.rs",

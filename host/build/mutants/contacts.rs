@@ -221,8 +221,8 @@ pub const ALL: &[Variant] = &[
         "`<` in the reply",
         &[(
             C,
-            "(self.distance(t) - self.radius).abs() <= self.confusion",
-            "(self.distance(t) - self.radius).abs() < self.confusion",
+            "self.beyond(t).abs() <= self.confusion",
+            "self.beyond(t).abs() < self.confusion",
             1,
         )],
     ),
@@ -231,8 +231,8 @@ pub const ALL: &[Variant] = &[
         "max(confusion, 0) in the reply",
         &[(
             C,
-            "(self.distance(t) - self.radius).abs() <= self.confusion",
-            "(self.distance(t) - self.radius).abs() <= self.confusion.max(0.0)",
+            "self.beyond(t).abs() <= self.confusion",
+            "self.beyond(t).abs() <= self.confusion.max(0.0)",
             1,
         )],
     ),
@@ -241,37 +241,27 @@ pub const ALL: &[Variant] = &[
         "|confusion| in the reply",
         &[(
             C,
-            "(self.distance(t) - self.radius).abs() <= self.confusion",
-            "(self.distance(t) - self.radius).abs() <= self.confusion.abs()",
+            "self.beyond(t).abs() <= self.confusion",
+            "self.beyond(t).abs() <= self.confusion.abs()",
             1,
         )],
     ),
     (
         "within the circle",
         "D - R without its size",
-        &[(
-            C,
-            "(self.distance(t) - self.radius).abs() <= self.confusion",
-            "self.distance(t) - self.radius <= self.confusion",
-            1,
-        )],
+        &[(C, "self.beyond(t).abs() <= self.confusion", "self.beyond(t) <= self.confusion", 1)],
     ),
     (
         "outside of the circle",
         "R - D without its size",
-        &[(
-            C,
-            "(self.distance(t) - self.radius).abs() <= self.confusion",
-            "self.radius - self.distance(t) <= self.confusion",
-            1,
-        )],
+        &[(C, "self.beyond(t).abs() <= self.confusion", "-self.beyond(t) <= self.confusion", 1)],
     ),
     (
         "squares in the reply",
         "|D² - R²| up to confusion",
         &[(
             C,
-            "(self.distance(t) - self.radius).abs() <= self.confusion",
+            "self.beyond(t).abs() <= self.confusion",
             "(self.distance(t).powi(2) - self.radius * self.radius).abs() <= self.confusion",
             1,
         )],
@@ -281,7 +271,7 @@ pub const ALL: &[Variant] = &[
         "D from R - confusion to R + confusion",
         &[(
             C,
-            "(self.distance(t) - self.radius).abs() <= self.confusion",
+            "self.beyond(t).abs() <= self.confusion",
             "self.radius - self.confusion <= self.distance(t) && self.distance(t) <= self.radius + self.confusion",
             1,
         )],
@@ -291,25 +281,20 @@ pub const ALL: &[Variant] = &[
         "|D - R| up to confusion R",
         &[(
             C,
-            "(self.distance(t) - self.radius).abs() <= self.confusion",
-            "(self.distance(t) - self.radius).abs() <= self.confusion * self.radius",
+            "self.beyond(t).abs() <= self.confusion",
+            "self.beyond(t).abs() <= self.confusion * self.radius",
             1,
         )],
     ),
     (
         "always no",
         "no question is replied yes",
-        &[(C, "(self.distance(t) - self.radius).abs() <= self.confusion", "false", 1)],
+        &[(C, "self.beyond(t).abs() <= self.confusion", "false", 1)],
     ),
     (
         "always yes",
         "where confusion is not below 0",
-        &[(
-            C,
-            "(self.distance(t) - self.radius).abs() <= self.confusion",
-            "self.confusion >= 0.0",
-            1,
-        )],
+        &[(C, "self.beyond(t).abs() <= self.confusion", "self.confusion >= 0.0", 1)],
     ),
     (
         "nothing asked of a contact",

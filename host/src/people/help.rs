@@ -80,8 +80,8 @@ Tolerances
   tol        of a list: two roots within tol * (1 + |x|) of their middle count as one, twice
   confusion  of a quad: the same; where it is linear, |b| up to this is no equation
              of a crank: the same for u = tan((t - k * 45 degrees) / 2), the root that is listed
-             of a contact: the same for t, and where the ball comes nearest to the circle, or
-             is deepest in it, within confusion of it, it touches there, once for twice
+             of a contact: the same for t; and where the ball comes within confusion of the circle
+             without crossing it, or crosses it by no more, it touches it there, twice
   angular    of a quad: |a| up to this counts as 0, and the equation as linear
   2^-30, about 1e-9, is usual for all; geomcore itself has 1e-7 for confusion, 1e-12 for angular.
 ";

@@ -118,7 +118,7 @@ fn places(item: &Item, coeffs: &[f64], answer: &Answer) -> Vec<Place> {
             Answer::Quadratic(Solution::One(_)) => 2,
             _ => times.unwrap_or(1),
         };
-        let ball = contact.map(|c| Ball { at: c.ball(place), gap: c.gap(place) });
+        let ball = contact.map(|c| Ball { at: c.ball(place), gap: c.beyond(place) });
         // a ball within confusion of the circle is a contact by the customer's word
         let touches = contact.is_some_and(|c| c.touches(place));
         let doubtful = !touches && Look::at(coeffs, place, multiplicity).doubtful();

@@ -56,18 +56,13 @@ pub fn yes(contact: &Contact, places: &[f64]) -> usize {
     places.iter().filter(|t| contact.touches(**t)).count()
 }
 
-/// |D - R| at t.
-fn beside(contact: &Contact, t: f64) -> f64 {
-    (contact.distance(t) - contact.radius).abs()
-}
-
 fn cases(contact: &Contact, ran: &Ran) -> [bool; CASES.len()] {
     let (list, asked) = (&ran.list, ran.places.len());
     let answered = list.refusal == 0;
     let roots = |n| answered && list.len == n;
     let questions = |n| answered && asked == n;
     let yes = yes(contact, &ran.places);
-    let some = |is: &dyn Fn(f64) -> bool| ran.places.iter().any(|t| is(beside(contact, *t)));
+    let some = |is: &dyn Fn(f64) -> bool| ran.places.iter().any(|t| is(contact.beyond(*t).abs()));
     [
         answered,
         list.refusal == 2,
@@ -124,7 +119,7 @@ pub fn made_record(r: &mut Random, n: u64) -> Contact {
     match places.len() as u64 {
         0 => contact,
         asked => {
-            let edge = beside(&contact, places[r.below(asked) as usize]);
+            let edge = contact.beyond(places[r.below(asked) as usize]).abs();
             let below = if edge == 0.0 { -f64::from_bits(1) } else { step(edge, -1) };
             Contact { confusion: [below, edge, step(edge, 1)][r.below(3) as usize], ..contact }
         }

@@ -181,7 +181,7 @@ contact 2^-30 0 4 -1 0 0 0 5 0 1
 contact nan 0 1e200 0 0 0 0 3 0 0
 contact 2^-30 0 1e200 0 0 0 0 3 0 0
 contact 2^-30 0 0 0 0 0 0 3 0 1e200
-contact 2^-30 0 2^-600 0 0 0 0 3 0 1
+contact 2^-30 0 2^-600 0 0 0 0 0 0 1
 ";
 
 /// The same, with what tells a mistake.

@@ -73,7 +73,7 @@ pub const CONTACTS: &[(&str, &str)] = &[
     ("2(X1X2 + Y1Y2)", "contact 2^-30 0 5e153 5e153 0 9.7e153 -9.7e153 3 0 1"),
     ("2(X0X1 + Y0Y1)", "contact 2^-30 5e153 5e153 0 9.7e153 -9.7e153 0 0 0 1"),
     ("12 before 2", "contact 2^-30 0.5 0 0 -0.25 0 0 0 0 1e200"),
-    ("R² last", "contact 0 0.1 1 0 0.7 1 0 0 0 0.3"),
+    ("R² last", "contact 0 3.4 -3.8 0 3.8 3.4 0 0 0 5.1"),
     (
         "X by Horner's rule",
         "contact 0x3F81A70FDC5F34E4 0x3FB9D7850FD8B4EC 0xBFD6BF5118CBEEB2 0x3FE1F27066ED032E \
@@ -84,6 +84,17 @@ pub const CONTACTS: &[(&str, &str)] = &[
         "X² + Y² rounded",
         "contact 0x38BA69E14C725F30 0xBC32CA7431F58795 0 0x3C1C84E691EE525A 0 0x3C300F2634804103 \
          0 0 0 0x3C32C7115129D896",
+    ),
+    (
+        "the sums of X",
+        "contact 0x3FB6169752A1D265 0xBFF8C24AA1BF81CE 0xBFE6EC5B436EB6E4 0xBFC14EAE43CC8C00 \
+         0xC013B72BB2CDBA8C 0xC0049CB9CEEAF672 0xBFD951FFAAF4FA2C 0xBFDF56BEA8B30D48 \
+         0xBFE02E41CAC5BBDA 0x3FD70158403E3AA6",
+    ),
+    (
+        "X² rounded first",
+        "contact 0x3CA47D9932801E3E 0xBFD3115D2805AD44 0xBFB544FF277B2822 0 0x3FE544FF277B2822 \
+         0xBFA3115D2805AD44 0 0 0 0x3FE74EFC518E8F8D",
     ),
     ("|D - R| at confusion", "contact 0.5 1 0 0 0 1 0 0 0 0.5"),
     ("|D - R| beyond confusion", "contact 0x3FDFFFFFFFFFFFFF 1 0 0 0 1 0 0 0 0.5"),

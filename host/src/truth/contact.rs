@@ -38,14 +38,14 @@ impl Contact {
     }
 
     /// X0, X1, X2 and Y0, Y1, Y2: the path seen from the circle's centre.
-    pub fn from_centre(&self) -> [[f64; 3]; 2] {
+    pub fn about_centre(&self) -> [[f64; 3]; 2] {
         let ([x0, x1, x2], [y0, y1, y2], [cx, cy]) = (self.x, self.y, self.centre);
         [[x0 - cx, x1, x2], [y0 - cy, y1, y2]]
     }
 
     /// Of X² + Y² - R², ascending.
     pub fn coefficients(&self) -> [f64; 5] {
-        let [[x0, x1, x2], [y0, y1, y2]] = self.from_centre();
+        let [[x0, x1, x2], [y0, y1, y2]] = self.about_centre();
         [
             (x0 * x0 + y0 * y0) - self.radius * self.radius,
             2.0 * (x0 * x1 + y0 * y1),
@@ -62,7 +62,7 @@ impl Contact {
 
     /// X and Y: the ball's place at t, seen from the circle's centre.
     pub fn place(&self, t: f64) -> [f64; 2] {
-        self.from_centre().map(|path| along(path, t))
+        self.about_centre().map(|path| along(path, t))
     }
 
     /// D: its distance from there.
@@ -71,14 +71,14 @@ impl Contact {
         (x * x + y * y).sqrt()
     }
 
-    /// D - R: its distance from the circle, below 0 inside.
-    pub fn gap(&self, t: f64) -> f64 {
+    /// D - R: how far outside of the circle it is.
+    pub fn beyond(&self, t: f64) -> f64 {
         self.distance(t) - self.radius
     }
 
     /// The reply to a question at t.
     pub fn touches(&self, t: f64) -> bool {
-        self.gap(t).abs() <= self.confusion
+        self.beyond(t).abs() <= self.confusion
     }
 
     /// Under which number it is refused, 0 where it is not.

@@ -23,7 +23,7 @@ const SCALE: Point = [20.0, 582.0];
 /// The ball's place at t.
 fn place(contact: &Contact, t: f64) -> Point {
     let radius = contact.radius.log2();
-    contact.from_centre().map(|path| around(&path, t)[0].over(radius))
+    contact.about_centre().map(|path| around(&path, t)[0].over(radius))
 }
 
 fn distance([x, y]: Point) -> f64 {
@@ -73,7 +73,7 @@ struct Pass {
 
 impl Pass {
     fn new(contact: &Contact, t: f64, view: &View) -> Pass {
-        let path = contact.from_centre().map(|path| around(&path, t));
+        let path = contact.about_centre().map(|path| around(&path, t));
         let radius = contact.radius.log2();
         // in one unit the ball is carried about as far as the view is wide
         let across = radius + ((view.area.right - view.area.left) / view.scale).log2();
@@ -195,7 +195,7 @@ fn miss(canvas: &mut Canvas, view: &View, contact: &Contact, t: f64) {
     let edge = at.map(|x| x / distance(at).max(1.0));
     canvas.line("dashed", &[view.point(edge), view.point(at)]);
     canvas.circle("pin", view.point(at), 4.0);
-    let gap = (contact.distance(t) - contact.radius).abs();
+    let gap = contact.beyond(t).abs();
     let [t, gap] = [t, gap].map(|x| figures(&[x]).concat());
     canvas.label(view.point(at), outward(at), format!("nearest at t = {t}: gap {gap}"));
 }
