@@ -24,8 +24,8 @@ pub const KINDS: [&str; 15] = [
     "of edges",
 ];
 
-/// How many of them keep to what a lane has.
-const PLAIN: u64 = 9;
+/// The kinds before this one, but for the first, are hardly ever refused.
+const SCALED: u64 = 9;
 
 /// A record of a kind.
 pub fn contact(r: &mut Random, which: usize) -> Contact {
@@ -48,9 +48,9 @@ pub fn contact(r: &mut Random, which: usize) -> Contact {
     }
 }
 
-/// One of the kinds without what is refused.
+/// One of those kinds.
 fn plain(r: &mut Random) -> Contact {
-    let which = 1 + r.below(PLAIN - 1) as usize;
+    let which = 1 + r.below(SCALED - 1) as usize;
     contact(r, which)
 }
 

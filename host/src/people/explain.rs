@@ -1,7 +1,7 @@
 //! Why listed roots are doubtful, in words, with the numbers.
 use crate::compare::bits;
 use crate::people::doubt::{Look, Point, REACH, SHARE, Value};
-use crate::people::number::shortest;
+use crate::people::number::{rounded, shortest};
 use crate::people::question::polynomial;
 use crate::people::show::{Place, Shown};
 use crate::people::table::{EMPTY, front, refused, wrapped};
@@ -189,7 +189,7 @@ fn further(coeffs: &[f64], x: f64) -> String {
 }
 
 fn three_digits(x: f64) -> String {
-    shortest(format!("{x:.2e}").parse().unwrap_or(x))
+    rounded(x, 3)
 }
 
 /// Of a root that counts more than once: what is left of p, and how far apart roots are joined.

@@ -124,6 +124,17 @@ pub fn shortest(x: f64) -> String {
     text.strip_suffix(".0").map(str::to_string).unwrap_or(text)
 }
 
+/// A longer number is written with a power of ten, where that is shorter.
+const LONG: usize = 9;
+
+/// x to so many digits, or the shortest decimal where that would be beyond the largest double.
+pub fn rounded(x: f64, digits: usize) -> String {
+    let near = format!("{:.*e}", digits - 1, x).parse::<f64>();
+    let near = near.ok().filter(|y| y.is_finite()).unwrap_or(x) + 0.0;
+    let (plain, power) = (shortest(near), format!("{near:e}"));
+    if plain.len() > LONG && power.len() < plain.len() { power } else { plain }
+}
+
 /// A word that reads back as the same bits: a power of two, the shortest decimal, or bits.
 pub fn word(x: f64) -> String {
     let size = x.abs();

@@ -79,7 +79,8 @@ fn record(words: &[&str]) -> Result<Option<Record>, Fault> {
     if kind.is_none() && name != slider::WORD {
         let odd = first.chars().find(|c| !c.is_ascii_graphic());
         let odd = odd.map(|c| format!(" ({})", character(c))).unwrap_or_default();
-        let known = "a line begins with list, quad, crank, contact or slider";
+        let known = Kind::ALL.map(Kind::word).join(", ");
+        let known = format!("a line begins with {known} or {}", slider::WORD);
         return fault(first, format!("no kind of record: {known}{odd}"));
     }
     let numbers = rest.iter().map(|word| number(word).or_else(|why| fault(word, why)));

@@ -1,5 +1,5 @@
-//! A polynomial around a place, p(m + h) in powers of h: each coefficient is rounded once, so that a
-//! picture of a narrow part shows the polynomial and not errors of rounding, and goes beyond the
+//! A polynomial around a place, p(m + h) in powers of h: each coefficient is rounded once, so that
+//! a picture of a narrow part shows the polynomial and not errors of rounding, and goes beyond the
 //! range of doubles.
 use crate::truth::big::Big;
 use crate::truth::exact::{digits, ldexp};

@@ -195,7 +195,7 @@ fn miss(canvas: &mut Canvas, view: &View, contact: &Contact, t: f64) {
     let edge = at.map(|x| x / distance(at).max(1.0));
     canvas.line("dashed", &[view.point(edge), view.point(at)]);
     canvas.circle("pin", view.point(at), 4.0);
-    let gap = (contact.distance(t) - contact.radius).abs();
+    let gap = contact.beyond(t).abs();
     let [t, gap] = [t, gap].map(|x| figures(&[x]).concat());
     canvas.label(view.point(at), outward(at), format!("nearest at t = {t}: gap {gap}"));
 }

@@ -1,16 +1,5 @@
 //! Numbers beside a picture: a few digits, and round ones.
-use crate::people::number::shortest;
-
-/// A longer number is written with a power of ten, where that is shorter.
-const LONG: usize = 9;
-
-/// x to so many digits.
-fn rounded(x: f64, digits: usize) -> String {
-    let near = format!("{:.*e}", digits - 1, x).parse::<f64>();
-    let near = near.ok().filter(|y| y.is_finite()).unwrap_or(x) + 0.0;
-    let (plain, power) = (shortest(near), format!("{near:e}"));
-    if plain.len() > LONG && power.len() < plain.len() { power } else { plain }
-}
+use crate::people::number::rounded;
 
 /// x to four digits.
 pub fn rough(x: f64) -> String {
