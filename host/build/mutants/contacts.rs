@@ -362,8 +362,8 @@ pub const ALL: &[Variant] = &[
         "the coefficients are asked first",
         &[(
             C,
-            "            _ if !finite(&self.numbers()) => refusals::RECORD_NOT_FINITE,\n            _ if self.radius <= 0.0 => refusals::NO_RADIUS,\n            _ if !finite(&coeffs) => refusals::COEFFICIENT_NOT_FINITE,\n",
-            "            _ if !finite(&coeffs) => refusals::COEFFICIENT_NOT_FINITE,\n            _ if !finite(&self.numbers()) => refusals::RECORD_NOT_FINITE,\n            _ if self.radius <= 0.0 => refusals::NO_RADIUS,\n",
+            "            _ if !finite(&self.numbers()) => refusals::RECORD_NOT_FINITE,\n            _ if self.radius <= 0.0 => refusals::NO_RADIUS,\n            _ if !finite(&coeffs) => refusals::MADE_NOT_FINITE,\n",
+            "            _ if !finite(&coeffs) => refusals::MADE_NOT_FINITE,\n            _ if !finite(&self.numbers()) => refusals::RECORD_NOT_FINITE,\n            _ if self.radius <= 0.0 => refusals::NO_RADIUS,\n",
             1,
         )],
     ),
@@ -372,8 +372,8 @@ pub const ALL: &[Variant] = &[
         "the coefficients before the radius",
         &[(
             C,
-            "            _ if self.radius <= 0.0 => refusals::NO_RADIUS,\n            _ if !finite(&coeffs) => refusals::COEFFICIENT_NOT_FINITE,\n",
-            "            _ if !finite(&coeffs) => refusals::COEFFICIENT_NOT_FINITE,\n            _ if self.radius <= 0.0 => refusals::NO_RADIUS,\n",
+            "            _ if self.radius <= 0.0 => refusals::NO_RADIUS,\n            _ if !finite(&coeffs) => refusals::MADE_NOT_FINITE,\n",
+            "            _ if !finite(&coeffs) => refusals::MADE_NOT_FINITE,\n            _ if self.radius <= 0.0 => refusals::NO_RADIUS,\n",
             1,
         )],
     ),
@@ -382,8 +382,8 @@ pub const ALL: &[Variant] = &[
         "the length before the coefficients",
         &[(
             C,
-            "            _ if !finite(&coeffs) => refusals::COEFFICIENT_NOT_FINITE,\n            0 | 1 => refusals::TOO_FEW,\n",
-            "            0 | 1 => refusals::TOO_FEW,\n            _ if !finite(&coeffs) => refusals::COEFFICIENT_NOT_FINITE,\n",
+            "            _ if !finite(&coeffs) => refusals::MADE_NOT_FINITE,\n            0 | 1 => refusals::TOO_FEW,\n",
+            "            0 | 1 => refusals::TOO_FEW,\n            _ if !finite(&coeffs) => refusals::MADE_NOT_FINITE,\n",
             1,
         )],
     ),
@@ -392,8 +392,8 @@ pub const ALL: &[Variant] = &[
         "the length before the radius",
         &[(
             C,
-            "            _ if self.radius <= 0.0 => refusals::NO_RADIUS,\n            _ if !finite(&coeffs) => refusals::COEFFICIENT_NOT_FINITE,\n            0 | 1 => refusals::TOO_FEW,\n",
-            "            0 | 1 => refusals::TOO_FEW,\n            _ if self.radius <= 0.0 => refusals::NO_RADIUS,\n            _ if !finite(&coeffs) => refusals::COEFFICIENT_NOT_FINITE,\n",
+            "            _ if self.radius <= 0.0 => refusals::NO_RADIUS,\n            _ if !finite(&coeffs) => refusals::MADE_NOT_FINITE,\n            0 | 1 => refusals::TOO_FEW,\n",
+            "            0 | 1 => refusals::TOO_FEW,\n            _ if self.radius <= 0.0 => refusals::NO_RADIUS,\n            _ if !finite(&coeffs) => refusals::MADE_NOT_FINITE,\n",
             1,
         )],
     ),
@@ -402,7 +402,7 @@ pub const ALL: &[Variant] = &[
         "as for a list",
         &[(
             C,
-            "            _ if !finite(&coeffs) => refusals::COEFFICIENT_NOT_FINITE,\n",
+            "            _ if !finite(&coeffs) => refusals::MADE_NOT_FINITE,\n",
             "            _ if !finite(&coeffs) => refusals::NOT_FINITE,\n",
             1,
         )],
@@ -410,7 +410,7 @@ pub const ALL: &[Variant] = &[
     (
         "12 is not asked",
         "what overflows is answered",
-        &[(C, "            _ if !finite(&coeffs) => refusals::COEFFICIENT_NOT_FINITE,\n", "", 1)],
+        &[(C, "            _ if !finite(&coeffs) => refusals::MADE_NOT_FINITE,\n", "", 1)],
     ),
     (
         "a ball that stands is answered",

@@ -88,7 +88,7 @@ impl Contact {
         match trimmed(&coeffs) {
             _ if !finite(&self.numbers()) => refusals::RECORD_NOT_FINITE,
             _ if self.radius <= 0.0 => refusals::NO_RADIUS,
-            _ if !finite(&coeffs) => refusals::COEFFICIENT_NOT_FINITE,
+            _ if !finite(&coeffs) => refusals::MADE_NOT_FINITE,
             0 | 1 => refusals::TOO_FEW,
             _ => 0,
         }

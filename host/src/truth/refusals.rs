@@ -38,7 +38,7 @@ pub const RECORD_NOT_FINITE: u8 = 10;
 pub const NO_RADIUS: u8 = 11;
 
 /// 'a coefficient made is not finite'.
-pub const COEFFICIENT_NOT_FINITE: u8 = 12;
+pub const MADE_NOT_FINITE: u8 = 12;
 
 /// A refusal in words; of a 6, 7 or 8 with the byte at which its record starts.
 pub fn in_words(bytes: &[u8], item: &Item, number: u8) -> String {
@@ -76,7 +76,7 @@ pub fn in_words(bytes: &[u8], item: &Item, number: u8) -> String {
             format!("byte {at}: a list with count {count}, and at most 32 is allowed")
         }
         (FILE_TOO_LONG, _) => format!("the file has {} bytes, more than 65,536", bytes.len()),
-        (RECORD_NOT_FINITE..=COEFFICIENT_NOT_FINITE, _) => of_contact(item, number),
+        (RECORD_NOT_FINITE..=MADE_NOT_FINITE, _) => of_contact(item, number),
         (n, _) => format!("no refusal has the number {n}"),
     }
 }
