@@ -90,9 +90,8 @@ fn of_contact(item: &Item, number: u8) -> String {
         RECORD_NOT_FINITE => not_finite(&contact::NAMES, &contact.numbers()),
         NO_RADIUS => format!("the radius R is {}, not above 0", shortest(contact.radius)),
         _ => {
-            let names =
-                ["1", "t", "t^2", "t^3", "t^4"].map(|of| format!("the coefficient of {of}"));
-            not_finite(&names.each_ref().map(String::as_str), &contact.coefficients())
+            let which = not_finite(&["c0", "c1", "c2", "c3", "c4"], &contact.coefficients());
+            format!("of its equation c0 + c1 t + .. + c4 t^4 = 0, {which}")
         }
     }
 }
@@ -177,11 +176,15 @@ mod tests {
             ("nan 0 1 0 0 0 0 3 0 1", 10, "confusion is not finite"),
             ("0 0 inf 0 0 0 0 3 0 -inf", 10, "x1, R are not finite"),
             ("0 0 1 0 0 0 0 3 0 -0.5", 11, "the radius R is -0.5, not above 0"),
-            ("0 0 1 0 0 0 0 3 0 1e200", 12, "the coefficient of 1 is not finite"),
+            (
+                "0 0 1 0 0 0 0 3 0 1e200",
+                12,
+                "of its equation c0 + c1 t + .. + c4 t^4 = 0, c0 is not finite",
+            ),
             (
                 "0 0 0 1e200 0 0 0 -1e200 0 1",
                 12,
-                "the coefficient of 1, the coefficient of t^2, the coefficient of t^4 are not finite",
+                "of its equation c0 + c1 t + .. + c4 t^4 = 0, c0, c2, c4 are not finite",
             ),
             ("0 0 0 0 0 0 0 3 0 1", 2, "no equation: the ball stands still, or moves too little"),
         ] {
