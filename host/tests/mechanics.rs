@@ -90,7 +90,7 @@ fn tables_of_made_files() {
         let csv = text(&hall(&["show", "--csv"], &bytes).stdout);
         let mut last = (String::new(), 0.0);
         for fields in csv.lines().skip(1).map(fields) {
-            assert_eq!(fields.len(), 14, "{fields:?}");
+            assert_eq!(fields.len(), 17, "{fields:?}");
             let Ok(angle) = fields[11].parse::<f64>() else { continue };
             let radians: f64 = fields[12].parse().unwrap();
             assert!((radians - angle.to_radians()).abs() < 1e-8, "{fields:?}");
