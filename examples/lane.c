@@ -1,5 +1,5 @@
-/* A lane controller's use of Pongewaru: the roots of a list, an inquiry answered in a loop, a crank, a quadratic, a hall file, and what is refused. In the
- * repository's folder
+/* A lane controller's use of Pongewaru: the roots of a list, an inquiry answered in a loop, a pin contact, a crank, a quadratic, a hall file, and what is
+ * refused. In the repository's folder
  *
  *     rt staticlib pongewaru
  *     gcc -Wall -Werror -Iinclude examples/lane.c target/staticlib/libpongewaru.a -lm -o target/lane && target/lane
@@ -22,6 +22,9 @@ static const char *why(uint64_t said)
     case PONGEWARU_TOO_FEW: return "no equation is left";
     case PONGEWARU_TOO_MANY: return "the degree is above 4";
     case PONGEWARU_ANSWER_NOT_FINITE: return "a number of the answer is not finite";
+    case PONGEWARU_RECORD_NOT_FINITE: return "a number is not finite";
+    case PONGEWARU_NO_RADIUS: return "the radius is not above 0";
+    case PONGEWARU_MADE_NOT_FINITE: return "a coefficient made is not finite";
     case PONGEWARU_CUT_DOUBLE: return "the bytes are no whole doubles";
     default: return "?";
     }
@@ -77,6 +80,18 @@ static void contact(double off)
         count++;
     }
     print_list(&shown.list);
+}
+
+/* ---- The same ball and pin as a path and a circle: each question is replied by the ball's distance */
+
+static void pin(double off)
+{
+    struct pongewaru_list list;
+    uint64_t said = pongewaru_pin_contact(CONFUSION, -2, 4, 0, off, 0, 0, 0, 0, R, &list, sizeof list);
+    if (said == sizeof list)
+        print_list(&list);
+    else
+        printf("refused %d: %s\n", (int)said, why(said));
 }
 
 /* ---- A crank: cos t = 0, each question replied no */
@@ -140,6 +155,9 @@ int main(void)
     contact(R);
     contact(R + 1e-8);
     contact(R + 1e-3);
+    pin(0);
+    pin(R + 1e-8);
+    pin(NAN);
     crank();
     quadratic();
     file();
