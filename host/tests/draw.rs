@@ -196,6 +196,14 @@ fn no_roots() {
     assert_eq!(labels(&picture("quad 1e-9 1e-9 0 0 5")), ["nearest to 0 at x = 0: p(x) = 5"]);
 }
 
+/// A place that exact arithmetic does not confirm is marked otherwise.
+#[test]
+fn doubtful_places() {
+    let all = picture("list 2^-30 -6 11 -6 1 2^-359");
+    assert_eq!(labels(&all), ["x = -1.17427e108", "x = 3.52138, doubtful"]);
+    assert_eq!((of_class(&all, "dot").len(), of_class(&all, "doubtful").len()), (1, 1));
+}
+
 #[test]
 fn the_title_is_the_equation() {
     let all = picture("list 2^-30 2 -3 1");

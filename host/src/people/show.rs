@@ -96,7 +96,7 @@ fn shown_record(bytes: &[u8], item: Item, line: &Line) -> Shown {
         kind: line.kind.map_or("--", Kind::word),
         question: text(question::equation),
         tolerances: text(question::tolerances),
-        answer: heading(&line.answer),
+        answer: heading(line),
         refusal,
         roots: places(&item, &coeffs, &line.answer),
         coeffs,
@@ -130,12 +130,13 @@ fn places(item: &Item, coeffs: &[f64], answer: &Answer) -> Vec<Place> {
 }
 
 /// What an answer is, without its places; nothing for a refusal.
-fn heading(answer: &Answer) -> String {
+fn heading(line: &Line) -> String {
+    let word = if line.kind == Some(Kind::Contact) { "contact" } else { "root" };
     let count = |n: usize| match n {
-        1 => "1 root".to_string(),
-        n => format!("{n} roots"),
+        1 => format!("1 {word}"),
+        n => format!("{n} {word}s"),
     };
-    match answer {
+    match &line.answer {
         Answer::Refused(_) => String::new(),
         Answer::List(roots) => count(roots.len()),
         Answer::Crank(k, roots) => format!("k {k}, {}", count(roots.len())),
