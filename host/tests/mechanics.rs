@@ -139,15 +139,15 @@ fn a_file_as_csv() {
 #[test]
 fn contacts() {
     let bytes = made("contact 1e-9 4 0 0 -10 2 0 1 0 5\ncontact 0.5 5.25 0 0 -10 2 0 0 0 5");
-    let head = "  answer   place  bits              times\n";
+    let head = "  answer      place  bits              times\n";
     let table = "\
 1 contact, confusion 1e-9: |(4, 2 t - 10) - (1, 0)| = 5
-  2 roots  3      4008000000000000  1
+  2 contacts  3      4008000000000000  1
     ball at x = 4, y = -4, D - R = 0
-           7      401C000000000000  1
+              7      401C000000000000  1
     ball at x = 4, y = 4, D - R = 0
 2 contact, confusion 0.5: |(5.25, 2 t - 10) - (0, 0)| = 5
-  1 root   5      4014000000000000  2
+  1 contact   5      4014000000000000  2
     ball at x = 5.25, y = 0, D - R = 0.25
 ";
     assert_eq!(text(&hall(&["show"], &bytes).stdout), format!("{head}{table}"));
