@@ -1,5 +1,6 @@
 //! Plausible mistakes, and one for each operator of the definitions.
 mod bands;
+mod contact_records;
 mod contacts;
 mod critical_points;
 mod cubics;
@@ -38,6 +39,7 @@ pub fn all() -> Vec<Variant> {
         solutions::ALL,
         files::ALL,
         contacts::ALL,
+        contact_records::ALL,
     ]
     .concat()
 }
