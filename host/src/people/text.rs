@@ -1,6 +1,7 @@
 //! Records as lines of text: `list TOL c0 c1 ..`, `quad CONFUSION ANGULAR a b c`,
-//! `crank CONFUSION a2 b2 c1 d1 e`, `contact CONFUSION x0 x1 x2 y0 y1 y2 cx cy R`, and `slider R L X`
-//! for the crank of these lengths; '#' starts a comment. Capital letters count as small ones.
+//! `crank CONFUSION a2 b2 c1 d1 e`, `contact CONFUSION x0 x1 x2 y0 y1 y2 cx cy R`, and
+//! `slider R L X` for the crank of these lengths; '#' starts a comment. Capital letters count as
+//! small ones.
 use crate::people::number::{character, number, word};
 use crate::people::slider;
 use crate::truth::contact::Contact;
