@@ -135,8 +135,7 @@ crank-short confusion a2 b2 c1 d1 e = go (eqb (crankStartOf confusion a2 b2 c1 d
 -- ---- pin contacts
 pub contact-short : (confusion : Float) (path : Path) (circle : Circle) → let a = pinContactOf confusion path circle in (a .number < 100) × Printable (a .roots)
 contact-short confusion path circle =
-    let all = contacts confusion path circle in
-    (
+    let all = contacts confusion path circle in (
       ⊎-elim (λ e. omega (arith, e)) (λ more. ⊎-elim (λ e. omega (arith, e)) (λ m. omega (arith, m .1)) more) (all .numbers .no-other),
       record { fits = all .array; short = omega (arith, all .roots .sum, all .degree) },
     )
