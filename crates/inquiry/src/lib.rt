@@ -1,6 +1,6 @@
 // real_roots_touching of poly.rs as an inquiry: a value that shows a question about a place, or the finished list.
 // Nothing is suspended in it: `ask` walks anew, with the replies at hand. It rests on `poly` (solve), `touching` (the walk), `finish` and `asking`, which says
-// what a computation that asks is; the crank and the programs rest on it.
+// what a computation that asks is; the crank, the pin contact and the programs rest on it.
 ghost use mathlib.Core.Path.{_≡_};
 ghost use Prim.Native.Nat.{_≤_};
 ghost use mathlib.Core.Bool.{true};
