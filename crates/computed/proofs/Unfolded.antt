@@ -31,7 +31,7 @@ use Rattle.factors.specs.Factors.{pushLinOf, pushQuadOf}
 use Rattle.large_factors.specs.Large.{quadUnitsOf, factorUnitsOf, endsOf, withUnit, largeFrom, largeOf}
 use Rattle.quotient.specs.Quotient.{productTermOf, nextAt, mulOf, productOf, accOf, quotientOf, usableOf, mergedOf}
 use Rattle.factorize.specs.Factorize.{pairedOf, quarticFactorsOf, outOf, secondOf, factorsFrom, factorizeOf}
-use Rattle.roots.specs.Roots.{held, kept, paired}
+use Rattle.roots.specs.Roots.{kindOf, held, kept, paired}
 use Rattle.band.specs.Band.{magnitudeStep, magnitudeOf, budgetOf, baseOf, withinBandOf}
 use Rattle.critical.specs.Critical.{criticalNext, criticalPointOf, extremumOf}
 use Rattle.push.specs.Quadratic.{quadraticRootsOf, pushFactor, pushQuadraticOf}
@@ -72,7 +72,7 @@ scaling = 0
 
 -- layer 6
 unfoldable pub solving : ℕ
-unfolding held kept paired zeroRootsOf candidatesOf byValue touchesAt magnitudeStep magnitudeOf budgetOf baseOf withinBandOf criticalNext
+unfolding kindOf held kept paired zeroRootsOf candidatesOf byValue touchesAt magnitudeStep magnitudeOf budgetOf baseOf withinBandOf criticalNext
     criticalPointOf extremumOf quadraticRootsOf pushFactor pushQuadraticOf isLongOf isSmallOf polishNext polishOf answered _then_ each
     pairOrder ordered linkAt contactOf emitted itemTurn chained touching linearOf isGrazingOf twoOf solveQuadraticOf eighthOf fAtOf sampleOf quarticOf
 solving = 0

@@ -27,7 +27,8 @@ use Rattle.factors.specs.Factors.{quadOf}
 use Rattle.large_factors.specs.Large.{unitOf, quadUnitsOf, largeOf}
 use Rattle.quotient.specs.Quotient.{productOf, quotientOf, usableOf, mergedOf}
 use Rattle.factorize.specs.Factorize.{pairedOf, outOf, secondOf, factorizeOf}
-use Rattle.roots.specs.Roots.{root, kept, pair, paired}
+use Rattle.roots.specs.declared.RootKind.the-variants.{Brush}
+use Rattle.roots.specs.Roots.{rootBy, root, kept, pair, paired}
 use Rattle.band.specs.Band.{magnitudeOf, budgetOf, withinBandOf, bare}
 use Rattle.push.specs.Quadratic.{pushQuadraticOf}
 use Rattle.polish.specs.Polish.{isLongOf, polishNext, polishOf}
@@ -193,9 +194,9 @@ pub record Inquiring : Type 0 where
   pub equal-items : ordered (pair zero64 one64 ∷ []) (root one64 1 ∷ root one64 2 ∷ []) ≡ root one64 1 ∷ root one64 2 ∷ []
   -- 138, `0.5 * (lo + hi)`: between 1 and 5 units of 2^-1074 the question is about 3; not the link's middle by two halves (then about 2)
   pub link-middle : answered (λ x. true) (touching (bare (zero64 ∷ []) 0 one64) zero64 (root (1 /2^ 1074) 1 ∷ root (5 /2^ 1074) 1 ∷ []) [])
-      ≡ root (3 /2^ 1074) 2 ∷ []
+      ≡ rootBy true (3 /2^ 1074) 2 ∷ []
   -- 151, `0.5 * (first + items[k].0)`, both 1 unit; not the midpoint by two halves (then 0)
-  pub chain-middle : contactOf (record { first = 1 /2^ 1074; last = 1 /2^ 1074; at = one64; touching = 2; mult = 2 }) ≡ 1 /2^ 1074
+  pub chain-middle : contactOf (record { first = 1 /2^ 1074; last = 1 /2^ 1074; at = one64; touching = 2; mult = 2; kind = Brush }) ≡ 1 /2^ 1074
 
 pub record Equations : Type 0 where
   -- equation.rs 104, `/ (2.0 * a.abs())`, which overflows: sep is NaN, not infinite; not sep by half the root (then it is within any band)

@@ -200,7 +200,8 @@ module _ (confusion : Float) (path : Path) (circle : Circle) where
         degree = omega (arith, five);
         most = start-most touches coeffs confusion;
         questions = start-few touches coeffs confusion;
-        roots = by-tests (λ (a : Answer). Within (degreeLeft coeffs) (listOf (a .roots))) (λ n. within-more 0 (degreeLeft coeffs) [] (omega arith) within-none) within;
+        roots =
+            by-tests (λ (a : Answer). Within (degreeLeft coeffs) (listOf (a .roots))) (λ n. within-more 0 (degreeLeft coeffs) [] (omega arith) within-none) within;
         array = by-tests (λ (a : Answer). Fits (a .roots)) (λ n. (refl, omega arith)) fitting;
         solved = solved;
         doubles = made-doubles (seenOf path circle) (circle .r);

@@ -19,8 +19,8 @@ use Rattle.contact.specs.declared.Path.{Path}
 use Rattle.contact.specs.declared.Circle.{Circle}
 use Rattle.contact.specs.Contact.{numbersOf, seenOf, madeOf, touchesOf, pinContactOf}
 
--- Each number, 0 for an answer too, stands exactly for its condition: on the record's numbers, on its radius, and on the coefficients made. There are no others:
--- 1 and 3 to 5 never come.
+-- Each number, 0 for an answer too, stands exactly for its condition: on the record's numbers, on its radius, and on the coefficients made. There are no
+-- others: 1 and 3 to 5 never come.
 pub record Numbers (number : ℕ) (numbers : List Float) (r : Float) (coeffs : List Float) : Type 0 where
   pub zero : Exactly (number ≡ 0) ((allFiniteOf numbers ≡ true) × (lt zero64 r ≡ true) × (allFiniteOf coeffs ≡ true) × (2 ≤ trimmedOf coeffs))
   pub ten : Exactly (number ≡ 10) (allFiniteOf numbers ≡ false)

@@ -1,9 +1,9 @@
 -- Demand 3 for each simple root of a list: where place k in the order has multiplicity 1, polishing has made it no worse beyond rounding.
-use mathlib.Core.Path.{_≡_}
+use mathlib.Core.Path.{_≡_, refl}
 use mathlib.Core.Bool.{true}
-use mathlib.Core.List.{List}
-use Prim.Native.Nat.{ℕ, _≤_}
-use lib.ListN.{getD, List·getD-map}
+use mathlib.Core.List.{List, [], _∷_}
+use Prim.Native.Nat.{ℕ, zero, suc, _≤_}
+use lib.ListN.{getD}
 use Rattle.float.specs.Literals.{two64, four64}
 use Rattle.scaled.specs.declared.Scaled.{Scaled}
 use Rattle.roots.specs.Listed.{blank}
@@ -25,9 +25,11 @@ module _ (n : ℕ) (poly : Scaled) where
       let e = simple-value o simple in
       rw e (polishing n (poly .f) (poly .d) (o .gap) (o .value) degree coefficients begin (rw e at end))
 
-  at-place : (l : List Ordered) (k : ℕ) → getD (polishedOf n poly l) k blank ≡ polishedAt n poly (getD l k nowhere)
+  at-place : (l : List Ordered) (k : ℕ) → getD (polishedOf n poly l) k blank .value ≡ polishedAt n poly (getD l k nowhere) .value
   unfolding polishedOf polishedAt
-  at-place l k = List·getD-map (polishedAt n poly) l k nowhere
+  at-place [] k = refl
+  at-place (o ∷ l) zero = refl
+  at-place (o ∷ l) (suc k) = at-place l k
 
   -- The k-th ordered place and the k-th polished one, for every number of turns n and every list of candidates c.
   pub simple-polished : (c : List RealRoot) (k : ℕ) → poly .d ≤ 4 → AllAtMost two64 (poly .f) (poly .d)

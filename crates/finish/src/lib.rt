@@ -139,14 +139,11 @@ fn polished_by(poly: Scaled, r: RealRoot, gap: f64) -> RealRoot
     ensures { λ s. ⌜ s ≡ polishedAt 4 poly (placeOf r gap) ⌝ }
 {
     if r.multiplicity != 1 {
-        return r;
+        return RealRoot::new(r.value, r.multiplicity);
     }
     let f = poly.f;
     let y = polish::polish(f, poly.d, r.value, gap);
-    RealRoot {
-        value: y,
-        multiplicity: 1,
-    }
+    RealRoot::new(y, 1)
 }
 
 fn polished(poly: Scaled, o: Roots) -> Roots
@@ -199,10 +196,7 @@ fn join(a: RealRoot, b: RealRoot) -> RealRoot
 {
     let total = a.multiplicity + b.multiplicity;
     let sum = a.value * a.multiplicity as f64 + b.value * b.multiplicity as f64;
-    RealRoot {
-        value: sum / total as f64,
-        multiplicity: total,
-    }
+    RealRoot::new(sum / total as f64, total)
 }
 
 // The next place b joins the run, or ends it and begins the next one.
@@ -216,7 +210,7 @@ fn next_run(poly: Scaled, run: Run, b: RealRoot, tol: f64) -> Run
         let at = join(a, b);
         return Run { out, at };
     }
-    let more = out.keep(a.value, a.multiplicity);
+    let more = out.keep_root(a);
     Run { out: more, at: b }
 }
 
@@ -233,8 +227,7 @@ fn ended(run: Run) -> Roots
     ensures { λ r. ⌜ r ≡ keptIn (run .out) (run .at) ⌝ }
 {
     let out = run.out;
-    let last = run.at;
-    out.keep(last.value, last.multiplicity)
+    out.keep_root(run.at)
 }
 
 fn joined(poly: Scaled, p: Roots, tol: f64) -> Roots

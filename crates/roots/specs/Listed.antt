@@ -8,11 +8,12 @@ use lib.ListN.{length}
 use lib.Ieee.{nan}
 use Rattle.facts.specs.Lists.{sumOf, AllOf}
 use Rattle.float.specs.Methods.{isFiniteOf}
+use Rattle.roots.specs.declared.RootKind.the-variants.{Crossing}
 use Rattle.roots.specs.declared.RealRoot.{RealRoot}
 use Rattle.roots.specs.declared.Roots.{Roots}
 use Rattle.roots.specs.declared.Pair.{Pair}
 use Rattle.roots.specs.declared.Pairs.{Pairs}
-use Rattle.roots.specs.Roots.{root, pair}
+use Rattle.roots.specs.Roots.{pair}
 
 -- the sum of the multiplicities
 abbrev pub multiplicities : List RealRoot → ℕ
@@ -48,7 +49,7 @@ PairsFit s = (length (s .pair) ≡ 2) × (s .len ≤ 2)
 
 -- what a read outside an array stands for
 abbrev pub blank : RealRoot
-blank = root nan 0
+blank = record { value = nan; multiplicity = 0; kind = Crossing }
 
 abbrev pub blankPair : Pair
 blankPair = pair nan nan

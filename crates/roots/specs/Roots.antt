@@ -1,25 +1,41 @@
--- RealRoot, Candidates and Pairs of poly.rs: lists of at most four and of at most two, in arrays with a count. Definitions only.
-use mathlib.Core.Bool.{cond, _&&_}
+-- RealRoot, Candidates and Pairs of poly.rs: lists of at most four and of at most two, in arrays with a count; and the kinds of roots. Definitions only.
+use mathlib.Core.Bool.{Bool, false, cond, _&&_}
 use mathlib.Core.List.{List, [], _∷_, _++_}
 use Prim.Native.Nat.{ℕ, _+_, _-_}
-use lib.Dec.{ltb}
+use lib.Dec.{ltb, eqb}
 use lib.ListN.{length, take, set, replicate}
 use lib.Ieee.{Float}
 use Rattle.float.specs.Literals.{zero64}
 use Rattle.float.specs.Methods.{isFiniteOf}
+use Rattle.roots.specs.declared.RootKind.{RootKind}
+use Rattle.roots.specs.declared.RootKind.the-variants.{Crossing, Brush, Flat}
 use Rattle.roots.specs.declared.RealRoot.{RealRoot}
 use Rattle.roots.specs.declared.Roots.{Roots}
 use Rattle.roots.specs.declared.Pair.{Pair}
 use Rattle.roots.specs.declared.Pairs.{Pairs}
 
 -- ---- roots
--- `RealRoot { value, multiplicity, }`
-abbrev pub root : Float → ℕ → RealRoot
-root y m = record { value = y; multiplicity = m }
+-- 'crossing where its total multiplicity is 1, brush where at least one yes reply helped to form it, flat otherwise'
+unfoldable pub kindOf : ℕ → Bool → RootKind
+kindOf m brushed = cond (eqb m 1) Crossing (cond brushed Brush Flat)
 
--- what stands in a place that does not count
+-- the kind for C
+unfoldable pub kindNumber : RootKind → ℕ
+kindNumber Crossing = 0
+kindNumber Brush = 1
+kindNumber Flat = 2
+
+-- a root; brushed: at least one yes reply helped to form it
+abbrev pub rootBy : Bool → Float → ℕ → RealRoot
+rootBy brushed y m = record { value = y; multiplicity = m; kind = kindOf m brushed }
+
+-- `RealRoot { value, multiplicity, }`: a root that no reply helped to form
+abbrev pub root : Float → ℕ → RealRoot
+root y m = rootBy false y m
+
+-- what stands in a place that does not count: zeros
 abbrev pub noRoot : RealRoot
-noRoot = root zero64 0
+noRoot = record { value = zero64; multiplicity = 0; kind = Crossing }
 
 -- the roots that count
 abbrev pub listOf : Roots → List RealRoot

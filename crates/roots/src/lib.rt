@@ -1,13 +1,24 @@
 // The roots of poly.rs on their way to the list: RealRoot, at most four of them (Candidates in the scaled variable, the answer in x), and at most two
-// complex pairs.
+// complex pairs. A root's kind says whether it crossed or brushed.
 // It rests on `float`; push_quadratic, finish, the lists and the inquiry rest on it.
 ghost use mathlib.Core.Path.{_≡_};
-ghost use Rattle.roots.specs.Roots.{root, noRoots, pushedOf, keptIn, pair, noPairs, pairedIn};
+ghost use Rattle.roots.specs.Roots.{kindNumber, kindOf, rootBy, root, noRoots, pushedOf, keptIn, pair, noPairs, pairedIn};
 
-// A place and its multiplicity.
+// Whether a root crossed, brushed, or is flat.
+pub enum RootKind {
+    // Its multiplicity is 1.
+    Crossing,
+    // Another one that a yes reply helped to form.
+    Brush,
+    // Any other.
+    Flat,
+}
+
+// A place, its multiplicity and its kind.
 pub struct RealRoot {
     pub value: f64,
     pub multiplicity: u32,
+    pub kind: RootKind,
 }
 
 // Candidates of poly.rs, and its list of at most four roots, in the order found.
@@ -27,6 +38,52 @@ pub struct Pairs {
     pub len: usize,
 }
 
+impl RootKind {
+    // The kind of a root of this multiplicity; brushed: at least one yes reply helped to form it.
+    fn of(multiplicity: u32, brushed: bool) -> RootKind
+        ensures { λ r. ⌜ r ≡ kindOf multiplicity brushed ⌝ }
+    {
+        if multiplicity == 1 {
+            return RootKind::Crossing;
+        }
+        if brushed {
+            return RootKind::Brush;
+        }
+        RootKind::Flat
+    }
+
+    // The kind for C.
+    pub fn number(self) -> u32
+        ensures { λ r. ⌜ r ≡ kindNumber self ⌝ }
+    {
+        match self {
+            RootKind::Crossing => 0,
+            RootKind::Brush => 1,
+            RootKind::Flat => 2,
+        }
+    }
+}
+
+impl RealRoot {
+    // A root that replies may have helped to form.
+    pub fn by(brushed: bool, value: f64, multiplicity: u32) -> RealRoot
+        ensures { λ r. ⌜ r ≡ rootBy brushed value multiplicity ⌝ }
+    {
+        RealRoot {
+            value,
+            multiplicity,
+            kind: RootKind::of(multiplicity, brushed),
+        }
+    }
+
+    // A root that no reply helped to form.
+    pub fn new(value: f64, multiplicity: u32) -> RealRoot
+        ensures { λ r. ⌜ r ≡ root value multiplicity ⌝ }
+    {
+        RealRoot::by(false, value, multiplicity)
+    }
+}
+
 impl Roots {
     pub fn none() -> Roots
         ensures { λ r. ⌜ r ≡ noRoots ⌝ }
@@ -35,6 +92,7 @@ impl Roots {
             root: [RealRoot {
                 value: 0.0,
                 multiplicity: 0,
+                kind: RootKind::Crossing,
             }; 4],
             len: 0,
         }
@@ -70,18 +128,35 @@ impl Roots {
         }
     }
 
-    // Candidates::push: only finite places are kept.
-    pub fn keep(self, value: f64, multiplicity: u32) -> Roots
-        ensures { λ s. ⌜ s ≡ keptIn self (root value multiplicity) ⌝ }
+    // The same for roots that lie in memory: one place is stored.
+    pub fn append(self, r: RealRoot) -> Roots
+        ensures { λ s. ⌜ s ≡ pushedOf self r ⌝ }
     {
-        if float::is_finite(value) {
-            let r = RealRoot {
-                value: value,
-                multiplicity: multiplicity,
-            };
+        let at = self.len;
+        if at < 4 {
+            let mut more = self;
+            more.root[at] = r;
+            more.len = at + 1;
+            return more;
+        }
+        self
+    }
+
+    // Only a finite place is kept.
+    pub fn keep_root(self, r: RealRoot) -> Roots
+        ensures { λ s. ⌜ s ≡ keptIn self r ⌝ }
+    {
+        if float::is_finite(r.value) {
             return self.push(r);
         }
         self
+    }
+
+    // Candidates::push.
+    pub fn keep(self, value: f64, multiplicity: u32) -> Roots
+        ensures { λ s. ⌜ s ≡ keptIn self (root value multiplicity) ⌝ }
+    {
+        self.keep_root(RealRoot::new(value, multiplicity))
     }
 }
 

@@ -15,7 +15,6 @@ use Rattle.float.specs.Methods.{isFiniteOf}
 use Rattle.scaled.specs.declared.Scaled.{Scaled}
 use Rattle.roots.specs.declared.RealRoot.{RealRoot}
 use Rattle.roots.specs.declared.Pair.{Pair}
-use Rattle.roots.specs.Roots.{root}
 use Rattle.roots.specs.Listed.{multiplicities, Listed}
 use Rattle.critical.specs.declared.TurningPoint.{TurningPoint}
 use Rattle.critical.specs.declared.TurningPoint.the-variants.{At, None}
@@ -25,7 +24,7 @@ use Rattle.asking.specs.Asking.{Asking, done, ask, _then_, each}
 use Rattle.asking.specs.Within.{EndsWithin}
 use Rattle.asking.proofs.Within.{weaken, either-within, then-within, each-within}
 use Rattle.touching.specs.declared.Chain.{Chain}
-use Rattle.touching.specs.Touching.{touchesAt, pairOrder, reachOf, allApart, apartOf, pairAt, pairTurn, ordered, noChain}
+use Rattle.touching.specs.Touching.{touchesAt, pairOrder, reachOf, allApart, apartOf, pairItem, pairAt, pairTurn, ordered, noChain}
 use Rattle.touching.specs.Touching.{openedBy, extendedBy, contactOf, emitted, parted, linkAt, itemTurn, chained, touching}
 use Rattle.touching.proofs.Lists.{length-byValue, multiplicities-byValue, length-pairOrder}
 
@@ -55,17 +54,20 @@ emitted-keeps e out c d a = go (eqb (c .mult) 0) (isFiniteOf x) refl refl
     x : Float
     x = unscaledOf e (contactOf c)
 
+    of-chain : RealRoot
+    of-chain = record { value = x; multiplicity = c .mult; kind = c .kind }
+
     kept : ListedIn (d + c .mult) out
     kept = let s = a .1 in (a .0, omega arith)
 
-    go : (b f : Bool) → eqb (c .mult) 0 ≡ b → isFiniteOf x ≡ f → ListedIn (d + c .mult) (cond b out (cond f (out ++ root x (c .mult) ∷ []) out))
+    go : (b f : Bool) → eqb (c .mult) 0 ≡ b → isFiniteOf x ≡ f → ListedIn (d + c .mult) (cond b out (cond f (out ++ of-chain ∷ []) out))
     go true f z h = kept
     go false false z h = kept
     go false true z h =
         let s = a .1 in
         let some = eqb-false (c .mult) 0 z in (
-          all-snoc _ out (root x (c .mult)) (a .0) (h, omega (arith, some)),
-          omega (arith, sum-snoc (λ (r : RealRoot). r .multiplicity) out (root x (c .mult)), s),
+          all-snoc _ out of-chain (a .0) (h, omega (arith, some)),
+          omega (arith, sum-snoc (λ (r : RealRoot). r .multiplicity) out of-chain, s),
         )
 
 module _ (poly : Scaled) (tol : Float) where
@@ -90,21 +92,21 @@ module _ (poly : Scaled) (tol : Float) where
       same : Q (suc n) its
       same = (omega arith, omega arith, omega arith)
 
-      more : (m x : ℕ) → n ≤ m → x ≤ 2 → (y : Float) → Q m (its ++ root y x ∷ [])
-      more m x h t y =
-          let a = length-snoc its (root y x) in
-          let b = sum-snoc (λ (r : RealRoot). r .multiplicity) its (root y x) in
+      more : (m : ℕ) (x : RealRoot) → n ≤ m → x .multiplicity ≤ 2 → Q m (its ++ x ∷ [])
+      more m x h t =
+          let a = length-snoc its x in
+          let b = sum-snoc (λ (r : RealRoot). r .multiplicity) its x in
           (omega arith, omega arith, omega arith)
 
       go : (f : TurningPoint) → EndsWithin (suc n) (pairAt poly tol its f) Q
       go None = same
       go (At y) =
-          let then-add : Bool → Asking (List RealRoot) = λ r. done (its ++ root y (cond r 2 0) ∷ []) in
+          let then-add : Bool → Asking (List RealRoot) = λ r. done (its ++ pairItem y r ∷ []) in
           either-within Q (suc n) (allApart (apartOf poly tol y) y its) (touchesAt (poly .e) y then then-add) (done its)
           (then-within Q (suc n) (touchesAt (poly .e) y) then-add
           (touches-within (λ m r. EndsWithin m (then-add r) Q) (poly .e) n y
-          (elim [ true ↦ more n 2 (omega arith) (omega arith) y | false ↦ more n 0 (omega arith) (omega arith) y ])
-          (more (suc n) 0 (omega arith) (omega arith) y)))
+          (elim [ true ↦ more n (pairItem y true) (omega arith) (omega arith) | false ↦ more n (pairItem y false) (omega arith) (omega arith) ])
+          (more (suc n) (pairItem y false) (omega arith) (omega arith))))
           same
 
   -- while items are left: a link is asked about only where a chain is at hand, and what is left may add to the list

@@ -16,7 +16,7 @@ use Rattle.scaled.specs.declared.Scaled.{Scaled}
 use Rattle.roots.specs.declared.RealRoot.{RealRoot}
 use Rattle.roots.specs.declared.Roots.{Roots}
 use Rattle.roots.specs.declared.Pair.{Pair}
-use Rattle.roots.specs.Roots.{root, listOf, pushedOf}
+use Rattle.roots.specs.Roots.{listOf, pushedOf}
 use Rattle.roots.specs.Listed.{multiplicities, Fits, blank}
 use Rattle.roots.proofs.Laws.{roots-cons, roots-nil}
 use Rattle.critical.specs.declared.TurningPoint.{TurningPoint}
@@ -26,7 +26,7 @@ use Rattle.poly.specs.RealRoots.{unscaledOf}
 use Rattle.asking.specs.Asking.{Asking, done, Stage, asks, ended, walked, onward, each}
 use Rattle.asking.proofs.Laws.{walked-then, each-end, each-turn, each-one, each-two}
 use Rattle.touching.specs.declared.Chain.{Chain}
-use Rattle.touching.specs.Touching.{touchesAt, pairOrder, reachOf, apartBy, allApart, apartOf, pairAt, pairTurn, noChain}
+use Rattle.touching.specs.Touching.{touchesAt, pairOrder, reachOf, apartBy, allApart, apartOf, pairItem, pairAt, pairTurn, noChain}
 use Rattle.touching.specs.Touching.{doubleOf, openedBy, extendedBy, contactOf, emitted, parted, linkAt, itemTurn}
 use Rattle.touching.specs.Walk.{stageOf, PairAdds}
 use Rattle.touching.proofs.Lists.{pushed-more}
@@ -101,9 +101,9 @@ module _ (poly : Scaled) (tol : Float) (rs : List Bool) (its : List RealRoot) wh
   pair-near y e = simp e
 
   pub pair-far : (y : Float) (s : Stage Bool) → allApart (apartOf poly tol y) y its ≡ true → s ≡ walked rs (touchesAt (poly .e) y)
-      → onward s (λ r. done (its ++ root y (cond r 2 0) ∷ [])) ≡ walked rs (pairAt poly tol its (At y))
+      → onward s (λ r. done (its ++ pairItem y r ∷ [])) ≡ walked rs (pairAt poly tol its (At y))
   unfolding pairAt
-  pair-far y s e h = rw (e, h) (sym (walked-then rs (touchesAt (poly .e) y) (λ r. done (its ++ root y (cond r 2 0) ∷ []))))
+  pair-far y s e h = rw (e, h) (sym (walked-then rs (touchesAt (poly .e) y) (λ r. done (its ++ pairItem y r ∷ []))))
 
   pub pair-nowhere : ended its rs ≡ walked rs (pairAt poly tol its None)
   unfolding pairAt walked
@@ -120,20 +120,20 @@ at-most-two true = omega arith
 at-most-two false = omega arith
 
 -- a reply adds an item
-pub pair-added : (poly : Scaled) (tol : Float) (s s′ : Roots) (y place : Float) (m : ℕ) (asking reply : Bool) (rs left : List Bool) → Fits s → s .len < 4
-    → s′ ≡ pushedOf s (root y m) → m ≡ cond reply 2 0 → asking ≡ false → allApart (apartOf poly tol y) y (listOf s) ≡ true
+pub pair-added : (poly : Scaled) (tol : Float) (s s′ : Roots) (y place : Float) (r : RealRoot) (asking reply : Bool) (rs left : List Bool) → Fits s → s .len < 4
+    → s′ ≡ pushedOf s r → r ≡ pairItem y reply → asking ≡ false → allApart (apartOf poly tol y) y (listOf s) ≡ true
     → stageOf asking place reply left ≡ walked rs (touchesAt (poly .e) y)
     → (ended (listOf s′) left ≡ walked rs (pairAt poly tol (listOf s) (At y))) × PairAdds s s′
-pair-added poly tol s s′ y place m asking reply rs left fits room e em ea far heard =
-    let grown = pushed-more s (root y m) fits room in
-    let list : listOf s′ ≡ listOf s ++ root y m ∷ [] = ap (λ (t : Roots). listOf t) e ∙ grown .0 in
+pair-added poly tol s s′ y place r asking reply rs left fits room e er ea far heard =
+    let grown = pushed-more s r fits room in
+    let list : listOf s′ ≡ listOf s ++ r ∷ [] = ap (λ (t : Roots). listOf t) e ∙ grown .0 in
     let len : s′ .len ≡ s .len + 1 = ap (λ (t : Roots). t .len) e ∙ grown .2 in
-    let sum : multiplicities (listOf s′) ≡ multiplicities (listOf s) + m = ap multiplicities list
-    ∙ sum-snoc (λ (r : RealRoot). r .multiplicity) (listOf s) (root y m) in
-    let two : m ≤ 2 = rw em (at-most-two reply) in (
-      ap (λ (l : List RealRoot). ended l left) (list ∙ ap (λ (k : ℕ). listOf s ++ root y k ∷ []) em)
+    let sum : multiplicities (listOf s′) ≡ multiplicities (listOf s) + r .multiplicity = ap multiplicities list
+    ∙ sum-snoc (λ (r : RealRoot). r .multiplicity) (listOf s) r in
+    let two : r .multiplicity ≤ 2 = rw er (at-most-two reply) in (
+      ap (λ (l : List RealRoot). ended l left) (list ∙ ap (λ (x : RealRoot). listOf s ++ x ∷ []) er)
           ∙ ended-done _ _
-          ∙ at-end asking place reply left (λ r. done (listOf s ++ root y (cond r 2 0) ∷ [])) ea
+          ∙ at-end asking place reply left (λ r. done (listOf s ++ pairItem y r ∷ [])) ea
           ∙ pair-far poly tol rs (listOf s) y _ far heard,
       (rw e (grown .1), omega arith, omega arith),
     )
@@ -177,7 +177,7 @@ module _ (e : ℤ) (out : List RealRoot) (c : Chain) where
   emit-lost y x n h g f = simp (ne-eqb _ _ n, sym h, sym g, f)
 
   pub emit-root : (y x : Float) → (c .mult ≡ 0 → ⊥) → y ≡ contactOf c → x ≡ unscaledOf e y → isFiniteOf x ≡ true
-      → out ++ root x (c .mult) ∷ [] ≡ emitted e out c
+      → out ++ record { value = x; multiplicity = c .mult; kind = c .kind } ∷ [] ≡ emitted e out c
   unfolding emitted
   emit-root y x n h g f = simp (ne-eqb _ _ n, sym h, sym g, f)
 

@@ -9,9 +9,10 @@ use Rattle.float.specs.Rounded.{_+ᶠ_, _-ᶠ_, _*ᶠ_}
 use Rattle.float.specs.Literals.{zero64, half64}
 use Rattle.float.specs.Methods.{absOf, isFiniteOf, minOf}
 use Rattle.scaled.specs.declared.Scaled.{Scaled}
+use Rattle.roots.specs.declared.RootKind.the-variants.{Brush, Flat}
 use Rattle.roots.specs.declared.RealRoot.{RealRoot}
 use Rattle.roots.specs.declared.Pair.{Pair}
-use Rattle.roots.specs.Roots.{root}
+use Rattle.roots.specs.Roots.{rootBy}
 use Rattle.critical.specs.declared.TurningPoint.{TurningPoint}
 use Rattle.critical.specs.declared.TurningPoint.the-variants.{At, None}
 use Rattle.critical.specs.Critical.{extremumOf}
@@ -46,17 +47,21 @@ unfoldable pub allApart : Float → Float → List RealRoot → Bool
 allApart b y [] = true
 allApart b y (it ∷ l) = apartBy b y it && allApart b y l
 
+-- `(y, if touches_at(y) { 2 } else { 0 })`: the item of a pair, a double root where the reply is yes, and else a separator
+abbrev pub pairItem : Float → Bool → RealRoot
+pairItem y reply = rootBy reply y (cond reply 2 0)
+
 module _ (poly : Scaled) (tol : Float) where
   -- `tol * (poly.unit + y.abs())`: an item this near to y takes its place
   abbrev pub apartOf : Float → Float
   apartOf y = tol *ᶠ (poly .unit +ᶠ absOf y)
 
   -- `let Some(y) = poly.extremum(m, m - reach, m + reach, tol) else { continue; };`
-  -- `items[n] = (y, if touches_at(y) { 2 } else { 0 });` where no item is near
+  -- `items[n] = ..;` where no item is near
   unfoldable pub pairAt : List RealRoot → TurningPoint → Asking (List RealRoot)
   unfolding _then_
   pairAt its None = done its
-  pairAt its (At y) = cond (allApart (apartOf y) y its) (touchesAt (poly .e) y then λ reply. done (its ++ root y (cond reply 2 0) ∷ [])) (done its)
+  pairAt its (At y) = cond (allApart (apartOf y) y its) (touchesAt (poly .e) y then λ reply. done (its ++ pairItem y reply ∷ [])) (done its)
 
   -- `for &k in &order[..pairs.len]`: a turn, for the pair p
   unfoldable pub pairTurn : List RealRoot → Pair → Asking (List RealRoot)
@@ -76,20 +81,35 @@ ordered (p ∷ ps) its = byValue its
 -- `while k < n` over the chains and `while k + 1 < n && items[k + 1].1 > 0` along one are one loop over the items here, with the chain at hand and the list
 -- so far. mult = 0: no chain.
 abbrev pub noChain : Chain
-noChain = record { first = zero64; last = zero64; at = zero64; touching = 0; mult = 0 }
+noChain = record { first = zero64; last = zero64; at = zero64; touching = 0; mult = 0; kind = Flat }
 
 -- `u32::from(mult >= 2)`
 abbrev pub doubleOf : ℕ → ℕ
 doubleOf m = cond (ltb 1 m) 1 0
 
--- `let (first, mut mult) = items[k];` and `let (mut touching, mut at) = (u32::from(mult >= 2), first);`: the chain of one item
+-- `let (first, mut mult) = items[k];` and `let (mut touching, mut at) = (u32::from(mult >= 2), first);`: the chain of one item, and of its kind
 abbrev pub openedBy : RealRoot → Chain
-openedBy it = record { first = it .value; last = it .value; at = it .value; touching = doubleOf (it .multiplicity); mult = it .multiplicity }
+openedBy it =
+    record {
+      first = it .value;
+      last = it .value;
+      at = it .value;
+      touching = doubleOf (it .multiplicity);
+      mult = it .multiplicity;
+      kind = it .kind;
+    }
 
--- `mult += items[k].1;`, `touching += 1 + u32::from(items[k].1 >= 2);` and `at = y;`: the chain with one more item, linked at y
+-- `mult += items[k].1;`, `touching += 1 + u32::from(items[k].1 >= 2);` and `at = y;`: the chain with one more item, linked at y by a yes: a brush
 abbrev pub extendedBy : Chain → RealRoot → Float → Chain
 extendedBy c it y =
-    record { first = c .first; last = it .value; at = y; touching = c .touching + (1 + doubleOf (it .multiplicity)); mult = c .mult + it .multiplicity }
+    record {
+      first = c .first;
+      last = it .value;
+      at = y;
+      touching = c .touching + (1 + doubleOf (it .multiplicity));
+      mult = c .mult + it .multiplicity;
+      kind = Brush;
+    }
 
 -- `let y = match touching { 0 => first, 1 => at, _ => 0.5 * (first + items[k].0), };`
 unfoldable pub contactOf : Chain → Float
@@ -102,7 +122,7 @@ unfoldable pub emitted : ℤ → List RealRoot → Chain → List RealRoot
 emitted e out c =
     let y = contactOf c in
     let x = unscaledOf e y in
-    cond (eqb (c .mult) 0) out (cond (isFiniteOf x) (out ++ root x (c .mult) ∷ []) out)
+    cond (eqb (c .mult) 0) out (cond (isFiniteOf x) (out ++ record { value = x; multiplicity = c .mult; kind = c .kind } ∷ []) out)
 
 -- `let Some(y) = link else { break; };`: the chain ends, and the item begins one
 abbrev pub parted : ℤ → List RealRoot → Chain → RealRoot → Chain × List RealRoot

@@ -35,6 +35,7 @@ fn no_chain() -> Chain
         at: 0.0,
         touching: 0,
         mult: 0,
+        kind: roots::RootKind::Flat,
     }
 }
 
@@ -44,28 +45,32 @@ fn opened(it: roots::RealRoot) -> Chain
     let y = it.value;
     let m = it.multiplicity;
     let touching = double(m);
+    let kind = it.kind;
     Chain {
         first: y,
         last: y,
         at: y,
         touching,
         mult: m,
+        kind,
     }
 }
 
-// The chain with one more item, linked at y.
+// The chain with one more item, linked at y by a yes.
 fn extended(c: Chain, it: roots::RealRoot, y: f64) -> Chain
     requires { ⌜ (c .mult + it .multiplicity ≤ 4) × (c .touching ≤ 8) ⌝ }
     ensures { λ r. ⌜ r ≡ extendedBy c it y ⌝ }
 {
     let m = it.multiplicity;
     let more = double(m);
+    let kind = roots::RootKind::Brush;
     Chain {
         first: c.first,
         last: it.value,
         at: y,
         touching: c.touching + (1 + more),
         mult: c.mult + m,
+        kind,
     }
 }
 
@@ -94,9 +99,11 @@ pub fn emit(e: i32, out: roots::Roots, c: Chain) -> roots::Roots
     let x = ldexp::ldexp(y, e);
     if float::is_finite(x) {
         let m = c.mult;
-        return out.push(roots::RealRoot {
+        let kind = c.kind;
+        return out.append(roots::RealRoot {
             value: x,
             multiplicity: m,
+            kind,
         });
     }
     out

@@ -1,12 +1,11 @@
 // The items of real_roots_touching: the roots, and each complex pair as a double root or as a separator; and touches_at.
 ghost use mathlib.Core.Path.{_≡_};
 ghost use Prim.Native.Nat.{_≤_, _<_};
-ghost use mathlib.Core.Bool.{cond};
 ghost use Rattle.roots.specs.Roots.{listOf, pairListOf};
 ghost use Rattle.roots.specs.Listed.{multiplicities, Fits};
 ghost use Rattle.critical.specs.declared.TurningPoint.the-variants.{At};
 ghost use Rattle.asking.specs.Asking.{walked, onward, each};
-ghost use Rattle.touching.specs.Touching.{touchesAt, pairOrder, reachOf, allApart, pairAt, pairTurn};
+ghost use Rattle.touching.specs.Touching.{touchesAt, pairOrder, reachOf, allApart, pairItem, pairAt, pairTurn};
 ghost use Rattle.touching.specs.Replies.{repliesOf};
 ghost use Rattle.touching.specs.Walk.{leftOf, heardAt, walkAt, RepliesFit, PairAdds, Held};
 use crate::Heard;
@@ -76,13 +75,13 @@ fn all_apart(items: roots::Roots, b: f64, y: f64) -> bool
 }
 
 // A touching pair is a double root, another one a separator.
-fn double_if(yes: bool) -> u32
-    ensures { λ r. ⌜ r ≡ cond yes 2 0 ⌝ }
+fn pair_item(y: f64, yes: bool) -> roots::RealRoot
+    ensures { λ r. ⌜ r ≡ pairItem y yes ⌝ }
 {
     if yes {
-        return 2;
+        return roots::RealRoot::by(true, y, 2);
     }
-    0
+    roots::RealRoot::by(false, y, 0)
 }
 
 fn pair_at(poly: scaled::Scaled, tol: f64, replies: Replies, w: Walk, y: f64) -> Walk
@@ -101,11 +100,7 @@ fn pair_at(poly: scaled::Scaled, tol: f64, replies: Replies, w: Walk, y: f64) ->
                 place: h.place,
             };
         }
-        let m = double_if(h.yes);
-        let more = items.push(roots::RealRoot {
-            value: y,
-            multiplicity: m,
-        });
+        let more = items.append(pair_item(y, h.yes));
         return Walk {
             items: more,
             used: h.used,

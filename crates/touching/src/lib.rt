@@ -21,6 +21,7 @@ pub struct Chain {
     pub at: f64,
     pub touching: u32,
     pub mult: u32,
+    pub kind: roots::RootKind,
 }
 
 // What touches_at came to: a reply, or a place that has none yet. `used` replies are behind it.

@@ -1,4 +1,3 @@
-use mathlib.Core.Path.{refl}
 use Rattle.finish.specs.Finish.{joinOf}
 use borrow.Author.Needs.{needs}
 use Rattle.finish.proofs.join.Statement.{statement}
@@ -6,7 +5,7 @@ use Rattle.finish.proofs.join.Tie as tie
 
 returns : tie.Need-returns
 unfolding joinOf
-returns c = refl
+returns c = c .new .ensures
 
 pub join-spec : {M : Type 1} → statement M
-join-spec = tie.close (tie.spec (λ c. search needs) (λ c. search needs) (λ c. search needs) (λ c. search needs) returns)
+join-spec = tie.close (tie.spec (λ c. search needs) (λ c. search needs) (λ c. search needs) (λ c. search needs) (λ c κs. search needs) returns)

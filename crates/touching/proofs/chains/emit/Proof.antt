@@ -18,7 +18,7 @@ returns-2 c =
     let at-start = at-if1 .before .before in
     let some = at-if1 .if1 .left in
     let more = tidy-more (at-start .args .out) _ (at-start .pre .0) (omega (arith, some, at-start .pre .1)) in
-    rw (c .push .ensures) (
+    rw (c .append .ensures) (
       more .0 ∙ emit-root (at-start .args .e) _ (at-start .args .c) _ _ some (at-ldexp .before .contact .ensures)
           (rw (toZ-ofZ (at-start .fits .e)) at (at-ldexp .ldexp .ensures))
           (sym (c .before .before .is-finite .ensures) ∙ c .before .if2 .taken),

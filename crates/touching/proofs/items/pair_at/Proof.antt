@@ -34,7 +34,7 @@ returns-2 c =
     let fit = toZ-ofZ fits in
     let far = sym (rw (at-abs .abs .ensures) at (at-all-apart .all-apart .ensures)) ∙ at-if1 .if1 .taken in
     pair-added (at-start .args .poly) (at-start .args .tol) (at-start .args .w .items) _ _ _ _ _ _ _ _ (at-start .pre .1) (at-start .pre .2)
-    (c .push .ensures) (c .before .double-if .ensures) (c .before .before .if2 .left) far (rw fit at (at-touches-at .touches-at .ensures))
+    (c .append .ensures) (c .before .pair-item .ensures) (c .before .before .if2 .left) far (rw fit at (at-touches-at .touches-at .ensures))
 
 returns-3 : tie.Need-returns-3
 returns-3 c =
