@@ -1,4 +1,4 @@
--- What printing needs of the solver's answers: at most four roots, short numbers, k below 8. Of lists, that they have no more roots than coefficients.
+-- What printing needs of the solver's answers: at most four roots, short numbers, k below 8. Of lists, that they have fewer roots than coefficients.
 use mathlib.Core.Path.{_≡_, refl, sym, subst}
 use mathlib.Core.Bool.{Bool, true, false, cond}
 use mathlib.Core.Logic.{_⊎_, ⊎-elim}
@@ -58,7 +58,7 @@ none-short = within-short 0 [] (omega arith) within-none .0
 pub record ListShort (cs : List Float) (a : Answer) : Type 0 where
   pub number : a .number < 100
   pub roots : Printable (a .roots)
-  pub fewer : a .roots .len ≤ length cs
+  pub fewer : a .roots .len ≤ length cs - 1
 
 number-short : (cs : List Float) (tol : Float) → realRootsOf cs tol .number < 100
 number-short cs tol = omega (arith, number-most cs tol)
@@ -80,7 +80,7 @@ list-short cs tol = ⊎-elim answered refused (eq-zero-or-pos (realRootsOf cs to
         record {
           number = number-short cs tol;
           roots = subst Printable (sym none) none-short;
-          fewer = subst (λ (r : Roots). r .len ≤ length cs) (sym none) (omega arith);
+          fewer = subst (λ (r : Roots). r .len ≤ length cs - 1) (sym none) (omega arith);
         }
 
 -- ---- quadratics

@@ -1,7 +1,7 @@
 -- What the solver answers to a record's numbers can be printed, and is short.
 use mathlib.Core.Path.{_≡_, sym, subst}
 use mathlib.Core.List.{List, []}
-use Prim.Native.Nat.{ℕ, _+_, _*_, _<_, _≤_}
+use Prim.Native.Nat.{ℕ, _+_, _*_, _-_, _<_, _≤_}
 use native.Mathlib.Omega.{arith}
 use lib.ListN.{length}
 use Rattle.float.specs.Bytes.{f64At}
@@ -75,7 +75,7 @@ module _ (s : List ℕ) (at : ℕ) where
   unknown-text k e = rw e
 
   -- ---- how long their texts are
-  pub polynomial-at-length : length (answerText Polynomial s at) ≤ 10 + 20 * countAt s at
+  pub polynomial-at-length : length (answerText Polynomial s at) ≤ 10 + 22 * (countAt s at - 1)
   unfolding answerText
   polynomial-at-length =
       let a = polynomial-at-short in
@@ -85,7 +85,7 @@ module _ (s : List ℕ) (at : ℕ) where
   unfolding answerText
   quadratic-at-length = quadratic-length (quadraticAt s at) quadratic-at-short
 
-  pub answer-length : (kind : Kind) → length (answerText kind s at) ≤ 90
+  pub answer-length : (kind : Kind) → length (answerText kind s at) ≤ 98
   unfolding answerText
   answer-length Polynomial =
       let a = polynomial-at-short in
@@ -99,6 +99,6 @@ module _ (s : List ℕ) (at : ℕ) where
       omega (arith, polynomial-length (contactAt s at) (a .0) (a .1), a .1 .fits .1)
   answer-length Unknown = omega arith
 
-  pub words-length : (found : Record) → found .number < 100 → length (wordsOf s at found) ≤ 90
+  pub words-length : (found : Record) → found .number < 100 → length (wordsOf s at found) ≤ 98
   unfolding wordsOf
-  words-length found h = or-length (found .number) (answerText (found .kind) s at) 90 h (omega arith) (answer-length (found .kind))
+  words-length found h = or-length (found .number) (answerText (found .kind) s at) 98 h (omega arith) (answer-length (found .kind))

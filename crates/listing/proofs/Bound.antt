@@ -1,5 +1,5 @@
 -- No listing is longer than 163,860 bytes: a line has at most five bytes for every two of its record, and the last one, after which reading ends, at most 20.
--- (A list of n coefficients has 11 + 8 * n bytes, and its line at most 20 + 20 * n, since it has no more roots than coefficients.)
+-- (A list of n coefficients has 11 + 8 * n bytes, and its line at most 20, and 22 for each root: of these there are at most n - 1, and at most four.)
 use mathlib.Core.Path.{_≡_, refl, ap, subst}
 use mathlib.Core.Bool.{Bool, true, false, cond}
 use mathlib.Core.Logic.{_⊎_, inl, inr, ⊎-elim}
@@ -40,7 +40,7 @@ record-short s at n few =
     let contact = wholeOf Contact (at + 82) in
     record-by (Short s at n) s at
     (λ kind number h k. inl (omega arith, omega (arith, line-length n s at (endedOf kind number s) few, ended-length s at kind number h k)))
-    (λ c h. inr (omega (arith, line-length n s at polynomial few, polynomial-at-length s at)))
+    (λ c h. inr (omega (arith, line-length n s at polynomial few, polynomial-at-length s at, answer-length s at Polynomial)))
     (λ h. inr (omega (arith, line-length n s at quadratic few, quadratic-at-length s at)))
     (λ h. inr (omega (arith, line-length n s at crank few, answer-length s at Crank)))
     (λ h. inr (omega (arith, line-length n s at contact few, answer-length s at Contact)))

@@ -1,13 +1,19 @@
--- Listings of small files, computed from the definition: each refusal of the file's own, and a record refused under 2, after which reading goes on.
+-- Listings of small files, computed from the definition: each refusal of the file's own, and a record refused under 2, after which reading goes on. And what
+-- stands behind the place of a root of each kind.
 use mathlib.Core.Path.{_≡_, refl}
+use mathlib.Core.Bool.{true}
 use mathlib.Core.List.{List, [], _∷_, _++_, map}
 use Prim.Native.Nat.{ℕ, _+_}
-use lib.ListN.{replicate}
-use Rattle.text.specs.Digits.{decimal}
+use lib.ListN.{replicate, drop}
+use Rattle.float.specs.Literals.{zero64}
+use Rattle.text.specs.Digits.{hexDigits, decimal}
+use Rattle.roots.specs.declared.RealRoot.{RealRoot}
+use Rattle.roots.specs.Roots.{kindOf, rootBy, root}
 use Rattle.poly.specs.Coefficients.{trimmedFrom, trimmedOf, refusalBy}
 use Rattle.poly.specs.Solve.{solveOf}
 use Rattle.poly.specs.RealRoots.{unscaledAll, answerOf, realRootsOf}
 use Rattle.listing.specs.Words.{refused}
+use Rattle.listing.specs.Lines.{rootText}
 use Rattle.listing.specs.File.{listing}
 
 -- the marks
@@ -65,3 +71,9 @@ empty = refl
 goes-on : listing (pl ++ (replicate 9 0 ++ (88 ∷ 88 ∷ []))) ≡ line 1 pl 2 ++ line 2 unknown 6
 unfolding listing realRootsOf answerOf unscaledAll solveOf refusalBy trimmedOf trimmedFrom decimal
 goes-on = refl
+
+-- ` 1 c`, ` 2 b`, ` 2 f`
+kinds : map (λ (r : RealRoot). drop 17 (rootText r)) (root zero64 1 ∷ rootBy true zero64 2 ∷ root zero64 2 ∷ [])
+    ≡ (32 ∷ 49 ∷ 32 ∷ 99 ∷ []) ∷ (32 ∷ 50 ∷ 32 ∷ 98 ∷ []) ∷ (32 ∷ 50 ∷ 32 ∷ 102 ∷ []) ∷ []
+unfolding rootText hexDigits decimal kindOf
+kinds = refl

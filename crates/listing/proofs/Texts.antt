@@ -24,7 +24,7 @@ use Rattle.records.specs.declared.Kind.{Kind}
 use Rattle.records.specs.declared.Record.{Record}
 use Rattle.records.specs.Marks.{markOf}
 use Rattle.records.proofs.Marks.{mark-length}
-use Rattle.listing.specs.Words.{ok}
+use Rattle.listing.specs.Words.{ok, letterOf}
 use Rattle.listing.specs.Lines.{placeText, rootText, rootsText, refusedText, orRefused, polynomialText, solutionText, quadraticText, crankText}
 use Rattle.listing.specs.Lines.{wordsOf, headOf, lineOf}
 use Rattle.listing.specs.Printable.{Printable}
@@ -41,17 +41,19 @@ pub place-length : (x : Float) → length (placeText x) ≡ 17
 unfolding placeText
 place-length x = omega (arith, hex-length 16 (toBits binary64 x))
 
-pub root-length : (r : RealRoot) → r .multiplicity < 100 → length (rootText r) ≤ 20
+pub root-length : (r : RealRoot) → r .multiplicity < 100 → length (rootText r) ≤ 22
 unfolding rootText
 root-length r h =
+    let letter : List ℕ = 32 ∷ letterOf (r .kind) ∷ [] in
     omega (
       arith,
-      length-append (placeText (r .value)) (32 ∷ decimal (r .multiplicity)),
+      length-append (placeText (r .value)) (32 ∷ decimal (r .multiplicity) ++ letter),
+      length-append (decimal (r .multiplicity)) letter,
       place-length (r .value),
       decimal-length 2 (r .multiplicity) (omega arith) h,
     )
 
-flat-length : (l : List RealRoot) → multiplicities l < 100 → length (flatMap rootText l) ≤ 20 * length l
+flat-length : (l : List RealRoot) → multiplicities l < 100 → length (flatMap rootText l) ≤ 22 * length l
 unfolding flatMap
 flat-length [] h = omega arith
 flat-length (r ∷ l) h =
@@ -60,7 +62,7 @@ flat-length (r ∷ l) h =
 pub count-length : (r : Roots) → Printable r → length (decimal (r .len)) ≤ 1
 count-length r p = decimal-length 1 (r .len) (omega arith) (omega (arith, p .fits .1))
 
-pub roots-length : (r : Roots) → Printable r → length (rootsText r) ≤ 1 + 20 * r .len
+pub roots-length : (r : Roots) → Printable r → length (rootsText r) ≤ 1 + 22 * r .len
 unfolding rootsText
 roots-length r p =
     omega (
@@ -88,10 +90,10 @@ refused-length n h = omega (arith, decimal-length 2 n (omega arith) h)
 pub or-length : (n : ℕ) (t : List ℕ) (k : ℕ) → n < 100 → 10 ≤ k → length t ≤ k → length (orRefused n t) ≤ k
 or-length n t k h m p = either-way (λ (u : List ℕ). length u ≤ k) (eqb n 0) p (omega (arith, refused-length n h))
 
-pub polynomial-length : (a : Answer) → a .number < 100 → Printable (a .roots) → length (polynomialText a) ≤ 10 + 20 * a .roots .len
+pub polynomial-length : (a : Answer) → a .number < 100 → Printable (a .roots) → length (polynomialText a) ≤ 10 + 22 * a .roots .len
 unfolding polynomialText
 polynomial-length a h p =
-    or-length (a .number) (ok ++ rootsText (a .roots)) (10 + 20 * a .roots .len) h (omega arith) (omega (arith, roots-length (a .roots) p))
+    or-length (a .number) (ok ++ rootsText (a .roots)) (10 + 22 * a .roots .len) h (omega arith) (omega (arith, roots-length (a .roots) p))
 
 solution-length : (s : QuadraticSolution) → length (solutionText s) ≤ 37
 unfolding solutionText
@@ -105,10 +107,10 @@ pub quadratic-length : (a : QuadraticAnswer) → a .number < 100 → length (qua
 unfolding quadraticText
 quadratic-length a h = or-length (a .number) (solutionText (a .solution)) 37 h (omega arith) (solution-length (a .solution))
 
-pub crank-length : (a : CrankAnswer) → a .number < 100 → a .k < 8 → Printable (a .roots) → length (crankText a) ≤ 90
+pub crank-length : (a : CrankAnswer) → a .number < 100 → a .k < 8 → Printable (a .roots) → length (crankText a) ≤ 98
 unfolding crankText
 crank-length a h k p =
-    or-length (a .number) (ok ++ (decimal (a .k) ++ (32 ∷ rootsText (a .roots)))) 90 h (omega arith)
+    or-length (a .number) (ok ++ (decimal (a .k) ++ (32 ∷ rootsText (a .roots)))) 98 h (omega arith)
     (omega (
       arith,
       length-append (decimal (a .k)) (32 ∷ rootsText (a .roots)),

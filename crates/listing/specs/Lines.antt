@@ -5,6 +5,7 @@ use Prim.Native.Nat.{ℕ}
 use lib.Dec.{eqb}
 use lib.Ieee.{Float, binary64, toBits}
 use Rattle.text.specs.Digits.{hexDigits, decimal}
+use Rattle.roots.specs.declared.RootKind.{RootKind}
 use Rattle.roots.specs.declared.RealRoot.{RealRoot}
 use Rattle.roots.specs.declared.Roots.{Roots}
 use Rattle.roots.specs.Roots.{listOf}
@@ -17,7 +18,7 @@ use Rattle.records.specs.declared.Kind.{Kind}
 use Rattle.records.specs.declared.Kind.the-variants.{Polynomial, Quadratic, Crank, Contact, Unknown}
 use Rattle.records.specs.declared.Record.{Record}
 use Rattle.records.specs.Marks.{markOf}
-use Rattle.listing.specs.Words.{refused, ok, two, one, linear, degenerate, empty}
+use Rattle.listing.specs.Words.{refused, ok, two, one, linear, degenerate, empty, letterOf}
 use Rattle.listing.specs.Answers.{polynomialAt, quadraticAt, crankAt, contactAt}
 
 -- ---- places and roots
@@ -26,10 +27,14 @@ use Rattle.listing.specs.Answers.{polynomialAt, quadraticAt, crankAt, co
 unfoldable pub placeText : Float → List ℕ
 placeText x = 32 ∷ hexDigits 16 (toBits binary64 x)
 
--- 'place and multiplicity'
+-- 'as c, b or f after the multiplicity and a blank'
+abbrev pub kindText : RootKind → List ℕ
+kindText kind = 32 ∷ letterOf kind ∷ []
+
+-- 'place and multiplicity', and the kind
 unfoldable pub rootText : RealRoot → List ℕ
 unfolding placeText
-rootText r = placeText (r .value) ++ (32 ∷ decimal (r .multiplicity))
+rootText r = placeText (r .value) ++ (32 ∷ decimal (r .multiplicity) ++ kindText (r .kind))
 
 -- 'how many roots, and place and multiplicity of each'
 unfoldable pub rootsText : Roots → List ℕ

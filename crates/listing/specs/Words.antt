@@ -1,6 +1,8 @@
 -- The words of a listing, in ASCII. Definitions only.
 use Prim.Native.Nat.{ℕ}
 use mathlib.Core.List.{List, [], _∷_}
+use Rattle.roots.specs.declared.RootKind.{RootKind}
+use Rattle.roots.specs.declared.RootKind.the-variants.{Crossing, Brush, Flat}
 
 -- `refused` and a blank
 abbrev pub refused : List ℕ
@@ -29,3 +31,9 @@ degenerate = 100 ∷ 101 ∷ 103 ∷ 101 ∷ 110 ∷ 101 ∷ 114 ∷ 97 ∷ 116 
 -- `empty`
 abbrev pub empty : List ℕ
 empty = 101 ∷ 109 ∷ 112 ∷ 116 ∷ 121 ∷ []
+
+-- a root's kind: 'c, b or f'
+abbrev pub letterOf : RootKind → ℕ
+letterOf Crossing = 99
+letterOf Brush = 98
+letterOf Flat = 102

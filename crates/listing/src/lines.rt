@@ -1,10 +1,12 @@
 // The line of a record, stored in a lent buffer from a place on. Each function answers the place behind its text.
+ghost use mathlib.Core.Path.{_≡_};
 ghost use Prim.Native.Nat.{_^_, _<_, _≤_};
 ghost use lib.ListN.{length};
 ghost use Rattle.text.specs.Digits.{decimal};
 ghost use Rattle.text.specs.Written.{Written};
 ghost use Rattle.records.specs.Records.{Whole, Sound};
-ghost use Rattle.listing.specs.Lines.{placeText, rootText, rootsText, refusedText, polynomialText, solutionText, quadraticText, crankText};
+ghost use Rattle.listing.specs.Words.{letterOf};
+ghost use Rattle.listing.specs.Lines.{placeText, kindText, rootText, rootsText, refusedText, polynomialText, solutionText, quadraticText, crankText};
 ghost use Rattle.listing.specs.Lines.{answerText, wordsOf, headOf, lineOf};
 ghost use Rattle.listing.specs.Printable.{Printable};
 use crank::CrankAnswer;
@@ -13,6 +15,7 @@ use poly::Answer;
 use records::Kind;
 use records::Record;
 use roots::RealRoot;
+use roots::RootKind;
 use roots::Roots;
 use solution::QuadraticSolution;
 use text::put_byte;
@@ -28,16 +31,38 @@ fn put_place(out: &mut [u8], at: usize, x: f64) -> usize
     text::put_hex(out, digits, float::to_bits(x), 16)
 }
 
+fn letter(kind: RootKind) -> u8
+    ensures { λ r. ⌜ r ≡ letterOf kind ⌝ }
+{
+    match kind {
+        RootKind::Crossing => b'c',
+        RootKind::Brush => b'b',
+        RootKind::Flat => b'f',
+    }
+}
+
+// A blank, and the letter of the kind.
+fn put_kind(out: &mut [u8], at: usize, kind: RootKind) -> usize
+    requires { ⌜ at < 2 ^ 34 ⌝ }
+    ensures { λ r. ⌜ Written (now (out .entry)) at (kindText kind) (now (out .exit)) r ⌝ }
+{
+    let last = put_byte(out, at, b' ');
+    put_byte(out, last, letter(kind))
+}
+
+// The place, and behind a blank its multiplicity, and the kind.
 fn put_root(out: &mut [u8], at: usize, root: RealRoot) -> usize
     requires { ⌜ (at < 2 ^ 33) × (root .multiplicity < 100) ⌝ }
     ensures { λ r. ⌜ Written (now (out .entry)) at (rootText root) (now (out .exit)) r ⌝ }
 {
     let blank = put_place(out, at, root.value);
     let digits = put_byte(out, blank, b' ');
-    put_decimal(out, digits, root.multiplicity as u64)
+    let end = put_decimal(out, digits, root.multiplicity as u64);
+    let kind = root.kind;
+    put_kind(out, end, kind)
 }
 
-// How many roots, and place and multiplicity of each.
+// How many roots, and each of them.
 fn put_roots(out: &mut [u8], at: usize, roots: Roots) -> usize
     requires { ⌜ (at < 2 ^ 32) × Printable roots ⌝ }
     ensures { λ r. ⌜ Written (now (out .entry)) at (rootsText roots) (now (out .exit)) r ⌝ }

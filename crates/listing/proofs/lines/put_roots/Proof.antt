@@ -13,7 +13,7 @@ use Rattle.listing.proofs.lines.put_roots.Statement.{statement}
 use Rattle.listing.proofs.lines.put_roots.Tie as tie
 
 abbrev Inv-loop : tie.InvT-loop
-Inv-loop out₀ at len root next₀ i₀ out next i = (i ≤ len) × (next ≤ next₀ + 20 * i) × Written out₀ next₀ (flatMap rootText (take i root)) out next
+Inv-loop out₀ at len root next₀ i₀ out next i = (i ≤ len) × (next ≤ next₀ + 22 * i) × Written out₀ next₀ (flatMap rootText (take i root)) out next
 
 abbrev μ-loop : tie.MeasureT-loop
 μ-loop out₀ at len root next₀ i₀ out next i = len - i
