@@ -30,11 +30,23 @@ static const char *why(uint64_t said)
     }
 }
 
+static const char *kind(const struct pongewaru_root *root)
+{
+    switch ((int)root->kind) {
+    case PONGEWARU_CROSSING: return "crossing";
+    case PONGEWARU_BRUSH: return "brush";
+    case PONGEWARU_FLAT: return "flat";
+    default: return "?";
+    }
+}
+
 static void print_list(const struct pongewaru_list *list)
 {
     printf("%d root%s", (int)list->count, list->count == 1 ? "" : "s");
-    for (int i = 0; i < (int)list->count; i++)
-        printf("%s %.17g (%dx)", i ? "," : ":", list->root[i].place, (int)list->root[i].multiplicity);
+    for (int i = 0; i < (int)list->count; i++) {
+        const struct pongewaru_root *root = &list->root[i];
+        printf("%s %.17g (%dx, %s)", i ? "," : ":", root->place, (int)root->multiplicity, kind(root));
+    }
     printf("\n");
 }
 

@@ -57,18 +57,23 @@ extern "C" {
 
 /* ---- Answers, made of doubles alone: counts and numbers are whole */
 
+/* 24 bytes: a crossing where the multiplicity is 1; else a brush where a yes, to a question or of a pin contact's own, helped to form the root; else flat. */
 struct pongewaru_root {
     double place;
     double multiplicity;
+    double kind;
 };
+#define PONGEWARU_CROSSING 0
+#define PONGEWARU_BRUSH 1
+#define PONGEWARU_FLAT 2
 
-/* 72 bytes: `count` roots, 0 to 4, zeros behind the last. */
+/* 104 bytes: `count` roots, 0 to 4, zeros behind the last. */
 struct pongewaru_list {
     double count;
     struct pongewaru_root root[4];
 };
 
-/* 96 bytes: what an inquiry shows. While `asks` is 1 it asks whether the curve touches at `place`; where it is 0, `place` is 0 and `list` is finished. */
+/* 128 bytes: what an inquiry shows. While `asks` is 1 it asks whether the curve touches at `place`; where it is 0, `place` is 0 and `list` is finished. */
 struct pongewaru_shown {
     double number; /* 0, or PONGEWARU_NOTHING_ASKED where there are more replies than questions */
     double asks;
@@ -76,7 +81,7 @@ struct pongewaru_shown {
     struct pongewaru_list list;
 };
 
-/* 104 bytes: t = k * pi/4 + 2 * atan(u) for a place u. */
+/* 136 bytes: t = k * pi/4 + 2 * atan(u) for a place u. */
 struct pongewaru_crank_shown {
     double k; /* 0 to 7 */
     struct pongewaru_shown shown;
@@ -215,7 +220,8 @@ double pongewaru_extremum(const void *a, size_t a_len, uint64_t d, double y, dou
 double pongewaru_polish(const void *a, size_t a_len, uint64_t d, double y, double gap);
 
 /* c: four places in 32 bytes, a byte for the multiplicity of each, and for `push_quadratic` two pairs, centre and half, in 32 more. n of the places count, up
- * to 4, and m of the pairs, up to 2. 112 bytes: the places as in pongewaru_list, how many pairs, and each centre and half; 72: pongewaru_list. */
+ * to 4, and m of the pairs, up to 2. 144 bytes: the roots as in pongewaru_list, but behind the last what was handed in, how many pairs, and each centre and
+ * half; 104: pongewaru_list. */
 uint64_t pongewaru_push_quadratic(const void *a, size_t a_len, uint64_t d, double al, double be, double tol, const void *c, size_t c_len, uint64_t n,
     uint64_t m, void *out, size_t out_len);
 uint64_t pongewaru_finish(const void *a, size_t a_len, uint64_t d, const void *c, size_t c_len, uint64_t n, double tol, void *out, size_t out_len);

@@ -12,7 +12,7 @@ use Rattle.roots.specs.declared.RealRoot.{RealRoot}
 use Rattle.roots.specs.declared.Roots.{Roots}
 use Rattle.roots.specs.declared.Pair.{Pair}
 use Rattle.roots.specs.declared.Pairs.{Pairs}
-use Rattle.roots.specs.Roots.{root, pair, listOf, rootsOf}
+use Rattle.roots.specs.Roots.{kindNumber, root, pair, listOf, rootsOf}
 use Rattle.roots.specs.Listed.{blank, blankPair}
 use Rattle.critical.specs.declared.TurningPoint.{TurningPoint}
 use Rattle.critical.specs.declared.TurningPoint.the-variants.{At, None}
@@ -45,11 +45,11 @@ unfoldable pub pairsAt : List ℕ → ℕ → Pairs
 pairsAt c n = record { pair = pair (f64At c 36) (f64At c 44) ∷ pair (f64At c 52) (f64At c 60) ∷ []; len = n }
 
 -- ---- handed out
--- place and multiplicity of the root i
+-- place, multiplicity and kind of the root i
 abbrev pub rootAt : Roots → ℕ → List Float
-rootAt s i = let r = getD (s .root) i blank in r .value ∷ number (r .multiplicity) ∷ []
+rootAt s i = let r = getD (s .root) i blank in r .value ∷ number (r .multiplicity) ∷ number (kindNumber (r .kind)) ∷ []
 
--- how many roots there are, and the four places with their multiplicities
+-- how many roots there are, and the four places with their multiplicities and kinds
 unfoldable pub rootNumbers : Roots → List Float
 rootNumbers s = number (s .len) ∷ (rootAt s 0 ++ (rootAt s 1 ++ (rootAt s 2 ++ rootAt s 3)))
 

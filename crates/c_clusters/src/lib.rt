@@ -8,12 +8,13 @@ ghost use mathlib.Core.Bool.{false};
 ghost use Prim.Native.Nat.{_^_, _≤_, _<_};
 ghost use lib.ListN.{length};
 ghost use lib.Ieee.{nan};
-ghost use Rattle.roots.specs.Roots.{listOf};
+ghost use Rattle.roots.specs.Roots.{kindNumber, listOf};
 ghost use Rattle.roots.specs.Listed.{multiplicities, Fits, PairsFit};
 ghost use Rattle.band.specs.Band.{noiseOf, bandOf, withinBandOf};
 ghost use Rattle.critical.specs.Critical.{criticalPointOf, extremumOf};
 ghost use Rattle.polish.specs.Polish.{polishOf};
 ghost use Rattle.lent_bytes.specs.Bytes.{lacksFive, unless, Stored};
+ghost use Rattle.lent_bytes.specs.Numbers.{number};
 ghost use Rattle.c_clusters.specs.Clustering.{polyAt, turningOrNan, candidateAt, lacksOf, candidatesAt};
 ghost use Rattle.c_clusters.specs.Clustering.{pairsAt, rootNumbers, foundNumbers, pushedNumbers, finishedNumbers};
 use lent_bytes::five_at;
@@ -101,10 +102,7 @@ fn candidate_at(c: &[u8], i: usize) -> roots::RealRoot
 {
     let value = float::f64_at(c, 8 * i);
     let multiplicity = c[32 + i] as u32;
-    roots::RealRoot {
-        value,
-        multiplicity,
-    }
+    roots::RealRoot::new(value, multiplicity)
 }
 
 // Whether c is shorter than its size, or cannot hold n candidates and m pairs.
@@ -156,8 +154,15 @@ fn pairs_at(c: &[u8], n: u64) -> roots::Pairs
     }
 }
 
-// How many roots there are, and the four places with their multiplicities.
-pub fn root_numbers(s: roots::Roots) -> [f64; 9]
+fn kind_number(r: roots::RealRoot) -> f64
+    ensures { λ x. ⌜ x ≡ number (kindNumber (r .kind)) ⌝ }
+{
+    let kind = r.kind;
+    kind.number() as f64
+}
+
+// How many roots there are, and the four places with their multiplicities and kinds.
+pub fn root_numbers(s: roots::Roots) -> [f64; 13]
     requires { ⌜ Fits s ⌝ }
     ensures { λ r. ⌜ r ≡ rootNumbers s ⌝ }
 {
@@ -170,16 +175,20 @@ pub fn root_numbers(s: roots::Roots) -> [f64; 9]
         s.len as f64,
         a.value,
         a.multiplicity as f64,
+        kind_number(a),
         b.value,
         b.multiplicity as f64,
+        kind_number(b),
         c.value,
         c.multiplicity as f64,
+        kind_number(c),
         d.value,
         d.multiplicity as f64,
+        kind_number(d),
     ]
 }
 
-fn found_numbers(s: push::Found) -> [f64; 14]
+fn found_numbers(s: push::Found) -> [f64; 18]
     requires { ⌜ Fits (s .roots) ⌝ ∗ ⌜ PairsFit (s .pairs) ⌝ }
     ensures { λ r. ⌜ r ≡ foundNumbers s ⌝ }
 {
@@ -197,6 +206,10 @@ fn found_numbers(s: push::Found) -> [f64; 14]
         x[6],
         x[7],
         x[8],
+        x[9],
+        x[10],
+        x[11],
+        x[12],
         pairs.len as f64,
         p0.centre,
         p0.half,

@@ -13,7 +13,7 @@ use Rattle.pongewaru.specs.Inquiries.{shownNumbers}
 -- k before the numbers of an inquiry, in an array
 pub crank-is : (k n : ℕ) (asks : Bool) (place : Float) (list : Roots) (l : List Float) → l ≡ shownNumbers n asks place list
     → number k ∷ getD l 0 nan ∷ getD l 1 nan ∷ getD l 2 nan ∷ getD l 3 nan ∷ getD l 4 nan ∷ getD l 5 nan ∷ getD l 6 nan ∷ getD l 7 nan
-    ∷ getD l 8 nan ∷ getD l 9 nan ∷ getD l 10 nan ∷ getD l 11 nan ∷ []
+    ∷ getD l 8 nan ∷ getD l 9 nan ∷ getD l 10 nan ∷ getD l 11 nan ∷ getD l 12 nan ∷ getD l 13 nan ∷ getD l 14 nan ∷ getD l 15 nan ∷ []
     ≡ number k ∷ shownNumbers n asks place list
 unfolding shownNumbers rootNumbers
 crank-is k n asks place list l e = rw e

@@ -25,7 +25,7 @@ module _ {A : Type 0} (f : A → Bool → A) (rs : List ℕ) (i : ℕ) (p : A) w
 -- from the numbers of the list, in an array
 pub shown-is : (n : ℕ) (asks : Bool) (place x : Float) (list : Roots) (l : List Float) → x ≡ cond asks one64 zero64 → l ≡ rootNumbers list
     → number n ∷ x ∷ place ∷ getD l 0 nan ∷ getD l 1 nan ∷ getD l 2 nan ∷ getD l 3 nan ∷ getD l 4 nan ∷ getD l 5 nan ∷ getD l 6 nan
-    ∷ getD l 7 nan ∷ getD l 8 nan ∷ []
+    ∷ getD l 7 nan ∷ getD l 8 nan ∷ getD l 9 nan ∷ getD l 10 nan ∷ getD l 11 nan ∷ getD l 12 nan ∷ []
     ≡ shownNumbers n asks place list
 unfolding shownNumbers rootNumbers
 shown-is n asks place x list l e f = rw (f, e)

@@ -1,4 +1,4 @@
-// Pin contacts from the numbers of a path and a circle; the list out as for `pongewaru_real_roots`. The answer is how many bytes are stored, 72, or the number
+// Pin contacts from the numbers of a path and a circle; the list out as for `pongewaru_real_roots`. The answer is how many bytes are stored, 104, or the number
 // of the refusal, or 0 where those lent are too few: nothing is stored then.
 ghost use Rattle.lent_bytes.specs.Bytes.{Answered};
 ghost use Rattle.c_clusters.specs.Clustering.{rootNumbers};

@@ -1,5 +1,6 @@
-// Crank equations in lent bytes, from the start: the replies so far in, one byte each, 0 for no; k and then what the inquiry shows out, as for a list, thirteen
-// doubles. The answer is how many bytes are stored, 104, or the number of the refused start, or 0 where those lent are too few: nothing is stored then.
+// Crank equations in lent bytes, from the start: the replies so far in, one byte each, 0 for no; k and then what the inquiry shows out, as for a list,
+// seventeen doubles. The answer is how many bytes are stored, 136, or the number of the refused start, or 0 where those lent are too few: nothing is stored
+// then.
 ghost use mathlib.Core.Path.{_≡_};
 ghost use Rattle.crank.specs.Crank.{crankStartOf};
 ghost use Rattle.lent_bytes.specs.Bytes.{Answered};
@@ -10,7 +11,7 @@ use crate::inquiries::seen_numbers;
 use crank::CrankShown;
 use lent_bytes::answer;
 
-fn crank_shown_numbers(s: CrankShown) -> [f64; 13]
+fn crank_shown_numbers(s: CrankShown) -> [f64; 17]
     requires { ⌜ Fits (s .seen .asked .list) ⌝ }
     ensures { λ r. ⌜ r ≡ crankShownNumbers s ⌝ }
 {
@@ -29,6 +30,10 @@ fn crank_shown_numbers(s: CrankShown) -> [f64; 13]
         shown[9],
         shown[10],
         shown[11],
+        shown[12],
+        shown[13],
+        shown[14],
+        shown[15],
     ]
 }
 

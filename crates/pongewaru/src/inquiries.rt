@@ -1,6 +1,6 @@
 // Inquiries in lent bytes, from the start: coefficients as for a list and the replies so far in, one byte each, 0 for no; what the inquiry shows then out, as
 // doubles: 0, or 4 where a reply was refused; 1 and the place where it asks, 0 and 0 where not; and the list as for `real_roots`. The answer is how many bytes
-// are stored, 96, or the number of the refused start, as for a list, or 0 where those lent are too few: nothing is stored then.
+// are stored, 128, or the number of the refused start, as for a list, or 0 where those lent are too few: nothing is stored then.
 ghost use mathlib.Core.Path.{_≡_};
 ghost use Rattle.roots.specs.Listed.{Fits};
 ghost use Rattle.lent_bytes.specs.Bytes.{Answered};
@@ -35,7 +35,7 @@ pub fn first_replies(replies: &[u8]) -> Replies
 }
 
 // The last reply's number, whether there is a question, its place, and the list.
-fn shown_numbers(number: u32, asks: bool, place: f64, list: Roots) -> [f64; 12]
+fn shown_numbers(number: u32, asks: bool, place: f64, list: Roots) -> [f64; 16]
     requires { ⌜ Fits list ⌝ }
     ensures { λ r. ⌜ r ≡ shownNumbers number asks place list ⌝ }
 {
@@ -54,10 +54,14 @@ fn shown_numbers(number: u32, asks: bool, place: f64, list: Roots) -> [f64; 12]
         list[6],
         list[7],
         list[8],
+        list[9],
+        list[10],
+        list[11],
+        list[12],
     ]
 }
 
-pub fn seen_numbers(s: Seen) -> [f64; 12]
+pub fn seen_numbers(s: Seen) -> [f64; 16]
     requires { ⌜ Fits (s .asked .list) ⌝ }
     ensures { λ r. ⌜ r ≡ seenNumbers s ⌝ }
 {

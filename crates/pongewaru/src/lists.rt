@@ -1,6 +1,6 @@
-// Lists of roots in lent bytes: any number of coefficients in; the number of roots and four places with their multiplicities out, as doubles, zeros after
-// the last root. The answer is how many bytes are stored, 72, or the number of the refusal, that of the C functions where the bytes are no whole doubles, or 0
-// where those lent are too few: nothing is stored then.
+// Lists of roots in lent bytes: any number of coefficients in; the number of roots and four places with their multiplicities and kinds out, as doubles, zeros
+// after the last root. The answer is how many bytes are stored, 104, or the number of the refusal, that of the C functions where the bytes are no whole
+// doubles, or 0 where those lent are too few: nothing is stored then.
 ghost use mathlib.Core.Path.{_≡_};
 ghost use Rattle.lent_bytes.specs.Bytes.{Answered};
 ghost use Rattle.pongewaru.specs.Lists.{notDoubles, listRefusal, listNumbers};

@@ -1,5 +1,5 @@
 -- An element of a slice of bytes is below 256.
-use mathlib.Core.Path.{ap}
+use mathlib.Core.Path.{ap, _∙_}
 use native.Mathlib.Omega.{arith}
 use Prim.Native.Nat.{_+_}
 use lib.ListN.{getD}
@@ -16,9 +16,12 @@ cast-multiplicity c = omega (arith, c .shared-slice-known2 .given (32 + c .befor
 returns : tie.Need-returns
 unfolding candidateAt
 returns c =
-    let a = c .before .before .before .args in
-    (ap (λ (y : Float). root y (getD (a .c .now) (32 + a .i) 0)) (c .before .f64-at .ensures), omega (arith, c .shared-slice-known2 .given (32 + a .i)))
+    let byte = c .before in
+    let a = byte .before .before .before .args in
+    let is = ap (λ (y : Float). root y (getD (a .c .now) (32 + a .i) 0)) (byte .before .f64-at .ensures) in
+    (c .new .ensures ∙ is, rw (c .new .ensures) (omega (arith, byte .shared-slice-known2 .given (32 + a .i))))
 
 pub candidate-at-spec : {M : Type 1} → statement M
 candidate-at-spec =
-    tie.close (tie.spec (λ c. search needs) (λ c κs. search needs) (λ c. search needs) (λ c. search needs) cast-multiplicity returns)
+    tie.close (tie.spec (λ c. search needs) (λ c κs. search needs) (λ c. search needs) (λ c. search needs) cast-multiplicity
+    (λ c κs. search needs) returns)

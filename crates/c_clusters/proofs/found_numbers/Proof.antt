@@ -7,7 +7,7 @@ use borrow.Author.Needs.{needs}
 use Rattle.c_clusters.proofs.found_numbers.Statement.{statement}
 use Rattle.c_clusters.proofs.found_numbers.Tie as tie
 
-count-exact : tie.Need-int-to-float-t40
+count-exact : tie.Need-int-to-float-t52
 count-exact c = whole-exact _ (omega arith)
 
 returns : tie.Need-returns
@@ -21,4 +21,4 @@ pub found-numbers-spec : {M : Type 1} → statement M
 found-numbers-spec =
     tie.close (tie.spec (λ c κs. search needs) (λ c. search needs) (λ c. search needs) (λ c. search needs) (λ c. search needs)
     (λ c. search needs) (λ c. search needs) (λ c. search needs) (λ c. search needs) (λ c. search needs) (λ c. search needs)
-    (λ c. search needs) count-exact returns)
+    (λ c. search needs) (λ c. search needs) (λ c. search needs) (λ c. search needs) (λ c. search needs) count-exact returns)
