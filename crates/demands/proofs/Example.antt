@@ -4,6 +4,7 @@ use mathlib.Core.List.{List, []}
 use Prim.Native.Nat.{ℕ, _<_}
 use lib.ListN.{length}
 use borrow.Author.Tests.{lt-ltb}
+use Rattle.roots.specs.Roots.{kindOf}
 use Rattle.text.specs.Digits.{decimal}
 use Rattle.records.specs.declared.Kind.the-variants.{Unknown}
 use Rattle.records.specs.Records.{endedOf}
@@ -13,7 +14,7 @@ use Rattle.demands.specs.Example.{ascii, exampleFile, exampleListing}
 use Rattle.demands.proofs.Unfolded.{arithmetic, leaves, evaluation, factoring, scaling, solving, asking, printing}
 
 pub example : listing exampleFile ≡ exampleListing
-unfolding exampleFile exampleListing arithmetic leaves evaluation factoring scaling solving asking printing
+unfolding exampleFile exampleListing arithmetic leaves evaluation factoring scaling solving kindOf asking printing
 example = refl
 
 pub empty : listing [] ≡ []

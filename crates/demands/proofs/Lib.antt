@@ -6,6 +6,9 @@ pub mod Powers
 pub mod Total
 pub mod Sorts
 pub mod Loops
+pub mod Formed
+pub mod Once
+pub mod Brushes
 pub mod Roots
 pub mod Cosine
 pub mod Digits

@@ -99,7 +99,7 @@ module _ {A B : Type 0} where
   then-same (done a) k l h = h a
   then-same (ask x f) k l h = λ i. ask x (λ r. then-same (f r) k l h i)
 
-then-assoc : {A B C : Type 0} (t : Asking A) (k : A → Asking B) (l : B → Asking C) → (t then k) then l ≡ t then (λ a. k a then l)
+pub then-assoc : {A B C : Type 0} (t : Asking A) (k : A → Asking B) (l : B → Asking C) → (t then k) then l ≡ t then (λ a. k a then l)
 unfolding _then_
 then-assoc (done a) k l = refl
 then-assoc (ask x f) k l = λ i. ask x (λ r. then-assoc (f r) k l i)
@@ -165,7 +165,7 @@ module _ (poly : Scaled) (tol : Float) where
 module _ (poly : Scaled) (tol : Float) (v : List RealRoot) (inner : ℕ) where
   -- the chain of the definitions that the variables are, where k is the last item's place
   abbrev chainAt : ℕ → Linked → Chain
-  chainAt k c = record { first = c .first; last = valueAt v k; at = c .at; touching = c .touching; mult = c .mult }
+  chainAt k c = record { first = c .first; last = valueAt v k; at = c .at; touching = c .touching; mult = c .mult; kind = c .kind }
 
   emitted-so : (out : List RealRoot) (k : ℕ) (c : Linked) → (c .mult ≡ 0 → ⊥) → emitted (poly .e) out (chainAt k c) ≡ pushed poly v out k c
   unfolding emitted contactOf
@@ -266,7 +266,7 @@ module _ (poly : Scaled) (tol : Float) (v : List RealRoot) (inner : ℕ) where
       it = getD v k blank
 
       begun : Linked
-      begun = record { first = valueAt v k; mult = m; touching = isDouble m; at = valueAt v k }
+      begun = record { first = valueAt v k; mult = m; touching = isDouble m; at = valueAt v k; kind = it .kind }
 
       next : ltb k (length v) ≡ true → drop k v ≡ it ∷ drop (k + 1) v
       next e = drop-next v k blank (ltb-true k (length v) e)

@@ -51,6 +51,7 @@ use Rattle.demands.proofs.Scale.{scale}
 use Rattle.demands.proofs.Powers as powers
 use Rattle.demands.proofs.Total as total
 use Rattle.demands.proofs.Sorts.{sorted-whole, sorted-keys}
+use Rattle.demands.proofs.Brushes.{kinds}
 use Rattle.demands.proofs.Loops.{runs, chains}
 use Rattle.demands.proofs.Quadratics.{quadratics}
 use Rattle.listing.proofs.Bound.{listing-fits}
@@ -189,4 +190,5 @@ demands = record {
   entries = record { every = λ tol. agree given stated (table tol) (all-rows tol) };
   hall-file = record { example = example; empty = empty; too-long = too-long; room = listing-fits };
   pin-contacts = pin-contacts;
+  kinds = kinds;
 }

@@ -1,10 +1,11 @@
--- What is promised, as theorems about the definitions: the customer's demands (document 00) and the claims of documents 01 and 02, in their words. Statements only;
--- proofs/Proved.antt has the proof of `Demands`, the last of them.
+-- What is promised, as theorems about the definitions: the customer's demands (document 00) and the claims of documents 01 and 02, in their words. Statements
+-- only; proofs/Proved.antt has the proof of `Demands`, the last of them.
 use mathlib.Core.Path.{_≡_}
 use mathlib.Core.Logic.{_⊎_}
-use mathlib.Core.Bool.{Bool, true, false, cond}
+use mathlib.Core.Bool.{Bool, true, false, cond, _&&_}
 use mathlib.Core.List.{List, [], _∷_, _++_, map, List·Memᴰ}
 use Prim.Native.Nat.{ℕ, suc, _+_, _-_, _*_, _^_, _≤_, _<_}
+use lib.Dec.{ltb}
 use lib.IntN.{ℤ, pos, negsuc, _*ℤ_}
 use lib.Signed.{_≤ℤ_}
 use lib.ListN.{length, take, getD}
@@ -27,6 +28,7 @@ use Rattle.scaled.specs.Scaled.{scaledOf}
 use Rattle.factors.specs.declared.Factors.{Factors}
 use Rattle.large_factors.specs.Large.{unitOf, factorUnitsOf, noSmaller}
 use Rattle.factorize.specs.Factorize.{factorizeOf}
+use Rattle.roots.specs.declared.RootKind.the-variants.{Crossing, Brush, Flat}
 use Rattle.roots.specs.declared.RealRoot.{RealRoot}
 use Rattle.roots.specs.Roots.{listOf, pairListOf, rootsOf, noRoots}
 use Rattle.roots.specs.Listed.{Fits, Within, blank}
@@ -41,18 +43,25 @@ use Rattle.solution.specs.declared.QuadraticSolution.{QuadraticSolution}
 use Rattle.solution.specs.Solution.{numberOf, valuesOf}
 use Rattle.equation.specs.Quadratic.{solveQuadraticOf, quadraticOf}
 use Rattle.asking.specs.Asking.{answered}
+use Rattle.touching.specs.declared.Replies.{Replies}
 use Rattle.touching.specs.Touching.{chained, touching}
-use Rattle.inquiry.specs.Start.{realRootsTouchingOf, placesTouchingOf, startOf}
+use Rattle.touching.specs.Replies as given
+use Rattle.touching.specs.Walk.{RepliesFit}
+use Rattle.inquiry.specs.Start.{realRootsTouchingOf, placesTouchingOf, startOf, shownAfterOf}
 use Rattle.inquiry.specs.Claims.{Fed}
+use Rattle.crank.specs.Crank.{trigQuarticOf, crankShownOf, crankOf}
 use Rattle.crank.specs.Claims.{Cranks}
 use Rattle.contact.specs.declared.Path.{Path}
 use Rattle.contact.specs.declared.Circle.{Circle}
 use Rattle.contact.specs.Contact.{madeOf, pinContactOf}
 use Rattle.contact.specs.Claims.{repliesOf, Contacts}
 use Rattle.listing.specs.Answers.{contactAt}
-use Rattle.listing.specs.Lines.{polynomialText}
+use Rattle.text.specs.Digits.{decimal}
+use Rattle.listing.specs.Words.{letterOf}
+use Rattle.listing.specs.Lines.{placeText, rootText, polynomialText}
 use Rattle.listing.specs.File.{listing}
 use Rattle.demands.specs.Loops.{runsFrom, chainsFrom}
+use Rattle.demands.specs.Formed.{Formed, timesOf, unasked, chainsFormed, rootsFormed, replyIn, SomeYes, unformed}
 use Rattle.demands.specs.Table.{Row, table, rowAnswerOf}
 use Rattle.demands.specs.Example.{ascii, exampleFile, exampleListing}
 
@@ -346,9 +355,56 @@ pub record PinContacts : Type 0 where
   pub through-the-list : (confusion : Float) (path : Path) (circle : Circle) → pinContactOf confusion path circle .number ≡ 0
       → let s = solveOf (madeOf path circle) confusion in pinContactOf confusion path circle .roots
       ≡ rootsOf (answered (repliesOf confusion path circle) (touching (s .poly) (s .tol) (listOf (s .roots)) (pairListOf (s .pairs))))
-  pub polished : (confusion : Float) (path : Path) (circle : Circle) → pinContactOf confusion path circle .number ≡ 0 → NotWorsened (madeOf path circle) confusion
+  pub polished : (confusion : Float) (path : Path) (circle : Circle) → pinContactOf confusion path circle .number ≡ 0
+      → NotWorsened (madeOf path circle) confusion
   pub line : (s : List ℕ) → length s ≡ 80
       → let file = ascii "PC" ++ s in listing file ≡ ascii "1 PC " ++ (polynomialText (contactAt file 0) ++ ascii "\n")
+
+-- ---- request Two, 'Say whether it crossed or brushed'
+
+-- 'Each root gets a kind: crossing where its total multiplicity is 1, brush where at least one yes reply helped to form it, flat otherwise.' f is the place
+-- as it is formed with these replies, which knows nothing of kinds: 'Bit equality with the Rust still speaks of place and multiplicity.'
+pub record HasKind (replies : List Bool) (f : Formed) (r : RealRoot) : Type 0 where
+  pub place : r .value ≡ f .value
+  pub multiplicity : r .multiplicity ≡ f .multiplicity
+  pub crossing : Exactly (r .kind ≡ Crossing) (r .multiplicity ≡ 1)
+  pub brush : Exactly (r .kind ≡ Brush) ((r .multiplicity ≡ 1 → ⊥) × SomeYes replies f)
+  pub flat : Exactly (r .kind ≡ Flat) ((r .multiplicity ≡ 1 → ⊥) × (SomeYes replies f → ⊥))
+
+-- These are the roots of a run with these replies, each with its kind. `once`: every question of the run that was replied yes helped to form one chain, once,
+-- and no other question helped to form any; the roots are the chains whose place is finite in x.
+pub record KindsBy (replies : List Bool) (coeffs : List Float) (tol : Float) (roots : List RealRoot) : Type 0 where
+  pub length-is : length roots ≡ length (rootsFormed (replyIn replies) (solveOf coeffs tol))
+  pub kinds : (k : ℕ) → k < length roots
+      → HasKind replies (getD (rootsFormed (replyIn replies) (solveOf coeffs tol)) k unformed) (getD roots k blank)
+  pub asked : chainsFormed (replyIn replies) (solveOf coeffs tol) .0 ≤ length replies
+  pub once : (i : ℕ) → let run = chainsFormed (replyIn replies) (solveOf coeffs tol) in
+      timesOf i (run .1) ≡ cond (ltb i (run .0) && replyIn replies i) 1 0
+
+-- 'crossing where its total multiplicity is 1, .. flat otherwise': no reply has helped to form these roots
+abbrev pub NeverBrush : List RealRoot → Type 0
+NeverBrush roots = (k : ℕ) → k < length roots → HasKind [] (unasked (getD roots k blank)) (getD roots k blank)
+
+-- 'The kind follows the root everywhere': to the list, which never has a brush; to an inquiry's finished list, fed by a function or with whatever replies, and
+-- to a crank's; to the record TG, whose questions are all replied no and which never has a brush either; and to a contact. 'The lines for PL, TG and PC print
+-- it as c, b or f after the multiplicity and a blank.'
+pub record Kinds : Type 0 where
+  pub list : (coeffs : List Float) (tol : Float) → NeverBrush (listOf (realRootsOf coeffs tol .roots))
+  pub fed : (touches : Float → Bool) (coeffs : List Float) (tol : Float)
+      → KindsBy (map touches (placesTouchingOf touches coeffs tol)) coeffs tol (realRootsTouchingOf touches coeffs tol)
+  pub inquiry : (replies : Replies) (coeffs : List Float) (tol : Float) → RepliesFit replies
+      → let shown = shownAfterOf coeffs tol replies .seen .asked in shown .asking ≡ false
+      → KindsBy (given.repliesOf replies) coeffs tol (listOf (shown .list))
+  pub crank-inquiry : (replies : Replies) (confusion a2 b2 c1 d1 e : Float) → RepliesFit replies
+      → let shown = crankShownOf confusion a2 b2 c1 d1 e replies .seen .asked in shown .asking ≡ false
+      → KindsBy (given.repliesOf replies) (trigQuarticOf a2 b2 c1 d1 e) confusion (listOf (shown .list))
+  pub crank : (confusion a2 b2 c1 d1 e : Float) → NeverBrush (listOf (crankOf confusion a2 b2 c1 d1 e .roots))
+  pub contact : (confusion : Float) (path : Path) (circle : Circle) → pinContactOf confusion path circle .number ≡ 0
+      → let touches = repliesOf confusion path circle in
+      KindsBy (map touches (placesTouchingOf touches (madeOf path circle) confusion)) (madeOf path circle) confusion
+      (listOf (pinContactOf confusion path circle .roots))
+  pub line : (r : RealRoot) → rootText r ≡ (placeText (r .value) ++ (32 ∷ decimal (r .multiplicity))) ++ (32 ∷ letterOf (r .kind) ∷ [])
+  pub letters : letterOf Crossing ∷ letterOf Brush ∷ letterOf Flat ∷ [] ≡ ascii "cbf"
 
 -- ---- all of them
 pub record Demands : Type 0 where
@@ -373,3 +429,4 @@ pub record Demands : Type 0 where
   pub entries : Entries
   pub hall-file : HallFile
   pub pin-contacts : PinContacts
+  pub kinds : Kinds

@@ -28,11 +28,12 @@ exampleFile =
     ++ ascii "TG" ++ doublesBytes (tol ∷ zero64 ∷ zero64 ∷ one64 ∷ zero64 ∷ zero64 ∷ [])
     ++ ascii "XX"
 
+-- with the kinds of request Two: 'document 01's listing gains it too'
 unfoldable pub exampleListing : List ℕ
 unfolding ascii
 exampleListing =
-    ascii "1 PL ok 2 3FF0000000000000 1 4000000000000000 1\n"
+    ascii "1 PL ok 2 3FF0000000000000 1 c 4000000000000000 1 c\n"
     ++ ascii "2 PL refused 2\n"
     ++ ascii "3 QD two 3FF0000000000000 4000000000000000\n"
-    ++ ascii "4 TG ok 4 2 BFF0000000000000 1 3FF0000000000000 1\n"
+    ++ ascii "4 TG ok 4 2 BFF0000000000000 1 c 3FF0000000000000 1 c\n"
     ++ ascii "5 -- refused 6\n"

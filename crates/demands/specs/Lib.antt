@@ -1,4 +1,5 @@
 pub mod Demands
 pub mod Table
 pub mod Loops
+pub mod Formed
 pub mod Example

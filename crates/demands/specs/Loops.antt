@@ -7,14 +7,17 @@ use mathlib.Core.Option.{Option, none, some}
 use Prim.Native.Nat.{ℕ, zero, suc, _+_}
 use lib.Dec.{ltb, eqb}
 use lib.IntN.{pos}
-use lib.ListN.{length}
+use lib.ListN.{length, getD}
 use lib.Ieee.{Float, binary64, ofInt, lt}
 use Rattle.float.specs.Rounded.{_+ᶠ_, _-ᶠ_, _*ᶠ_, _/ᶠ_}
 use Rattle.float.specs.Literals.{half64}
 use Rattle.float.specs.Methods.{isFiniteOf}
 use Rattle.scaled.specs.declared.Scaled.{Scaled}
+use Rattle.roots.specs.declared.RootKind.{RootKind}
+use Rattle.roots.specs.declared.RootKind.the-variants.{Brush}
 use Rattle.roots.specs.declared.RealRoot.{RealRoot}
 use Rattle.roots.specs.Roots.{root, kept}
+use Rattle.roots.specs.Listed.{blank}
 use Rattle.band.specs.Band.{withinBandOf}
 use Rattle.critical.specs.declared.TurningPoint.{TurningPoint}
 use Rattle.critical.specs.declared.TurningPoint.the-variants.{At, None}
@@ -48,16 +51,17 @@ module _ (poly : Scaled) (tol : Float) (v : List RealRoot) where
   unfolding runFrom
   runsFrom inner zero k out = out
   runsFrom inner (suc turns) k out =
-      let run = runFrom inner k (root (valueAt v k) (multiplicityAt v k)) in
+      let run = runFrom inner k (getD v k blank) in
       cond (ltb k (length v)) (runsFrom inner turns (run .0 + 1) (kept out (run .1))) out
 
 -- ---- real_roots_touching: items[k] is (`valueAt v k`, `multiplicityAt v k`), and n is the length of v
--- the variables of the outer loop
+-- the variables of the outer loop, and the chain's kind
 pub record Linked : Type 0 where
   pub first : Float
   pub mult : ℕ
   pub touching : ℕ
   pub at : Float
+  pub kind : RootKind
 
 -- `u32::from(mult >= 2)`
 abbrev pub isDouble : ℕ → ℕ
@@ -71,7 +75,7 @@ filtered poly lo hi (At y) = cond (lt lo y && lt y hi) (touchesAt (poly .e) y th
 
 -- `mult += items[k].1;`, `touching += 1 + u32::from(items[k].1 >= 2);` and `at = y;`
 abbrev pub grown : Linked → ℕ → Float → Linked
-grown c m y = record { first = c .first; mult = c .mult + m; touching = c .touching + (1 + isDouble m); at = y }
+grown c m y = record { first = c .first; mult = c .mult + m; touching = c .touching + (1 + isDouble m); at = y; kind = Brush }
 
 -- `match touching { 0 => first, 1 => at, _ => 0.5 * (first + items[k].0), };`
 abbrev pub chainPlaceOf : List RealRoot → ℕ → Linked → Float
@@ -80,7 +84,7 @@ chainPlaceOf v k c =
 
 -- `if let Some(r) = poly.unscaled(y, mult) { out.push(r); }`
 abbrev pub pushed : Scaled → List RealRoot → List RealRoot → ℕ → Linked → List RealRoot
-pushed poly v out k c = let x = unscaledOf (poly .e) (chainPlaceOf v k c) in cond (isFiniteOf x) (out ++ root x (c .mult) ∷ []) out
+pushed poly v out k c = let x = unscaledOf (poly .e) (chainPlaceOf v k c) in cond (isFiniteOf x) (out ++ record { value = x; multiplicity = c .mult; kind = c .kind } ∷ []) out
 
 module _ (poly : Scaled) (tol : Float) (v : List RealRoot) where
   -- `let (lo, hi) = (items[k].0, items[k + 1].0);`, and `poly.extremum(0.5 * (lo + hi), lo, hi, tol)`, filtered
@@ -105,7 +109,8 @@ module _ (poly : Scaled) (tol : Float) (v : List RealRoot) where
   chainsFrom inner zero k out = done out
   chainsFrom inner (suc turns) k out =
       let mult = multiplicityAt v k in
-      let begun : Linked = record { first = valueAt v k; mult = mult; touching = isDouble mult; at = valueAt v k } in
+      let kind = getD v k blank .kind in
+      let begun : Linked = record { first = valueAt v k; mult = mult; touching = isDouble mult; at = valueAt v k; kind = kind } in
       cond (ltb k (length v))
       (cond (eqb mult 0)
       (chainsFrom inner turns (k + 1) out)
