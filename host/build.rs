@@ -1,8 +1,9 @@
-//! Links the proved archives that .ci/archives names, and writes geomcore's Rust to OUT_DIR twice:
-//! `untouched`, and `patched`, the reference build of document 01. EXPORTS names another folder for
-//! the archives, GEOMCORE another one for geomcore. Features write more copies: `coverage` the
-//! reference build with a counter at each branch, `mutants` one with every mistake to choose from,
-//! `causes` one for each leaf put back.
+//! Links the proved archives that .ci/archives names, and writes geomcore's Rust to OUT_DIR:
+//! `untouched`, and `patched`, the reference build of document 01, and of each a copy that tells
+//! kinds. EXPORTS names another folder for the archives, GEOMCORE another one for geomcore.
+//! Features write more copies, which tell kinds too: `coverage` the reference build with a counter
+//! at each branch, `mutants` one with every mistake to choose from, `causes` one for each leaf put
+//! back.
 #[path = "build/branches.rs"]
 mod branches;
 #[path = "build/causes.rs"]
@@ -15,7 +16,8 @@ mod mutants;
 mod patches;
 
 use patches::{
-    COUNTED, CUT, FILES, LIST_STARTS, LIST_USES, OPENED, OWN, OWN_OPENED, PUT_IN, Patch, Variant,
+    CHAINS, COUNTED, CUT, FILES, LIST_STARTS, LIST_USES, OPENED, OWN, OWN_OPENED, PUT_IN, Patch,
+    Variant, YES,
 };
 use std::path::{Path, PathBuf};
 use std::{env, fs};
@@ -77,12 +79,16 @@ fn geomcore(here: &Path) -> Result<PathBuf, String> {
 
 fn write_rust(folder: &Path, here: &Path, out: &Path) {
     let mut modules = String::new();
-    let reference = [OPENED, CUT, PUT_IN];
-    modules +=
-        &write_tree(folder, out, "untouched", |text, copy| patched(text, copy, &[OPENED, CUT]));
-    modules += &write_tree(folder, out, "patched", |text, copy| {
-        patched(text, copy, &[OPENED, CUT, PUT_IN, COUNTED])
-    });
+    let reference = [OPENED, CUT, PUT_IN, YES];
+    let trees: [(&str, &[&[Patch]]); 4] = [
+        ("untouched", &[OPENED, CUT]),
+        ("untouched_kinds", &[OPENED, CUT, YES]),
+        ("patched", &[OPENED, CUT, PUT_IN, COUNTED]),
+        ("patched_kinds", &[OPENED, CUT, PUT_IN, YES, CHAINS]),
+    ];
+    for (tree, patches) in trees {
+        modules += &write_tree(folder, out, tree, |text, copy| patched(text, copy, patches));
+    }
     if chosen("COVERAGE") {
         let mut all = Vec::new();
         modules += &write_tree(folder, out, "covered", |text, copy| {
@@ -116,7 +122,7 @@ fn write_variants(folder: &Path, out: &Path, name: &str, variants: &[Variant]) -
     for (n, (title, what, patches)) in variants.iter().enumerate() {
         let tree = format!("{name}_{n}");
         modules += &write_tree(folder, out, &tree, |text, copy| {
-            patched(text, copy, &[OPENED, CUT, PUT_IN, patches])
+            patched(text, copy, &[OPENED, CUT, PUT_IN, YES, patches])
         });
         let file = patches[0].0;
         list +=
@@ -140,7 +146,7 @@ fn write_mutants(folder: &Path, out: &Path, mistakes: &[Variant]) -> String {
     let list = format!("pub const ALL: [(&str, &str, &str); {count}] = [\n{list}];\n");
     fs::write(out.join("mutants.rs"), list).unwrap();
     write_tree(folder, out, "mutants", |text, copy| {
-        mistaken(patched(text, copy, &[OPENED, CUT, PUT_IN]), copy, mistakes)
+        mistaken(patched(text, copy, &[OPENED, CUT, PUT_IN, YES]), copy, mistakes)
     })
 }
 

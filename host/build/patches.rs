@@ -265,10 +265,62 @@ pub const COUNTED: &[Patch] = &[
         "            crate::compare::ways::way(18);\n            mult += items[k].1;\n",
         1,
     ),
+    (
+        "poly.rs",
+        "        if zeros > 0 {\n",
+        "        if zeros > 0 {\n            crate::compare::ways::zeros(zeros);\n",
+        1,
+    ),
+];
+
+/// In copies that tell kinds: each root says how many yes replies helped to form it. An item has
+/// them in its third number, 1 for a pair: where a chain takes it in, the reply was yes. Lines keep
+/// their numbers.
+pub const YES: &[Patch] = &[
+    ("poly.rs", "    pub multiplicity: u32,\n}", "    pub multiplicity: u32, pub yes: u32,\n}", 1),
+    ("poly.rs", "            multiplicity,\n", "            multiplicity, yes: 0,\n", 1),
+    ("poly.rs", "[(0.0, 0u32); 4]", "[(0.0, 0u32, 0u32); 4]", 1),
+    ("poly.rs", "(roots.value[k], roots.mult[k]);", "(roots.value[k], roots.mult[k], 0);", 1),
+    ("poly.rs", "{ 2 } else { 0 });", "{ 2 } else { 0 }, 1);", 1),
+    (
+        "poly.rs",
+        "let (first, mut mult) = items[k];",
+        "let (first, mut mult, mut yes) = items[k];",
+        1,
+    ),
+    (
+        "poly.rs",
+        "            k += 1;\n            mult += items[k].1;\n",
+        "            k += 1; yes += 1 + items[k].2;\n            mult += items[k].1;\n",
+        1,
+    ),
+    ("poly.rs", "            out.push(r);\n", "            out.push(RealRoot { yes, ..r });\n", 1),
+];
+
+/// After that, in the reference build's copy: what each chain is made of is counted.
+pub const CHAINS: &[Patch] = &[
+    (
+        "poly.rs",
+        "        if mult == 0 {\n",
+        "        let begin = k;\n        if mult == 0 {\n            crate::compare::ways::way(20);\n",
+        1,
+    ),
+    (
+        "poly.rs",
+        "lo < y && y < hi && touches_at(y)",
+        "lo < y && y < hi && (touches_at(y) || crate::compare::ways::link_refused(mult))",
+        1,
+    ),
+    (
+        "poly.rs",
+        "        let y = match touching {\n",
+        "        crate::compare::ways::chain(&items[begin..=k]);\n        let y = match touching {\n",
+        1,
+    ),
 ];
 
 /// The host's own reader and lister of hall files.
-pub const OWN: [&str; 3] = ["hall_file.rs", "contact.rs", "lister.rs"];
+pub const OWN: [&str; 4] = ["hall_file.rs", "contact.rs", "kind.rs", "lister.rs"];
 
 /// In their copies: what is private is opened, paths lead to the copies, and printing is a function
 /// of its own.
@@ -277,6 +329,7 @@ pub const OWN_OPENED: &[Patch] = &[
     ("hall_file.rs", "use crate::truth::contact::", "use super::contact::", 1),
     ("contact.rs", "\nfn ", "\npub fn ", 1),
     ("lister.rs", "use crate::truth::hall_file::", "use super::hall_file::", 1),
+    ("lister.rs", "use crate::truth::kind::", "use super::kind::", 1),
     (
         "lister.rs",
         "impl fmt::Display for Answer {\n    fn fmt(",

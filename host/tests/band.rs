@@ -148,6 +148,9 @@ fn quadratics() {
         "complex with a NaN half",
         "complex with a middle that is not finite",
         "complex without room",
+        "with a multiplicity of 0 behind the last",
+        "of 1",
+        "above 4",
     ]);
     type Input = (List, [f64; 3], Handed);
     let make = |r: &mut Random, which, n| -> Input {
@@ -177,6 +180,9 @@ fn quadratics() {
             complex && p.len as u64 > given.m && half.is_nan(),
             complex && !mid.is_finite(),
             complex && mid.is_finite() && given.m == 2,
+            c.mult[c.len..].contains(&0),
+            c.mult[c.len..].contains(&1),
+            c.mult[c.len..].iter().any(|m| *m > 4),
         ]);
         found_numbers(&c, &p)
     };
@@ -310,9 +316,9 @@ fn refusals() {
             assert_eq!(out[kept..], before[kept..], "{from} bytes, {d}, {size}, {n}, {m}, {room}");
         };
         let (a, c) = (&a[..from], &c[..size]);
-        stored(68, 112, n <= 4 && m <= 2, &|out| {
+        stored(68, 144, n <= 4 && m <= 2, &|out| {
             port::push_quadratic_bytes(a, d, [0.5, 0.25, 0.125], c, n, m, out)
         });
-        stored(36, 72, n <= 4, &|out| port::finish_bytes(a, d, c, n, 0.125, out));
+        stored(36, 104, n <= 4, &|out| port::finish_bytes(a, d, c, n, 0.125, out));
     }
 }

@@ -1,10 +1,9 @@
 //! Pin contacts by the port against the reference build's `real_roots_touching`, with the equation
 //! and the closure of document 02.
 #![cfg(geomcore)]
-use host::compare::answer::{Answer, Root};
+use host::compare::answer::Answer;
 use host::compare::outcome::Outcome;
 use host::compare::say;
-use host::compare::ways::named;
 use host::inputs::contacts::{KINDS, contact};
 use host::inputs::random::{EDGES, Random};
 use host::people::text;
@@ -13,6 +12,8 @@ use host::runs::contacts::{CASES, add, made, reference, yes};
 use host::stored::telling;
 use host::truth::contact::Contact;
 use host::truth::hall_file::Record;
+use host::truth::kind::Kind::{self, Brush, Crossing, Flat};
+use host::truth::kind::Root;
 
 /// A ball that rolls from the origin into a pin about (3, 0).
 const ROLLING: &str = "contact 2^-30 0 1 0 0 0 0 3 0 1";
@@ -24,24 +25,28 @@ fn of_line(line: &str) -> Contact {
     }
 }
 
-fn answers(line: &str, roots: &[Root]) {
-    let given = pin_contact(of_line(line).numbers());
-    assert!(given.same(&Answer::new(0, roots)), "{line}: {}", given.text());
+fn answers(line: &str, roots: &[(f64, u32, Kind)]) {
+    let root = |&(value, multiplicity, kind): &_| Root { value, multiplicity, kind };
+    let wanted = Answer::new(0, &roots.iter().map(root).collect::<Vec<_>>());
+    let contact = of_line(line);
+    for answer in [pin_contact(contact.numbers()), reference(&contact).list] {
+        assert!(answer.same(&wanted), "{line}: {}", answer.text());
+    }
 }
 
 #[test]
 fn entries() {
-    answers(ROLLING, &[(2.0, 1), (4.0, 1)]);
+    answers(ROLLING, &[(2.0, 1, Crossing), (4.0, 1, Crossing)]);
     answers("contact 2^-30 0 1 0 2 0 0 3 0 1", &[]);
-    answers("contact 2^-30 0 1 0 1 0 0 3 0 1", &[(3.0, 2)]);
+    answers("contact 2^-30 0 1 0 1 0 0 3 0 1", &[(3.0, 2, Flat)]);
     // from the centre on, and beside it at x = 3 - 2t + t²
-    answers("contact 2^-30 3 1 0 0 0 0 3 0 1", &[(-1.0, 1), (1.0, 1)]);
-    answers("contact 2^-30 3 -2 1 2 0 0 2 2 1", &[(0.0, 1), (2.0, 1)]);
+    answers("contact 2^-30 3 1 0 0 0 0 3 0 1", &[(-1.0, 1, Crossing), (1.0, 1, Crossing)]);
+    answers("contact 2^-30 3 -2 1 2 0 0 2 2 1", &[(0.0, 1, Crossing), (2.0, 1, Crossing)]);
     // |D - R| at the middle is as large as confusion, or a double more
-    answers("contact 0.5 1 0 0 0 1 0 0 0 0.5", &[(-0.0, 2)]);
+    answers("contact 0.5 1 0 0 0 1 0 0 0 0.5", &[(-0.0, 2, Brush)]);
     answers("contact 0x3FDFFFFFFFFFFFFF 1 0 0 0 1 0 0 0 0.5", &[]);
     // D = R, and no reply is yes below 0
-    answers("contact 0 0.5 -1.2 0 1.2 0.5 0 0 0 1.3", &[(0.0, 2)]);
+    answers("contact 0 0.5 -1.2 0 1.2 0.5 0 0 0 1.3", &[(0.0, 2, Brush)]);
     assert_eq!(pin_contact(of_line("contact -1 0.5 -1.2 0 1.2 0.5 0 0 0 1.3").numbers()).len, 2);
 }
 
@@ -120,8 +125,7 @@ fn made_contacts(seed: u64) {
     outcome.met.ask("contacts");
     let yes: u64 = (1..=3).map(|n| n * outcome.met.count(&format!("with {n} yes"))).sum();
     assert!(yes >= YES, "{yes} yes replies");
-    let asked = named(&outcome.ways, ["pair to ask about", "link to ask about", "link taken in"]);
-    assert!(asked.iter().all(|way| way.1 > 0), "{asked:?}");
+    outcome.ask_kinds();
 }
 
 #[test]
@@ -170,20 +174,20 @@ fn kinds() {
 /// On a refusal every byte of the lent buffer is as it was; on an answer, every byte behind it.
 #[test]
 fn buffers() {
-    let before: Vec<u8> = (0..100).map(|i| i as u8 ^ 0x5A).collect();
+    let before: Vec<u8> = (0..130).map(|i| i as u8 ^ 0x5A).collect();
     let refused = [
         (with(&[(3, f64::NAN)]), 10),
         (with(&[(9, 0.0)]), 11),
         (with(&[(2, 1e200)]), 12),
         (with(&[(2, 0.0)]), 2),
     ];
-    for room in 0..=100 {
-        let whole = if room < 72 { 0 } else { 72 };
+    for room in 0..=130 {
+        let whole = if room < 104 { 0 } else { 104 };
         for (numbers, wanted) in refused.into_iter().chain([(with(&[]), whole)]) {
             let mut out = before.clone();
             let said = pin_contact_bytes(numbers, &mut out[..room]);
             assert_eq!(said, wanted, "{numbers:?} into {room} bytes");
-            let stored = if said < 72 { 0 } else { said as usize };
+            let stored = if said < 104 { 0 } else { said as usize };
             assert_eq!(out[stored..], before[stored..], "{numbers:?} into {room} bytes");
         }
     }

@@ -1,10 +1,10 @@
 //! Crank equations by the port against the reference build's `solve_trig` up to its list of r.
 #![cfg(geomcore)]
-use host::compare::answer::{Answer, Root};
+use host::compare::answer::Answer;
 use host::compare::say;
-use host::compare::ways::named;
 use host::port::inquiries::{crank_inquire, crank_inquire_bytes};
 use host::runs::cranks::made;
+use host::truth::kind::Root;
 
 const TOL: f64 = 1.0 / (1u64 << 30) as f64;
 
@@ -24,7 +24,7 @@ fn answers(terms: [f64; 5], k: u64, roots: &[Root]) {
 
 #[test]
 fn entries() {
-    answers([0.0, 0.0, 1.0, 0.0, 0.0], 4, &[(-1.0, 1), (1.0, 1)]);
+    answers([0.0, 0.0, 1.0, 0.0, 0.0], 4, &[Root::new(-1.0, 1), Root::new(1.0, 1)]);
     // e alone; on equal sizes the last sample wins
     answers([0.0, 0.0, 0.0, 0.0, 1.0], 7, &[]);
     answers([0.0, 0.0, 0.0, 0.0, -1.0], 7, &[]);
@@ -54,8 +54,7 @@ fn made_cranks(seed: u64) {
     say(&format!("cranks, seed {seed}: {}", outcome.text()));
     assert!(outcome.wrong == 0, "{}", outcome.shown.join("\n"));
     outcome.met.ask("cranks");
-    let asked = named(&outcome.ways, ["pair to ask about", "link to ask about", "link taken in"]);
-    assert!(asked.iter().all(|way| way.1 > 0), "{asked:?}");
+    outcome.ask_kinds();
 }
 
 #[test]
@@ -72,9 +71,9 @@ fn made_cranks_second() {
 /// it.
 #[test]
 fn buffers() {
-    let before: Vec<u8> = (0..120).map(|i| i as u8 ^ 0x5A).collect();
-    for room in 0..=120 {
-        let whole = if room < 104 { 0 } else { 104 };
+    let before: Vec<u8> = (0..160).map(|i| i as u8 ^ 0x5A).collect();
+    for room in 0..=160 {
+        let whole = if room < 136 { 0 } else { 136 };
         let cosine = ([0.0, 0.0, 1.0, 0.0, 0.0], whole);
         for (terms, wanted) in [cosine, ([f64::NAN; 5], 1), ([0.0; 5], 2), ([f64::MAX; 5], 5)] {
             for replies in [&[][..], &[0], &[1], &[1, 0]] {

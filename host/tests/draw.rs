@@ -29,8 +29,13 @@ impl Element {
         self.has[name].parse().unwrap()
     }
 
+    /// The middle of a circle, or of a path that ends where it began.
     fn place(&self) -> [f64; 2] {
-        [self.number("cx"), self.number("cy")]
+        if self.name == "circle" {
+            return [self.number("cx"), self.number("cy")];
+        }
+        let path = points(&self.has["d"]);
+        [0, 1].map(|i| path.iter().skip(1).map(|p| p[i]).sum::<f64>() / (path.len() - 1) as f64)
     }
 
     /// Left, top, right and bottom of a text.
@@ -147,6 +152,23 @@ fn labels(all: &[Element]) -> Vec<&str> {
     of_class(all, "halo").iter().map(|element| &element.text[..]).collect()
 }
 
+/// How many crossings, brushes and flat places are marked; above the picture are those alone.
+fn marked(all: &[Element]) -> [usize; 3] {
+    let words = ["crossing", "brush", "flat"];
+    for word in words {
+        let key = of_class(all, &format!("key {word}"));
+        let marks = of_class(all, word);
+        assert_eq!(key.len(), marks.len().min(1), "{word}");
+        for (mark, key) in marks.iter().zip(key) {
+            assert_eq!((&mark.name, mark.has.get("r")), (&key.name, key.has.get("r")), "{word}");
+            let own = all.iter().filter(|text| text.name == "text" && text.text == word);
+            let beside = |text: &Element| (text.number("x") - key.place()[0]).round();
+            assert!(own.map(beside).eq([12.0]), "{word}");
+        }
+    }
+    words.map(|word| of_class(all, word).len())
+}
+
 /// Whether two places are within a pixel.
 fn near(a: [f64; 2], b: [f64; 2]) -> bool {
     (a[0] - b[0]).hypot(a[1] - b[1]) < 1.0
@@ -164,21 +186,22 @@ fn heights(all: &[Element], x: f64) -> Vec<f64> {
 /// The curve goes through each dot, and on both sides of the axis near one that counts once.
 #[test]
 fn curves() {
-    let known: [(&str, &[&str], usize, usize); 7] = [
+    let known: [(&str, &[&str], usize, usize); 8] = [
         ("list 2^-30 24 -50 35 -10 1", &["x = 1", "x = 2", "x = 3", "x = 4"], 4, 0),
-        ("list 2^-30 -18 21 -8 1", &["x = 2", "x = 3, twice"], 1, 1),
+        ("list 2^-30 -18 21 -8 1", &["x = 2", "x = 3, flat, twice"], 1, 1),
+        ("list 2^-30 0 0 0 -2 1", &["x = 0, flat, 3 times", "x = 2"], 1, 1),
         ("list 2^-30 0 100 -101 1", &["x = 0", "x = 1", "x = 100"], 3, 0),
         ("list 2^-30 -1e300 0 1e-300", &["x = -1e300", "x = 1e300"], 2, 0),
         ("list 2^-30 1e-320 1e-310", &["x = -9.99989e-11"], 1, 0),
-        ("quad 1e-9 1e-9 1 2 1", &["x = -1, twice"], 0, 1),
+        ("quad 1e-9 1e-9 1 2 1", &["x = -1, flat, twice"], 0, 1),
         ("quad 1e-9 1e-9 1e-12 2 1", &["x = -0.5"], 1, 0),
     ];
-    for (line, names, dots, rings) in known {
+    for (line, names, crossings, flats) in known {
         let all = picture(line);
         assert_eq!(labels(&all), names, "{line}");
-        assert_eq!((of_class(&all, "dot").len(), of_class(&all, "ring").len()), (dots, rings));
+        assert_eq!(marked(&all), [crossings, 0, flats], "{line}");
         let axis = points(&of_class(&all, "axis")[0].has["d"])[0][1];
-        for dot in of_class(&all, "dot") {
+        for dot in of_class(&all, "crossing") {
             let [x, y] = dot.place();
             let around = heights(&all, x);
             let (up, down) = (around.iter().any(|h| *h <= y), around.iter().any(|h| *h >= y));
@@ -201,7 +224,11 @@ fn no_roots() {
 fn doubtful_places() {
     let all = picture("list 2^-30 -6 11 -6 1 2^-359");
     assert_eq!(labels(&all), ["x = -1.17427e108", "x = 3.52138, doubtful"]);
-    assert_eq!((of_class(&all, "dot").len(), of_class(&all, "doubtful").len()), (1, 1));
+    assert_eq!(marked(&all), [1, 0, 0]);
+    assert_eq!(["doubtful", "key doubtful"].map(|class| of_class(&all, class).len()), [1, 1]);
+    let joined = picture("list 2^-30 5e-20 -6e-10 1");
+    assert_eq!(labels(&joined), ["x = 3e-10, flat, twice, doubtful"]);
+    assert_eq!(marked(&joined), [0; 3]);
 }
 
 #[test]
@@ -216,16 +243,18 @@ fn the_title_is_the_equation() {
 fn cranks() {
     let all = picture("crank 2^-30 1 0 0 0 0.5");
     assert_eq!(labels(&all), ["60°", "120°", "240°", "300°"]);
-    let circle = all.iter().find(|element| element.name == "circle").unwrap();
+    let circle = of_class(&all, "axis").into_iter().find(|axis| axis.name == "circle").unwrap();
     let ([x, y], r) = (circle.place(), circle.number("r"));
-    for (dot, degrees) in of_class(&all, "dot").iter().zip([60f64, 120.0, 240.0, 300.0]) {
+    assert_eq!(marked(&all), [4, 0, 0]);
+    for (dot, degrees) in of_class(&all, "crossing").iter().zip([60f64, 120.0, 240.0, 300.0]) {
         let (sin, cos) = degrees.to_radians().sin_cos();
         assert!(near(dot.place(), [x + r * cos, y - r * sin]), "{degrees}");
     }
     let none = picture("crank 2^-30 0 0 1 0 3");
-    assert!(of_class(&none, "dot").is_empty());
+    assert_eq!(marked(&none), [0; 3]);
     assert!(none.iter().any(|element| element.text == "no position"));
-    assert_eq!(labels(&picture("slider 1 2 3")), ["0°, twice"]);
+    let straight = picture("slider 1 2 3");
+    assert_eq!((labels(&straight), marked(&straight)), (vec!["0°, flat, twice"], [0, 0, 1]));
 }
 
 /// The circle and its radius.
@@ -234,14 +263,14 @@ fn pin(all: &[Element]) -> ([f64; 2], f64) {
     (pin.place(), pin.number("r"))
 }
 
-/// Each contact is on the circle; the path goes through it.
-fn on_the_circle(all: &[Element]) {
+/// Each contact is so many radii outside of the circle; the path goes through it.
+fn beyond_the_circle(all: &[Element], radii: f64) {
     let ([x, y], r) = pin(all);
     let path: Vec<[f64; 2]> =
         of_class(all, "curve").iter().flat_map(|curve| points(&curve.has["d"])).collect();
-    for mark in [of_class(all, "dot"), of_class(all, "ring")].concat() {
+    for mark in ["crossing", "brush", "flat"].into_iter().flat_map(|kind| of_class(all, kind)) {
         let [u, v] = mark.place();
-        assert!(((u - x).hypot(v - y) - r).abs() < 1.0, "{mark:?}");
+        assert!(((u - x).hypot(v - y) - r - radii * r).abs() < 1.0, "{mark:?}");
         assert!(path.iter().any(|p| (p[0] - u).hypot(p[1] - v) < 6.0), "{mark:?}");
     }
 }
@@ -250,7 +279,7 @@ fn on_the_circle(all: &[Element]) {
 fn contacts() {
     let known: [(&str, &[&str], usize, usize); 6] = [
         ("1e-9 4 0 0 -10 2 0 1 0 5", &["t = 3", "t = 7"], 2, 0),
-        ("1e-9 0.06 0 0 -1 0.5 0 0 0 0.06", &["t = 2, twice"], 0, 1),
+        ("1e-9 0.06 0 0 -1 0.5 0 0 0 0.06", &["t = 2, flat, twice"], 0, 1),
         // 10^6 times longer than the pin is wide
         ("1e-9 0.01 1e-6 0 -120000 3 0 0 0 0.06", &["t = 39999.989", "t = 40000.011"], 2, 0),
         (
@@ -268,12 +297,22 @@ fn contacts() {
         ),
         ("1e-9 4e150 0 0 -1e151 2e150 0 1e150 0 5e150", &["t = 3", "t = 7"], 2, 0),
     ];
-    for (numbers, names, dots, rings) in known {
+    for (numbers, names, crossings, flats) in known {
         let all = picture(&format!("contact {numbers}"));
         assert_eq!(labels(&all), names, "{numbers}");
-        assert_eq!((of_class(&all, "dot").len(), of_class(&all, "ring").len()), (dots, rings));
+        assert_eq!(marked(&all), [crossings, 0, flats], "{numbers}");
         assert!(pin(&all).1 > 100.0 && !of_class(&all, "arrow").is_empty(), "{numbers}");
-        on_the_circle(&all);
+        beyond_the_circle(&all, 0.0);
+    }
+}
+
+/// Past the pin, and over its edge and back, by as much as confusion.
+#[test]
+fn brushes() {
+    for (across, beyond) in [(5.25, 0.05), (4.75, -0.05)] {
+        let all = picture(&format!("contact 0.25 {across} 0 0 -3 1 0 0 0 5"));
+        assert_eq!((labels(&all), marked(&all)), (vec!["t = 0", "t = 3, brush, twice"], [0, 1, 0]));
+        beyond_the_circle(&all, beyond);
     }
 }
 

@@ -163,9 +163,11 @@ mod listings {
     use host::inputs::hall_files::any_file;
     use host::inputs::random::Random;
     use host::stored::files::{
-        DOCUMENT, DOCUMENT_LISTING, ENTRIES, FINE_POINTS, MISTAKES, REFUSED, files, of_size,
+        DOCUMENT, DOCUMENT_LISTING, ENTRIES, FINE_POINTS, KINDS, MISTAKES, REFUSED, files, of_size,
     };
-    use host::truth::lister::{Reference, Untouched, lines, listing};
+    use host::truth::hall_file::Kind;
+    use host::truth::kind;
+    use host::truth::lister::{Line, Reference, Untouched, lines, listing};
 
     fn listed(bytes: &[u8]) -> String {
         String::from_utf8(listing(bytes, &Reference)).unwrap()
@@ -201,7 +203,7 @@ mod listings {
             "14 PC refused 11",
             "15 PC refused 12",
             "16 PC refused 2",
-            "17 PL ok 2 3FF0000000000000 1 4000000000000000 1",
+            "17 PL ok 2 3FF0000000000000 1 c 4000000000000000 1 c",
         ];
         assert_eq!(listed_text(REFUSED), wanted);
         let known: [(&[u8], &str); 10] = [
@@ -227,8 +229,8 @@ mod listings {
     #[test]
     fn entries() {
         let wanted = "refused 2|refused 2|refused 2|refused 1|refused 1|refused 3\
-            |ok 1 0000000000000000 2|ok 1 3FF0000000000000 1|ok 1 4008000000000000 1\
-            |ok 1 BFE5555555555555 1|ok 1 3FF0000000000000 2|ok 0|degenerate\
+            |ok 1 0000000000000000 2 f|ok 1 3FF0000000000000 1 c|ok 1 4008000000000000 1 c\
+            |ok 1 BFE5555555555555 1 c|ok 1 3FF0000000000000 2 f|ok 0|degenerate\
             |linear 4000000000000000|one BFF0000000000000|empty|linear 8000000000000000\
             |linear 8000000000000000|two C1CFFFFFFFFFFFFE 8000000000000000\
             |two 8000000000000000 41CFFFFFFFFFFFFE";
@@ -242,13 +244,13 @@ mod listings {
     fn mistakes_and_fine_points() {
         let lines = [listed_text(MISTAKES), listed_text(FINE_POINTS)];
         let known = [
-            (0, "1 PL ok 1 0000000000000000 1"),
-            (0, "2 PL ok 1 8000000000000000 1"),
+            (0, "1 PL ok 1 0000000000000000 1 c"),
+            (0, "2 PL ok 1 8000000000000000 1 c"),
             (0, "3 PL ok 0"),
-            (0, "6 PL ok 1 3FE0000000000000 1"),
-            (0, "7 PL ok 1 0000000000000000 2"),
+            (0, "6 PL ok 1 3FE0000000000000 1 c"),
+            (0, "7 PL ok 1 0000000000000000 2 f"),
             (0, "8 QD linear 8000000000000000"),
-            (0, "15 PL ok 1 C0D5555555555555 3"),
+            (0, "15 PL ok 1 C0D5555555555555 3 f"),
             (0, "16 TG ok 7 0"),
             (0, "21 TG refused 2"),
             (1, "1 PL ok 0"),
@@ -256,8 +258,8 @@ mod listings {
             (1, "3 PL ok 0"),
             (1, "4 PL ok 0"),
             (1, "5 PL ok 0"),
-            (1, "6 PL ok 1 0002000000000000 2"),
-            (1, "9 PL ok 2 0000000000000000 1 0000000000000000 1"),
+            (1, "6 PL ok 1 0002000000000000 2 f"),
+            (1, "9 PL ok 2 0000000000000000 1 c 0000000000000000 1 c"),
             (1, "10 QD two 8000000000000000 8000000000000000"),
             (1, "11 QD refused 5"),
             (1, "12 QD refused 5"),
@@ -266,8 +268,22 @@ mod listings {
             assert!(lines[which].iter().any(|l| l == line), "{line}: {:#?}", lines[which]);
         }
         assert!(lines[0][8].starts_with("9 PL ok 1 "));
-        assert!(lines[0][9].starts_with("10 PL ok 2 000000016DED3026 1 "), "{}", lines[0][9]);
+        assert!(lines[0][9].starts_with("10 PL ok 2 000000016DED3026 1 c "), "{}", lines[0][9]);
         assert!(lines[0][16].starts_with("17 TG ok 6 "));
+    }
+
+    /// The multiplicity and the kind of each root.
+    #[test]
+    fn kinds() {
+        let wanted = "1c 1c|2f|2f 2f|1c 2f 1c|3f 1c|2f|2f 2f|4f|4b|2f 2f|4b|2b 2b||4b|1c 1c 1c 1c\
+            |1c 3b|1c 1c 2b|1c 1c|2f 2f|2b 2f|2b 2f|1c 1c 1c 1c";
+        let read = lines(&listing(&read(KINDS).unwrap(), &Reference)).unwrap();
+        let root = |(m, kind): (u32, kind::Kind)| format!("{m}{}", kind.letter());
+        let of_line = |line: &Line| {
+            let roots = line.answer.roots().into_iter().filter_map(|(_, listed)| listed);
+            roots.map(root).collect::<Vec<_>>().join(" ")
+        };
+        assert_eq!(read.iter().map(of_line).collect::<Vec<_>>().join("|"), wanted);
     }
 
     /// Behind a whole record each kind is cut at every byte.
@@ -283,7 +299,7 @@ mod listings {
             let bytes = read(line).unwrap();
             for cut in 1..bytes.len() {
                 let mark = if cut < 2 { "--" } else { mark };
-                let wanted = format!("1 PL ok 1 4008000000000000 1\n2 {mark} refused 7\n");
+                let wanted = format!("1 PL ok 1 4008000000000000 1 c\n2 {mark} refused 7\n");
                 assert_eq!(listed(&[&first, &bytes[..cut]].concat()), wanted);
             }
         }
@@ -307,7 +323,7 @@ mod listings {
 
     #[test]
     fn lengths() {
-        let root = "ok 2 3FF0000000000000 1 4000000000000000 1";
+        let root = "ok 2 3FF0000000000000 1 c 4000000000000000 1 c";
         for size in [65_535, 65_536] {
             let lines = listed(&of_size(size));
             assert!(lines.lines().all(|line| line.ends_with(root)), "{size}");
@@ -325,23 +341,28 @@ mod listings {
         assert!(listed(&short).ends_with("\n5957 PL refused 2\n"));
     }
 
-    /// Every line reads back, and is numbered from 1.
+    /// Every line reads back, and is numbered from 1; none but a contact's has a brush.
     #[test]
     fn made_files() {
         let mut r = Random::new(12);
-        let mut refused = [0u64; 13];
+        let (mut refused, mut brushes) = ([0u64; 13], 0);
         for _ in 0..20_000 {
             let bytes = any_file(&mut r);
             let read = lines(&listing(&bytes, &Reference)).unwrap();
             for (i, line) in read.iter().enumerate() {
                 assert_eq!(line.number, i + 1);
+                let kinds = line.answer.roots().into_iter().filter_map(|(_, listed)| listed);
+                let brush = kinds.filter(|(_, kind)| *kind == kind::Kind::Brush).count();
+                assert!(brush == 0 || line.kind == Some(Kind::Contact), "{line}");
+                brushes += brush;
                 let text = line.answer.to_string();
                 let number = text.strip_prefix("refused ").map_or(0, |n| n.parse().unwrap());
                 refused[number] += 1;
             }
         }
-        say(&format!("made files: lines by refusal 0 to 12: {refused:?}"));
+        say(&format!("made files: lines by refusal 0 to 12: {refused:?}, {brushes} brushes"));
         assert!([0, 1, 2, 3, 5, 6, 7, 8, 10, 11, 12].iter().all(|&n| refused[n] > 100));
+        assert!(brushes > 100);
     }
 
     #[test]

@@ -1,6 +1,11 @@
 //! include/pongewaru.h and host/src/port/exported.rs declare the crates' C functions, all of them
-//! and no others, each under the one prefix; the header's refusals are those of the crate.
+//! and no others, each under the one prefix; the header's refusals are those of the crate, and its
+//! kinds and structs those that the host reads.
+use host::compare::answer::LIST;
 use host::people::documents::{crates, files, root};
+use host::port::inquiries::{CRANK_SHOWN, SHOWN};
+use host::truth::kind::Kind;
+use std::collections::HashMap;
 use std::fs;
 
 const PREFIX: &str = "pongewaru_";
@@ -108,6 +113,44 @@ fn declared_for_the_host() {
     }
     let declared = exported.split(" fn ").filter(|part| part.starts_with(char::is_lowercase));
     assert_eq!(declared.count(), functions.len(), "exported.rs has more");
+}
+
+/// How many doubles the members of a struct have.
+fn doubles(members: &str, known: &HashMap<String, usize>) -> usize {
+    let member = |member: &str| {
+        let (kind, name) = member.trim().rsplit_once(' ').expect("a kind and a name");
+        let count =
+            name.split_once('[').map_or(1, |(_, n)| n.trim_end_matches(']').parse().unwrap());
+        count * if kind == "double" { 1 } else { known[kind] }
+    };
+    members.split(';').filter(|one| !one.trim().is_empty()).map(member).sum()
+}
+
+/// Each struct has as many doubles as the host reads, and as many bytes as the header says.
+#[test]
+fn structs() {
+    let header = text("include/pongewaru.h");
+    let mut known = HashMap::new();
+    for (at, _) in header.match_indices("struct ") {
+        let Some((name, rest)) =
+            header[at..].split_once(" {").filter(|(n, _)| !n.contains([';', ',']))
+        else {
+            continue;
+        };
+        let count = doubles(&without_comments(rest.split_once("};").expect("an end").0), &known);
+        let comment = header[..at].rsplit_once("/* ").expect("a comment").1;
+        assert!(comment.starts_with(&format!("{} bytes: ", 8 * count)), "{name}: {comment}");
+        known.insert(name.to_string(), count);
+    }
+    let wanted = [("list", LIST), ("shown", SHOWN), ("crank_shown", CRANK_SHOWN)];
+    for (name, count) in wanted {
+        assert_eq!(known[&format!("struct {PREFIX}{name}")], count, "{name}");
+    }
+    assert!(header.contains("{ double place; double multiplicity; double kind; };"));
+    for kind in Kind::ALL {
+        let wanted = format!("#define PONGEWARU_{} {} ", kind.word().to_uppercase(), kind.number());
+        assert!(header.contains(&wanted), "include/pongewaru.h has no `{wanted}`");
+    }
 }
 
 #[test]

@@ -1,13 +1,16 @@
 //! Inquiries by the port against the reference build's `real_roots_touching`, and document 01's
 //! entries.
 #![cfg(geomcore)]
-use host::compare::answer::{Answer, Root};
+use host::compare::answer::Answer;
 use host::compare::say;
-use host::compare::ways::named;
 use host::inputs::lists::long_lists;
 use host::port;
 use host::port::inquiries::{inquire, inquire_bytes};
 use host::runs::inquiries::{each, every_reply, made, made_long};
+use host::truth::kind::Kind::{self, Brush, Crossing, Flat};
+use host::truth::kind::Root;
+use host::truth::touching;
+use std::cell::Cell;
 
 const TOL: f64 = 1.0 / (1u64 << 30) as f64;
 
@@ -18,18 +21,25 @@ fn asks(coeffs: &[f64], replies: &[u8], place: f64) {
     assert_eq!((shown.number, asked), (0, Some(place.to_bits())), "{coeffs:?}, {replies:?}");
 }
 
+type Listed = (f64, u32, Kind);
+
+fn answer(roots: &[Listed]) -> Answer {
+    let root = |&(value, multiplicity, kind): &Listed| Root { value, multiplicity, kind };
+    Answer::new(0, &roots.iter().map(root).collect::<Vec<_>>())
+}
+
 /// It has ended with this list.
-fn lists(coeffs: &[f64], replies: &[u8], roots: &[Root]) {
+fn lists(coeffs: &[f64], replies: &[u8], roots: &[Listed]) {
     let shown = inquire(coeffs, TOL, replies).unwrap();
     assert!(shown.number == 0 && shown.place.is_none(), "{coeffs:?}, {replies:?}");
-    assert!(shown.list.same(&Answer::new(0, roots)), "{coeffs:?}: {}", shown.list.text());
+    assert!(shown.list.same(&answer(roots)), "{coeffs:?}: {}", shown.list.text());
 }
 
 /// A further reply is refused, and changes nothing.
-fn refuses(coeffs: &[f64], replies: &[u8], roots: &[Root]) {
+fn refuses(coeffs: &[f64], replies: &[u8], roots: &[Listed]) {
     let shown = inquire(coeffs, TOL, replies).unwrap();
     assert!(shown.number == 4 && shown.place.is_none(), "{coeffs:?}, {replies:?}");
-    assert!(shown.list.same(&Answer::new(0, roots)), "{coeffs:?}: {}", shown.list.text());
+    assert!(shown.list.same(&answer(roots)), "{coeffs:?}: {}", shown.list.text());
 }
 
 #[test]
@@ -37,15 +47,52 @@ fn entries() {
     let circle = [1.0, 0.0, 1.0];
     asks(&circle, &[], -0.0);
     for yes in [1, 2, 255] {
-        lists(&circle, &[yes], &[(-0.0, 2)]);
-        refuses(&circle, &[yes, 0], &[(-0.0, 2)]);
-        refuses(&circle, &[yes, 1, 0, 1, 1, 0, 1], &[(-0.0, 2)]);
+        lists(&circle, &[yes], &[(-0.0, 2, Brush)]);
+        refuses(&circle, &[yes, 0], &[(-0.0, 2, Brush)]);
+        refuses(&circle, &[yes, 1, 0, 1, 1, 0, 1], &[(-0.0, 2, Brush)]);
     }
     lists(&circle, &[0], &[]);
     refuses(&circle, &[0, 1], &[]);
     asks(&[2.0, 0.0, 0.0, 0.0, -2.0], &[], 0.0);
-    lists(&[-6.0, 2.0], &[], &[(3.0, 1)]);
-    refuses(&[-6.0, 2.0], &[1], &[(3.0, 1)]);
+    lists(&[-6.0, 2.0], &[], &[(3.0, 1, Crossing)]);
+    refuses(&[-6.0, 2.0], &[1], &[(3.0, 1, Crossing)]);
+}
+
+/// By the port and by the host: how a root is formed says its kind.
+#[test]
+fn kinds() {
+    let formed = |coeffs: &[f64], replies: &[u8], roots: &[Listed]| {
+        lists(coeffs, replies, roots);
+        let next = Cell::new(0);
+        let in_turn = |_| replies[next.replace(next.get() + 1)] != 0;
+        let list: Vec<Root> =
+            touching::list(coeffs, TOL, &in_turn).into_iter().map(Root::by).collect();
+        let list = Answer::new(0, &list);
+        assert!(list.same(&answer(roots)), "{coeffs:?}, {replies:?}: {}", list.text());
+    };
+    // a pair alone
+    formed(&[1.0, 0.0, 1.0], &[1], &[(-0.0, 2, Brush)]);
+    formed(&[1.0, 0.0, 1.0], &[0], &[]);
+    // two simple roots
+    formed(&[2.0, -3.0, 1.0], &[0], &[(1.0, 1, Crossing), (2.0, 1, Crossing)]);
+    formed(&[2.0, -3.0, 1.0], &[1], &[(1.5, 2, Brush)]);
+    // in the band, and two such ones
+    formed(&[1.0, -2.0, 1.0], &[], &[(1.0, 2, Flat)]);
+    let twice = [1.0, 0.0, -2.0, 0.0, 1.0];
+    formed(&twice, &[0], &[(-1.0, 2, Flat), (1.0, 2, Flat)]);
+    formed(&twice, &[1], &[(0.0, 4, Brush)]);
+    // the root 0 twice, alone and between simple roots
+    formed(&[0.0, 0.0, 1.0], &[], &[(0.0, 2, Flat)]);
+    let zeros = [0.0, 0.0, -3.0, -2.0, 1.0];
+    let first = (-1.0, 1, Crossing);
+    formed(&zeros, &[0], &[first, (0.0, 2, Flat), (3.0, 1, Crossing)]);
+    formed(&zeros, &[1], &[first, (1.5, 3, Brush)]);
+    // a pair before a simple root
+    let before = [-20.0, 9.0, -6.0, 1.0];
+    formed(&before, &[0], &[(5.0, 1, Crossing)]);
+    let almost_one = f64::from_bits(0x3FEF_FFFF_FFFE_32D6);
+    formed(&before, &[1, 0], &[(almost_one, 2, Brush), (5.0, 1, Crossing)]);
+    formed(&before, &[1, 1], &[(0.5 * (almost_one + 5.0), 3, Brush)]);
 }
 
 #[test]
@@ -66,8 +113,7 @@ fn made_lists(seed: u64) {
     say(&format!("inquiries, seed {seed}: {}", outcome.text()));
     assert!(outcome.wrong == 0, "{}", outcome.shown.join("\n"));
     outcome.met.ask("inquiries");
-    let asked = named(&outcome.ways, ["pair to ask about", "link to ask about", "link taken in"]);
-    assert!(asked.iter().all(|way| way.1 > 0), "{asked:?}");
+    outcome.ask_kinds();
 }
 
 #[test]
@@ -101,7 +147,7 @@ fn every_sequence_of_replies() {
 /// it.
 #[test]
 fn buffers() {
-    let before: Vec<u8> = (0..120).map(|i| i as u8 ^ 0x5A).collect();
+    let before: Vec<u8> = (0..150).map(|i| i as u8 ^ 0x5A).collect();
     let check = |coeffs: &[u8], replies: &[u8], room: usize, wanted: u64| {
         let mut out = before.clone();
         let said = inquire_bytes(coeffs, TOL, replies, &mut out[..room]);
@@ -110,8 +156,8 @@ fn buffers() {
         assert_eq!(out[stored..], before[stored..], "{coeffs:?} into {room} bytes");
     };
     let circle = port::bytes(&[1.0, 0.0, 1.0]);
-    for room in 0..=120 {
-        let whole = if room < 96 { 0 } else { 96 };
+    for room in 0..=150 {
+        let whole = if room < 128 { 0 } else { 128 };
         for replies in [&[][..], &[0], &[1], &[1, 0], &[0; 300]] {
             check(&circle, replies, room, whole);
             check(&port::bytes(&[1.0, f64::NAN]), replies, room, 1);

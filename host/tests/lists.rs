@@ -1,6 +1,6 @@
 //! Whole lists by the port against the reference build, and document 01's entries.
 #![cfg(geomcore)]
-use host::compare::answer::{Answer, Root};
+use host::compare::answer::Answer;
 use host::compare::outcome::Outcome;
 use host::compare::say;
 use host::compare::ways::{OF_LISTS, WAYS};
@@ -8,6 +8,7 @@ use host::inputs::lists::{TOLERANCES, long_lists};
 use host::port;
 use host::runs::lists::{each, every_short_list, made, made_long, reference};
 use host::truth::exact::ldexp;
+use host::truth::kind::{Kind, Root};
 
 const TOL: f64 = 1.0 / (1u64 << 30) as f64;
 const INFINITE: f64 = f64::INFINITY;
@@ -25,9 +26,13 @@ fn refused(coeffs: &[f64], tol: f64, n: u64) {
     expect(coeffs, tol, Answer::new(n, &[]));
 }
 
-/// Port and reference build answer these roots.
-fn roots(coeffs: &[f64], tol: f64, wanted: &[Root]) {
-    expect(coeffs, tol, Answer::new(0, wanted));
+/// Port and reference build answer these roots: crossings, and flat ones.
+fn roots(coeffs: &[f64], tol: f64, wanted: &[(f64, u32)]) {
+    let root = |&(value, multiplicity): &(f64, u32)| {
+        let kind = if multiplicity == 1 { Kind::Crossing } else { Kind::Flat };
+        Root { value, multiplicity, kind }
+    };
+    expect(coeffs, tol, Answer::new(0, &wanted.iter().map(root).collect::<Vec<_>>()));
 }
 
 fn expect(coeffs: &[f64], tol: f64, wanted: Answer) {
@@ -84,7 +89,7 @@ fn inputs_with_a_known_part() {
     };
     // rounded twice on the way back to x
     let twice = doubles(&[0x0001_84CC_0328_EBDA, 0xC0F1_0000_0001_6DED, 0x7FD0 << 48]);
-    assert_eq!(part(&twice, 0.0).root[0], (double(0x0000_0001_6DED_3026), 1));
+    assert_eq!(part(&twice, 0.0).root[0], Root::new(double(0x0000_0001_6DED_3026), 1));
     // the third angle of NaN
     let angle = [0x4000 << 48, 0x8000 << 48, 0xBFE0 << 48, 0xC000 << 48, 0x1EB6_7E9C_127B_6E74];
     assert_eq!(part(&doubles(&angle), TOL).len, 1);
@@ -131,6 +136,8 @@ fn made_lists(seed: u64) {
     let outcome = made(seed, 1_500_000);
     all_equal(&format!("made lists, seed {seed}"), &outcome);
     outcome.met.ask("made lists");
+    let [crossing, brush, flat] = outcome.kinds;
+    assert!(crossing > 0 && brush == 0 && flat > 0, "{:?}", outcome.kinds);
     // nothing is scaled a fourth time
     let ways = WAYS[..OF_LISTS].iter().zip(outcome.ways).filter(|way| !way.0.ends_with("depth 2"));
     assert!(ways.clone().all(|way| way.1 > 0), "{:?}", ways.collect::<Vec<_>>());
@@ -183,7 +190,9 @@ fn long() {
 /// On a refusal every byte of the lent buffer is as it was; on an answer every byte behind it.
 #[test]
 fn buffers() {
-    let before: Vec<u8> = (0..100).map(|i| i as u8 ^ 0x5A).collect();
+    const SIZE: usize = 104;
+    const ROOM: usize = 130;
+    let before: Vec<u8> = (0..ROOM).map(|i| i as u8 ^ 0x5A).collect();
     let check = |coeffs: &[u8], tol: f64, room: usize, wanted: u64| {
         let mut out = before.clone();
         let said = port::real_roots_bytes(coeffs, tol, &mut out[..room]);
@@ -192,21 +201,22 @@ fn buffers() {
         assert_eq!(out[stored..], before[stored..], "{coeffs:?} into {room} bytes");
     };
     let two = port::bytes(&[2.0, -3.0, 1.0]);
-    for room in 0..=100 {
-        check(&two, TOL, room, if room < 72 { 0 } else { 72 });
-        check(&port::bytes(&[1.0, 0.0, 1.0]), TOL, room, if room < 72 { 0 } else { 72 });
+    for room in 0..=ROOM {
+        let whole = if room < SIZE { 0 } else { SIZE as u64 };
+        check(&two, TOL, room, whole);
+        check(&port::bytes(&[1.0, 0.0, 1.0]), TOL, room, whole);
         check(&port::bytes(&[1.0, INFINITE]), TOL, room, 1);
         check(&[], TOL, room, 2);
         check(&port::bytes(&[1.0; 6]), TOL, room, 3);
         check(&port::bytes(&[1.0; 33]), TOL, room, 3);
     }
     for cut in (1..24).filter(|n| n % 8 != 0) {
-        check(&two[..cut], TOL, 100, 20);
-        check(&two[..cut], TOL, 71, 20);
+        check(&two[..cut], TOL, ROOM, 20);
+        check(&two[..cut], TOL, SIZE - 1, 20);
     }
     let many = port::bytes(&[0.0; 1_000]);
-    check(&many, TOL, 100, 2);
+    check(&many, TOL, ROOM, 2);
     for cut in 1..8 {
-        check(&many[cut..], TOL, 100, 20);
+        check(&many[cut..], TOL, ROOM, 20);
     }
 }

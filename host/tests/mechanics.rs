@@ -46,22 +46,22 @@ const LINES: &str = "list 2^-30 2 -3 1\nlist 2^-30\nquad 2^-30 2^-30 1 -3 2\n\
 #[test]
 fn a_file_as_a_table() {
     let bytes = [&made(LINES)[..], b"XX"].concat();
-    let head = "  answer        place                bits              times  t in degrees   t in radians\n";
+    let head = "  answer        place                bits              times, kind  t in degrees   t in radians\n";
     let table = "\
 1 list, tol 2^-30: x^2 - 3 x + 2 = 0
-  2 roots       1                    3FF0000000000000  1
-                2                    4000000000000000  1
+  2 roots       1                    3FF0000000000000  1 crossing
+                2                    4000000000000000  1 crossing
 2 list, tol 2^-30: 0 = 0
   refused 2: no equation: once trailing zeros are dropped, a constant at most is left
 3 quad, confusion 2^-30, angular 2^-30: x^2 - 3 x + 2 = 0
   two           1                    3FF0000000000000
                 2                    4000000000000000
 4 crank, confusion 2^-30: cos t = 0
-  k 4, 2 roots  -1                   BFF0000000000000  1      90             1.570796327
-                1                    3FF0000000000000  1      270            4.71238898
+  k 4, 2 roots  -1                   BFF0000000000000  1 crossing   90             1.570796327
+                1                    3FF0000000000000  1 crossing   270            4.71238898
 5 crank, confusion 2^-30: -6 cos t + 1 = 0
-  k 0, 2 roots  0.8451542547285166   3FEB0B80EF844BA1  1      80.405931773   1.403348248
-                -0.8451542547285166  BFEB0B80EF844BA1  1      279.594068227  4.87983706
+  k 0, 2 roots  0.8451542547285166   3FEB0B80EF844BA1  1 crossing   80.405931773   1.403348248
+                -0.8451542547285166  BFEB0B80EF844BA1  1 crossing   279.594068227  4.87983706
 6 list, tol 2^-30: x^2 + 1 = 0
   0 roots
 7 --
@@ -90,9 +90,9 @@ fn tables_of_made_files() {
         let csv = text(&hall(&["show", "--csv"], &bytes).stdout);
         let mut last = (String::new(), 0.0);
         for fields in csv.lines().skip(1).map(fields) {
-            assert_eq!(fields.len(), 17, "{fields:?}");
-            let Ok(angle) = fields[11].parse::<f64>() else { continue };
-            let radians: f64 = fields[12].parse().unwrap();
+            assert_eq!(fields.len(), 18, "{fields:?}");
+            let Ok(angle) = fields[12].parse::<f64>() else { continue };
+            let radians: f64 = fields[13].parse().unwrap();
             assert!((radians - angle.to_radians()).abs() < 1e-8, "{fields:?}");
             let from = if last.0 == fields[0] { last.1 } else { 0.0 };
             assert!((from..360.0).contains(&angle), "{fields:?} behind {last:?}");
@@ -123,41 +123,52 @@ fn a_file_as_csv() {
     let path = path.to_str().unwrap();
     let csv = text(&hall(&["show", path, "--csv"], b"").stdout);
     let lines: Vec<&str> = csv.lines().collect();
-    let head = "record,byte,kind,tolerances,question,answer,refused,why,place,bits,times,degrees,\
-                radians,x,y,distance,doubt";
+    let head = "record,byte,kind,tolerances,question,answer,refused,why,place,bits,times,\
+                root kind,degrees,radians,x,y,distance,doubt";
     assert_eq!(lines[0], head);
     assert_eq!(lines.len(), 12);
-    let crank = "4,88,crank,confusion 2^-30,cos t = 0,\"k 4, 2 roots\",,,-1,BFF0000000000000,1,90,";
-    assert_eq!(lines[6], format!("{crank}1.570796327,,,,"));
-    assert_eq!(lines[11], "7,223,--,,,,6,byte 223: unknown mark `XX`,,,,,,,,,");
+    assert_eq!(fields(lines[4])[9..12], ["3FF0000000000000", "", ""]);
+    let crank = "4,88,crank,confusion 2^-30,cos t = 0,\"k 4, 2 roots\",,,-1,BFF0000000000000,1,";
+    assert_eq!(lines[6], format!("{crank}crossing,90,1.570796327,,,,"));
+    assert_eq!(lines[11], "7,223,--,,,,6,byte 223: unknown mark `XX`,,,,,,,,,,");
     assert_eq!(text(&hall(&["show", "--csv", path], b"").stdout), csv);
     assert_eq!(text(&hall(&["show", "--csv"], &bytes).stdout), csv);
 }
 
 /// At each contact the ball's place, and its distance from the circle; a touch within confusion is
-/// no doubtful one.
+/// no doubtful one: a brush where it was asked about, flat where the tolerance joins it anyhow.
 #[test]
 fn contacts() {
-    let bytes = made("contact 1e-9 4 0 0 -10 2 0 1 0 5\ncontact 0.5 5.25 0 0 -10 2 0 0 0 5");
-    let head = "  answer      place  bits              times\n";
+    let bytes = made(
+        "contact 1e-9 4 0 0 -10 2 0 1 0 5\ncontact 0.5 5.25 0 0 -10 2 0 0 0 5\n\
+         contact 0.25 5.25 0 0 -3 1 0 0 0 5",
+    );
+    let head = "  answer      place  bits              times, kind\n";
     let table = "\
 1 contact, confusion 1e-9: |(4, 2 t - 10) - (1, 0)| = 5
-  2 contacts  3      4008000000000000  1
+  2 contacts  3      4008000000000000  1 crossing
     ball at x = 4, y = -4, D - R = 0
-              7      401C000000000000  1
+              7      401C000000000000  1 crossing
     ball at x = 4, y = 4, D - R = 0
 2 contact, confusion 0.5: |(5.25, 2 t - 10) - (0, 0)| = 5
-  1 contact   5      4014000000000000  2
+  1 contact   5      4014000000000000  2 flat
+    ball at x = 5.25, y = 0, D - R = 0.25
+3 contact, confusion 0.25: |(5.25, t - 3) - (0, 0)| = 5
+  1 contact   3      4008000000000000  2 brush
     ball at x = 5.25, y = 0, D - R = 0.25
 ";
     assert_eq!(text(&hall(&["show"], &bytes).stdout), format!("{head}{table}"));
     let csv = text(&hall(&["show", "--csv"], &bytes).stdout);
     let ends: Vec<Vec<String>> =
         csv.lines().skip(1).map(|line| fields(line).split_off(11)).collect();
-    assert_eq!(ends[0], ["", "", "4", "-4", "0", ""]);
-    assert_eq!(ends[2], ["", "", "5.25", "0", "0.25", ""]);
+    assert_eq!(ends[0], ["crossing", "", "", "4", "-4", "0", ""]);
+    assert_eq!(ends[2], ["flat", "", "", "5.25", "0", "0.25", ""]);
+    assert_eq!(ends[3], ["brush", "", "", "5.25", "0", "0.25", ""]);
+    let brush = text(&hall(&["explain", "-", "3"], &bytes).stdout);
+    assert!(brush.contains(", 2 times, brush: a contact, D - R is 0.25\n"), "{brush}");
     let why = text(&hall(&["explain", "-", "2"], &bytes).stdout);
-    assert!(why.contains("  5 (4014000000000000), 2 times: a contact, D - R is 0.25\n"), "{why}");
+    let line = "  5 (4014000000000000), 2 times, flat: a contact, D - R is 0.25\n";
+    assert!(why.contains(line), "{why}");
     assert!(why.contains("p is 4 t^2 - 40 t + 102.5625, computed without rounding"), "{why}");
 }
 
@@ -168,7 +179,7 @@ fn sliders() {
     // cos t = 1/6
     let angle = (1.0f64 / 6.0).acos().to_degrees();
     let shown = csv("slider 1 3 3");
-    let angles: Vec<f64> = shown.lines().skip(1).map(|l| fields(l)[11].parse().unwrap()).collect();
+    let angles: Vec<f64> = shown.lines().skip(1).map(|l| fields(l)[12].parse().unwrap()).collect();
     assert!(angles.len() == 2 && (angles[0] - angle).abs() < 1e-8, "{shown}");
     assert!((angles[1] - (360.0 - angle)).abs() < 1e-8, "{shown}");
     // 30, 40, 50: the crank is upright
@@ -201,7 +212,7 @@ fn files_as_text() {
 /// The listing alone on standard output; status 1 where the file is not read to its end.
 #[test]
 fn listings() {
-    let listing = "1 PL ok 2 3FF0000000000000 1 4000000000000000 1\n2 PL refused 2\n";
+    let listing = "1 PL ok 2 3FF0000000000000 1 c 4000000000000000 1 c\n2 PL refused 2\n";
     let bytes = made("list 2^-30 2 -3 1\nlist 2^-30");
     let out = hall(&["list"], &bytes);
     assert_eq!((text(&out.stdout), out.status.code()), (listing.to_string(), Some(0)));
@@ -231,9 +242,9 @@ fn listings() {
 fn marked(line: &str) -> Vec<String> {
     let csv = text(&hall(&["show", "--csv"], &made(line)).stdout);
     let rows: Vec<Vec<String>> = csv.lines().skip(1).map(fields).collect();
-    assert!(rows.iter().all(|row| ["", "doubtful"].contains(&&row[16][..])), "{csv}");
+    assert!(rows.iter().all(|row| ["", "doubtful"].contains(&&row[17][..])), "{csv}");
     let found: Vec<String> =
-        rows.into_iter().filter(|row| row[16] == "doubtful").map(|row| row[9].clone()).collect();
+        rows.into_iter().filter(|row| row[17] == "doubtful").map(|row| row[9].clone()).collect();
     let table = text(&hall(&["show"], &made(line)).stdout);
     let own = |row: &&str| row.starts_with("  doubtful  ");
     assert_eq!(table.lines().filter(own).count(), found.len(), "{table}");
@@ -342,7 +353,7 @@ const EXPLAINED: &str = "\
     is 7.11e-15. Nor does p change sign further off, within 0.00195.
 2 list, tol 2^-30: x^2 - 6e-10 x + 5e-20 = 0
   p is the left side, computed without rounding
-  3e-10 (3DF49DA7E361CE4C), 2 times: doubtful
+  3e-10 (3DF49DA7E361CE4C), 2 times, flat: doubtful
     At the place |p| is 4e-20 and the sum of its terms' sizes 3.2e-19: 0.125 of that is left, and
     2^-47 is 7.11e-15. The tolerance joins roots within 9.31e-10 of their middle.
 records: 6, refused: 1, roots: 11, doubtful: 3

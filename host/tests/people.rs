@@ -18,12 +18,12 @@ fn comparison() {
 record 2 at byte 35: list 2^-30 -18 21 -8 1
   x^3 - 8 x^2 + 21 x - 18 = 0
   reference  ok
-    2                         4000000000000000  1
-    3.000000000000001         4008000000000002  2
+    2                         4000000000000000  1 c
+    3.000000000000001         4008000000000002  2 f
   port       the same
   untouched  ok  [bits, steps 0 4]
-    2                         4000000000000000  1
-    2.999999999999999         4007FFFFFFFFFFFE  2
+    2                         4000000000000000  1 c
+    2.999999999999999         4007FFFFFFFFFFFE  2 f
 4 records: 3 answered, 1 refused
 port: 4 equal to the reference build, 0 not
 untouched Rust: 3 equal to the reference build, 1 not

@@ -1,13 +1,18 @@
 //! The copies of geomcore's Rust: document 01's entries of inquiries, quadratics and cranks by the
 //! reference build. Lists: tests/lists.rs. And that a copy's functions below whole lists are asked
-//! and answer in the order of the port's, as the search for mistakes takes them.
+//! and answer in the order of the port's, as the search for mistakes takes them, and that the copy
+//! of the untouched Rust that tells kinds lists what it lists. Of the reference build's, every
+//! comparison asks that (`truth::touching`).
 #![cfg(geomcore)]
 use host::compare::bits;
+use host::inputs::lists::{KINDS, handed_in, tolerance};
 use host::inputs::pieces::Pieces;
 use host::inputs::random::Random;
+use host::runs::inquiries::REPLIES;
 use host::runs::trees::REFERENCE;
 use host::truth::reference::patched;
 use host::truth::reference::patched::equation::{QuadraticSolution, solve_quadratic, solve_trig};
+use host::truth::reference::{untouched, untouched_kinds};
 use std::cell::RefCell;
 
 const TOL: f64 = 1.0 / (1u64 << 30) as f64;
@@ -64,6 +69,25 @@ fn cranks() {
     assert_eq!(crank(0.0, 0.0, 1.0, 0.0, 0.0), (4, vec![(minus_one, 1), (ONE, 1)]));
     assert_eq!(crank(0.0, 0.0, 0.0, 0.0, 1.0).0, 7);
     assert_eq!(crank(1.0, 0.0, 0.0, 0.0, 0.0).0, 6);
+}
+
+#[test]
+fn copy_that_tells_kinds() {
+    let (mut r, mut list) = (Random::new(1302), Vec::new());
+    let mut brushes = 0;
+    for n in 0..100_000 {
+        handed_in(&mut r, (n % KINDS.len() as u64) as usize, n, &mut list);
+        let tol = tolerance(&mut r);
+        for touches in &REPLIES {
+            let itself = untouched::poly::real_roots_touching(&list, tol, touches);
+            let copy = untouched_kinds::poly::real_roots_touching(&list, tol, touches);
+            let itself = itself.iter().map(|r| (r.value.to_bits(), r.multiplicity));
+            let roots = copy.iter().map(|r| (r.value.to_bits(), r.multiplicity));
+            assert!(itself.eq(roots), "{list:?} at {tol:e}");
+            brushes += copy.iter().filter(|r| r.yes > 0).count();
+        }
+    }
+    assert!(brushes > 10_000, "{brushes} brushes");
 }
 
 #[test]

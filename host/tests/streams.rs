@@ -15,7 +15,7 @@ use std::process::{Child, Command, Output, Stdio};
 fn long_file(name: &str) -> (PathBuf, usize) {
     let path = scratch(name);
     std::fs::write(&path, made(&"list 2^-30 2 -3 1\n".repeat(1700))).unwrap();
-    let line = " PL ok 2 3FF0000000000000 1 4000000000000000 1\n".len();
+    let line = " PL ok 2 3FF0000000000000 1 c 4000000000000000 1 c\n".len();
     (path, 9 + 2 * 90 + 3 * 900 + 4 * 701 + 1700 * line)
 }
 

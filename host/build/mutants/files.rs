@@ -323,8 +323,8 @@ pub const ALL: &[Variant] = &[
         "the two are exchanged",
         &[(
             N,
-            "            write!(f, \" {:016X}\", bits(x))?;\n            m.map_or(Ok(()), |m| write!(f, \" {m}\"))",
-            "            m.map_or(Ok(()), |m| write!(f, \" {m}\"))?;\n            write!(f, \" {:016X}\", bits(x))",
+            "            write!(f, \" {:016X}\", bits(x))?;\n            listed.map_or(Ok(()), |(m, kind)| write!(f, \" {m} {}\", kind.letter()))",
+            "            listed.map_or(Ok(()), |(m, kind)| write!(f, \" {m} {}\", kind.letter()))?;\n            write!(f, \" {:016X}\", bits(x))",
             1,
         )],
     ),
@@ -333,8 +333,8 @@ pub const ALL: &[Variant] = &[
         "1 is not printed",
         &[(
             N,
-            "m.map_or(Ok(()), |m| write!(f, \" {m}\"))",
-            "m.filter(|m| *m > 1).map_or(Ok(()), |m| write!(f, \" {m}\"))",
+            "|(m, kind)| write!(f, \" {m} {}\", kind.letter())",
+            "|(m, kind)| write!(f, \"{} {}\", if m > 1 { format!(\" {m}\") } else { String::new() }, kind.letter())",
             1,
         )],
     ),
@@ -364,7 +364,7 @@ pub const ALL: &[Variant] = &[
         &[(
             N,
             "write!(f, \"ok {}\", roots.len())",
-            "write!(f, \"ok {}\", roots.iter().map(|r| r.1).sum::<u32>())",
+            "write!(f, \"ok {}\", roots.iter().map(|r| r.multiplicity).sum::<u32>())",
             1,
         )],
     ),

@@ -180,9 +180,9 @@ pub const ALL: &[Variant] = &[
         &[(
             P,
             "        if items[..n]\n            .iter()\n            .all(|it| (it.0 - y).abs() > tol * (poly.unit + y.abs()))\n        {\n            \
-             items[n] = (y, if touches_at(y) { 2 } else { 0 });",
+             items[n] = (y, if touches_at(y) { 2 } else { 0 }, 1);",
             "        let yes = touches_at(y);\n        if items[..n]\n            .iter()\n            \
-             .all(|it| (it.0 - y).abs() > tol * (poly.unit + y.abs()))\n        {\n            items[n] = (y, if yes { 2 } else { 0 });",
+             .all(|it| (it.0 - y).abs() > tol * (poly.unit + y.abs()))\n        {\n            items[n] = (y, if yes { 2 } else { 0 }, 1);",
             1,
         )],
     ),

@@ -285,8 +285,8 @@ pub const ALL: &[Variant] = &[
         "it is dropped",
         &[(
             P,
-            "            items[n] = (y, if touches_at(y) { 2 } else { 0 });\n            n += 1;\n",
-            "            if touches_at(y) {\n                items[n] = (y, 2);\n                n += 1;\n            }\n",
+            "            items[n] = (y, if touches_at(y) { 2 } else { 0 }, 1);\n            n += 1;\n",
+            "            if touches_at(y) {\n                items[n] = (y, 2, 1);\n                n += 1;\n            }\n",
             1,
         )],
     ),

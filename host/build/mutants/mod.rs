@@ -9,6 +9,7 @@ mod evaluation;
 mod factors;
 mod files;
 mod inquiry;
+mod kinds;
 mod listing;
 mod polishing;
 mod quartics;
@@ -40,6 +41,7 @@ pub fn all() -> Vec<Variant> {
         files::ALL,
         contacts::ALL,
         contact_records::ALL,
+        kinds::ALL,
     ]
     .concat()
 }

@@ -1,7 +1,8 @@
 //! What was met in comparing the port with the reference build, and the untouched Rust beside it.
 use crate::compare::answer::Answer;
 use crate::compare::tally::Tally;
-use crate::compare::ways::{Counts, WAYS};
+use crate::compare::ways::{Counts, OF_LISTS, WAYS, named};
+use crate::truth::kind::Kind;
 use std::cell::Cell;
 
 /// Ways in which the untouched Rust departs from the reference build.
@@ -15,6 +16,8 @@ pub struct Outcome {
     /// The first inputs on which port and reference build differ.
     pub shown: Vec<String>,
     pub met: Tally,
+    /// How many roots of each kind were compared.
+    pub kinds: [u64; 3],
     pub ways: Counts,
     departed: Tally,
     /// How many of the untouched Rust's answers were looked at.
@@ -26,7 +29,7 @@ impl Outcome {
         let (met, departed) = (Tally::new(cases), Tally::new(&DEPARTURES));
         let ways = [0; WAYS.len()];
         let (shown, beside) = (Vec::new(), Cell::new(0));
-        Outcome { name, inputs: 0, wrong: 0, shown, met, ways, departed, beside }
+        Outcome { name, inputs: 0, wrong: 0, shown, met, kinds: [0; 3], ways, departed, beside }
     }
 
     pub fn join(&mut self, other: Outcome) {
@@ -37,7 +40,8 @@ impl Outcome {
         self.met.join(&other.met);
         self.departed.join(&other.departed);
         self.beside.set(self.beside.get() + other.beside.get());
-        for (all, more) in self.ways.iter_mut().zip(other.ways) {
+        let counts = self.ways.iter_mut().chain(&mut self.kinds);
+        for (all, more) in counts.zip(other.ways.into_iter().chain(other.kinds)) {
             *all += more;
         }
     }
@@ -50,11 +54,26 @@ impl Outcome {
         }
     }
 
+    /// The roots of an answer that is compared.
+    pub fn add_roots(&mut self, kinds: impl Iterator<Item = Kind>) {
+        kinds.for_each(|kind| self.kinds[kind.number() as usize] += 1);
+    }
+
+    /// Every way of inquiries was gone, and those that join roots without a question; and roots of
+    /// every kind were compared.
+    pub fn ask_kinds(&self) {
+        let joined = named(&self.ways, ["quadratic with a double root", "roots joined"]);
+        let ways = WAYS.into_iter().zip(self.ways).skip(OF_LISTS).chain(joined);
+        let missing: Vec<_> = ways.filter(|way| way.1 == 0).collect();
+        assert!(missing.is_empty(), "{}: never gone: {missing:?}", self.name);
+        assert!(!self.kinds.contains(&0), "{}: of each kind {:?}", self.name, self.kinds);
+    }
+
     /// The untouched Rust's answer beside the reference build's, and whether its questions are the
     /// same.
     pub fn beside(&self, untouched: &Answer, wanted: &Answer, questions: bool) {
         self.beside.set(self.beside.get() + 1);
-        let other = !untouched.same(wanted);
+        let other = !untouched.same_places(wanted);
         let count = other && untouched.len != wanted.len;
         let multiplicity =
             other && !count && untouched.multiplicities().ne(wanted.multiplicities());
@@ -69,12 +88,18 @@ impl Outcome {
     /// The lines that say it all.
     pub fn text(&self) -> String {
         let ways = WAYS.iter().zip(self.ways).map(|(way, n)| format!("{n} {way}"));
+        let kinds = match self.kinds {
+            [0, 0, 0] => String::new(),
+            [crossing, brush, flat] => {
+                format!("\nroots: {crossing} crossing, {brush} brush, {flat} flat")
+            }
+        };
         let departed = match self.beside.get() {
             0 => String::new(),
             _ => format!("\nthe untouched Rust departs: {}", self.departed.text()),
         };
         format!(
-            "{} {}, {} differ\n{}\nthe reference build's ways: {}{departed}",
+            "{} {}, {} differ\n{}{kinds}\nthe reference build's ways: {}{departed}",
             self.inputs,
             self.name,
             self.wrong,

@@ -3,7 +3,7 @@
 use std::cell::Cell;
 
 /// The first `OF_LISTS` are the ways of every list, the others those of inquiries.
-pub const WAYS: [&str; 19] = [
+pub const WAYS: [&str; 25] = [
     "gap at edge 0",
     "gap at edge 1",
     "gap at edge 2",
@@ -23,6 +23,12 @@ pub const WAYS: [&str; 19] = [
     "pair to ask about",
     "link to ask about",
     "link taken in",
+    "root 0 more than once",
+    "pair that does not touch",
+    "lone pair that touches",
+    "pair in a chain",
+    "double roots linked",
+    "simple root beside a no",
 ];
 
 pub const OF_LISTS: usize = 16;
@@ -54,6 +60,34 @@ pub fn polished(y: f64) {
 /// A root that left the finite range; false, as it is not listed.
 pub fn left() -> bool {
     !way(15)
+}
+
+/// The root 0, so many times.
+pub fn zeros(times: usize) {
+    if times > 1 {
+        way(19);
+    }
+}
+
+/// A link that was replied no, behind a chain of this multiplicity; false, as it is not taken.
+pub fn link_refused(multiplicity: u32) -> bool {
+    if multiplicity == 1 {
+        way(24);
+    }
+    false
+}
+
+/// A chain: place, multiplicity and yes replies of each item.
+pub fn chain(items: &[(f64, u32, u32)]) {
+    let double = |item: &(f64, u32, u32)| item.1 >= 2 && item.2 == 0;
+    match items {
+        [(.., 1)] => way(21),
+        [_] => false,
+        _ => items.iter().any(|item| item.2 > 0) && way(22),
+    };
+    if items.windows(2).any(|two| two.iter().all(double)) {
+        way(23);
+    }
 }
 
 /// All counts of this thread.

@@ -1,9 +1,11 @@
 //! Inputs of the band, of quadratic factors and of the finished roots, and the ways that the
 //! reference build goes on them.
 use crate::compare::Shown;
+use crate::compare::answer::LIST;
 use crate::inputs::lists::{List, list};
 use crate::inputs::random::Random;
 use crate::truth::exact::{cbrt, ldexp};
+use crate::truth::kind::Kind;
 use crate::truth::methods;
 use crate::truth::reference::patched::poly::{self, Candidates, Pairs, Scaled};
 
@@ -173,26 +175,36 @@ impl Shown for Handed {
     }
 }
 
-/// The count, and each place with its multiplicity.
-pub fn root_numbers(c: &Candidates) -> [f64; 9] {
-    std::array::from_fn(|i| match i {
-        0 => c.len as f64,
-        _ if i % 2 == 1 => c.value[i / 2],
-        _ => f64::from(c.mult[i / 2 - 1]),
-    })
+/// The count, and each place with its multiplicity and the kind of a root that no yes helped to
+/// form; behind so many the number of the kind is 0.
+pub fn numbers(count: usize, value: [f64; 4], mult: [u32; 4], of_kind: usize) -> [f64; LIST] {
+    let kind = |k| if k < of_kind { Kind::of(mult[k], false).number() } else { 0 };
+    let each = (0..4).flat_map(|k| [value[k], f64::from(mult[k]), f64::from(kind(k))]);
+    let mut all = [count as f64].into_iter().chain(each);
+    std::array::from_fn(|_| all.next().expect("four places"))
 }
 
-/// The same, and of the pairs the count, and each centre and half.
-pub fn found_numbers(c: &Candidates, p: &Pairs) -> [f64; 14] {
+/// Of finished roots.
+pub fn root_numbers(c: &Candidates) -> [f64; LIST] {
+    numbers(c.len, c.value, c.mult, c.len)
+}
+
+/// Of candidates, also of those behind the last, and of the pairs the count, and each centre and
+/// half.
+pub fn found_numbers(c: &Candidates, p: &Pairs) -> [f64; LIST + 5] {
     let pairs = [p.len as f64, p.centre[0], p.half[0], p.centre[1], p.half[1]];
-    [&root_numbers(c)[..], &pairs].concat().try_into().unwrap()
+    [&numbers(c.len, c.value, c.mult, 4)[..], &pairs].concat().try_into().unwrap()
 }
 
 /// Any candidates and pairs.
 pub fn handed(r: &mut Random) -> Handed {
     let mut any = || std::array::from_fn(|_| if r.below(4) == 0 { r.any() } else { r.unit() });
     let (value, [a, b, c, d]) = (any(), any());
-    let mult = std::array::from_fn(|_| 1 + r.below(4) as u8);
+    let mult = std::array::from_fn(|_| match r.below(8) {
+        0 => r.next() as u8,
+        1 => 0,
+        _ => 1 + r.below(4) as u8,
+    });
     Handed { value, mult, n: r.below(5), pair: [(a, b), (c, d)], m: r.below(3) }
 }
 

@@ -161,9 +161,8 @@ macro_rules! pieces {
             let mut found = candidates();
             s.push_quadratic(al, be, p.tol, &mut found, &mut pairs);
             let done = s.finish(candidates(), p.tol);
-            let numbers = |c: &poly::Candidates| -> Vec<f64> {
-                let each = c.value.into_iter().zip(c.mult).flat_map(|(x, m)| [x, f64::from(m)]);
-                [c.len as f64].into_iter().chain(each).collect()
+            let numbers = |c: &poly::Candidates, of_kind| {
+                crate::inputs::clustering::numbers(c.len, c.value, c.mult, of_kind)
             };
             let pair = |(a, b): (f64, f64)| [a, b];
             let (at, n, y) = (p.at.0, p.at.1 as usize, p.at.2);
@@ -191,9 +190,9 @@ macro_rules! pieces {
                 &[s.noise(p.y), s.within_band(p.half, p.y, p.tol) as u8 as f64],
                 &[s.band(p.y, p.tol), s.critical_point(p.y, lo, hi)],
                 &[s.extremum(p.y, lo, hi, p.tol).unwrap_or(f64::NAN), s.polish(p.y, p.gap)],
-                &numbers(&found),
+                &numbers(&found, 4),
                 &[pairs.len as f64, pairs.centre[0], pairs.half[0], pairs.centre[1], pairs.half[1]],
-                &numbers(&done),
+                &numbers(&done, done.len),
                 &pair(poly::two_prod(at[0], y)),
                 &[poly::discriminant(p.quads[0], p.quads[1])],
                 &pair(poly::value_slope(&at, n, y)),

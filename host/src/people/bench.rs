@@ -175,6 +175,7 @@ fn factors(_: &mut Random) -> Vec<Row> {
 /// whole ones from -6 to 6, and with real roots alone, from -2 to 2.
 #[cfg(geomcore)]
 fn lists(r: &mut Random) -> Vec<Row> {
+    use crate::compare::answer::LIST;
     use crate::inputs::polynomials::polynomial;
     use reference::untouched::poly::real_roots;
     const NAMES: [[&str; 3]; 3] = [
@@ -199,7 +200,7 @@ fn lists(r: &mut Random) -> Vec<Row> {
             let inputs: Vec<_> = (0..FACTORED).map(|_| make(r, mix, d)).collect();
             let inputs: Vec<_> = inputs.into_iter().map(|p| (p, port::forty(p))).collect();
             let port = |(_, bytes): ([f64; 5], [u8; 40])| {
-                let mut out = [0; 72];
+                let mut out = [0; 8 * LIST];
                 port::real_roots_bytes(&bytes[..8 * d + 8], tol, &mut out);
                 port::double(&out, 1)
             };
@@ -232,7 +233,7 @@ fn wanted(show: impl Fn(&[u8]) -> Result<port::inquiries::Shown, u64>) -> usize 
 /// replied no. The port begins anew for each reply, and gets all of them at once here.
 #[cfg(geomcore)]
 fn inquiries(r: &mut Random) -> Vec<Row> {
-    use crate::port::inquiries::{inquire, inquire_bytes};
+    use crate::port::inquiries::{SHOWN, inquire, inquire_bytes};
     use reference::untouched::poly::real_roots_touching;
     const NAMES: [&str; 3] = ["inquiry 2, uniform", "inquiry 3, uniform", "inquiry 4, uniform"];
     let tol = 1.0 / (1u64 << 30) as f64;
@@ -242,7 +243,7 @@ fn inquiries(r: &mut Random) -> Vec<Row> {
         let inputs = lists.map(|p| (p, port::forty(p), wanted(|no| inquire(&p[..=d], tol, no))));
         let inputs: Vec<_> = inputs.collect();
         let port = |(_, bytes, n): ([f64; 5], [u8; 40], usize)| {
-            let mut out = [0; 96];
+            let mut out = [0; 8 * SHOWN];
             inquire_bytes(&bytes[..8 * d + 8], tol, &NO[..n], &mut out);
             port::double(&out, 4)
         };
@@ -259,13 +260,13 @@ fn inquiries(r: &mut Random) -> Vec<Row> {
 #[cfg(geomcore)]
 fn cranks(r: &mut Random) -> Vec<Row> {
     use crate::inputs::quadratics::TOL;
-    use crate::port::inquiries::{crank_inquire, crank_inquire_bytes};
+    use crate::port::inquiries::{CRANK_SHOWN, crank_inquire, crank_inquire_bytes};
     use reference::untouched::{Tolerance, equation};
     let tol = Tolerance { confusion: TOL, angular: TOL, parametric: TOL };
     let terms = (0..FACTORED).map(|_| -> [f64; 5] { [0; 5].map(|_| 2.0 * r.unit() - 1.0) });
     let inputs: Vec<_> = terms.map(|t| (t, wanted(|no| crank_inquire(TOL, t, no)))).collect();
     let port = |(terms, n): ([f64; 5], usize)| {
-        let mut out = [0; 104];
+        let mut out = [0; 8 * CRANK_SHOWN];
         crank_inquire_bytes(TOL, terms, &NO[..n], &mut out);
         port::double(&out, 5)
     };
@@ -279,6 +280,7 @@ fn cranks(r: &mut Random) -> Vec<Row> {
 /// Balls on a lane, at the confusion 2^-30: the Rust with the same equation and closure.
 #[cfg(geomcore)]
 fn contacts(r: &mut Random) -> Vec<Row> {
+    use crate::compare::answer::LIST;
     use crate::inputs::contacts::on_a_lane;
     use crate::inputs::quadratics::TOL;
     use crate::port::contacts::pin_contact_bytes;
@@ -287,7 +289,7 @@ fn contacts(r: &mut Random) -> Vec<Row> {
     let inputs: Vec<_> =
         (0..FACTORED).map(|_| Contact { confusion: TOL, ..on_a_lane(r) }).collect();
     let port = |contact: Contact| {
-        let mut out = [0; 72];
+        let mut out = [0; 8 * LIST];
         pin_contact_bytes(contact.numbers(), &mut out);
         port::double(&out, 1)
     };

@@ -6,7 +6,7 @@ use crate::people::show::{ListFile, answered};
 use crate::people::table::{quoted, wrapped};
 use crate::people::{As, question, text};
 use crate::truth::hall_file::Item;
-use crate::truth::lister::{Answer, Reference, Untouched, line};
+use crate::truth::lister::{Answer, Listed, Reference, Untouched, line};
 
 /// A record and its three answers.
 pub struct Compared {
@@ -48,10 +48,10 @@ fn front(answer: &Answer) -> String {
     }
 }
 
-/// The places of an answer, a line for each: decimals, bits, and how often it counts.
+/// The places of an answer, a line for each: decimals, bits, how often it counts, and its kind.
 fn places(answer: &Answer) -> String {
-    let place = |(x, times): (f64, Option<u32>)| {
-        let times = times.map(|n| format!("  {n}")).unwrap_or_default();
+    let place = |(x, listed): Listed| {
+        let times = listed.map(|(n, kind)| format!("  {n} {}", kind.letter())).unwrap_or_default();
         format!("    {:24}  {:016X}{times}\n", shortest(x), bits(x))
     };
     answer.roots().into_iter().map(place).collect()
@@ -64,10 +64,12 @@ pub fn departure(from: &Answer, other: &Answer) -> Option<String> {
     }
     let (here, there) = (from.roots(), other.roots());
     let (was, is) = (front(from), front(other));
+    let other_multiplicity = |(a, b): (&Listed, &Listed)| a.1.unzip().0 != b.1.unzip().0;
     Some(match () {
         _ if was != is => format!("answer: {is} for {was}"),
         _ if here.len() != there.len() => format!("count: {} for {}", there.len(), here.len()),
-        _ if here.iter().zip(&there).any(|(a, b)| a.1 != b.1) => "multiplicity".to_string(),
+        _ if here.iter().zip(&there).any(other_multiplicity) => "multiplicity".to_string(),
+        _ if here.iter().zip(&there).any(|(a, b)| a.1 != b.1) => "kind".to_string(),
         _ => {
             let apart = here.iter().zip(&there).map(|(a, b)| steps(a.0, b.0).to_string());
             format!("bits, steps {}", apart.collect::<Vec<_>>().join(" "))
@@ -179,6 +181,7 @@ mod tests {
     use super::*;
     use crate::inputs::leaves::step;
     use crate::people::text::read;
+    use crate::truth::kind::Root;
     use crate::truth::lister::listing;
 
     #[test]
@@ -202,7 +205,7 @@ mod tests {
     fn lying(bytes: &[u8], out: &mut [u8]) -> u64 {
         let len = honest(bytes, out) as usize;
         let text = String::from_utf8_lossy(&out[..len]);
-        let text = text.replace("4000000000000000 1\n", "4000000000000003 1\n");
+        let text = text.replace("4000000000000000 1 c\n", "4000000000000003 1 c\n");
         out[..len].copy_from_slice(text.as_bytes());
         len as u64
     }
@@ -221,12 +224,12 @@ mod tests {
 record 2 at byte 35: list 2^-30 -18 21 -8 1
   x^3 - 8 x^2 + 21 x - 18 = 0
   reference  ok
-    2                         4000000000000000  1
-    3.000000000000001         4008000000000002  2
+    2                         4000000000000000  1 c
+    3.000000000000001         4008000000000002  2 f
   port       the same
   untouched  ok  [bits, steps 0 4]
-    2                         4000000000000000  1
-    2.999999999999999         4007FFFFFFFFFFFE  2
+    2                         4000000000000000  1 c
+    2.999999999999999         4007FFFFFFFFFFFE  2 f
 ";
         assert_eq!(found.text, text);
         let summary = "3 records: 3 answered, 0 refused\n\
@@ -234,9 +237,9 @@ record 2 at byte 35: list 2^-30 -18 21 -8 1
                        untouched Rust: 2 equal to the reference build, 1 not";
         assert_eq!(found.summary, summary);
         let rows = report(&sample(), honest, As::Rows).unwrap().text;
-        let (untouched, reference) = ("4007FFFFFFFFFFFE 2", "4008000000000002 2");
+        let (untouched, reference) = ("4007FFFFFFFFFFFE 2 f", "4008000000000002 2 f");
         let cells =
-            [untouched, reference].map(|x| format!("ok 2 4000000000000000 1 {x} |")).join(" ");
+            [untouched, reference].map(|x| format!("ok 2 4000000000000000 1 c {x} |")).join(" ");
         let row = format!("| bits, steps 0 4 | list 2^-30 -18 21 -8 1 | {cells}\n");
         assert_eq!(rows, format!("{HEAD}{row}"));
     }
@@ -262,13 +265,17 @@ record 2 at byte 35: list 2^-30 -18 21 -8 1
 
     #[test]
     fn ways_to_depart() {
-        let list = |roots: &[(f64, u32)]| Answer::List(roots.to_vec());
+        let list = |roots: &[(f64, u32)]| {
+            Answer::List(roots.iter().map(|&(x, m)| Root::new(x, m)).collect())
+        };
         let from = list(&[(1.0, 1), (2.0, 1)]);
         assert_eq!(departure(&from, &from), None);
         assert_eq!(departure(&from, &list(&[(1.0, 2)])).unwrap(), "count: 1 for 2");
         assert_eq!(departure(&from, &list(&[(1.0, 2), (2.0, 1)])).unwrap(), "multiplicity");
+        let brush = Answer::List(vec![Root::by((true, 1.0, 2))]);
+        assert_eq!(departure(&list(&[(1.0, 2)]), &brush).unwrap(), "kind");
         assert_eq!(departure(&from, &Answer::Refused(1)).unwrap(), "answer: refused 1 for ok");
-        let crank = |k| Answer::Crank(k, vec![(1.0, 1)]);
+        let crank = |k| Answer::Crank(k, vec![Root::new(1.0, 1)]);
         assert_eq!(departure(&crank(1), &crank(2)).unwrap(), "answer: k 2 for k 1");
     }
 }

@@ -127,9 +127,11 @@ fn meant(shown: &Shown) -> String {
 
 fn root(shown: &Shown, root: &Place) -> String {
     let look = Look::at(&shown.coeffs, root.place, root.multiplicity);
-    let times = match root.multiplicity {
-        1 => "once".to_string(),
-        n => format!("{n} times"),
+    // what counts once is a crossing
+    let times = match (root.multiplicity, root.listed) {
+        (1, _) => "once".to_string(),
+        (n, false) => format!("{n} times"),
+        (n, true) => format!("{n} times, {}", root.kind.word()),
     };
     let (place, bits) = (shortest(root.place), bits(root.place));
     let front = format!("  {place} ({bits:016X}), {times}: ");

@@ -8,19 +8,19 @@ hall list [FILE]          the listing of a hall file, or of standard input, by t
                           the program hallroots prints it. Status 1 where the file is not read to
                           its end, which is a refusal under 6, 7, 8 or 9
 hall show [FILE] [--csv]  the same for people: each record's equation, places as decimals and bits,
-                          a crank's roots by their angle t from 0 to 360 degrees, and in radians (t
-                          is k * 45 degrees + 2 atan u), at a contact the ball's place and its
-                          distance from the circle, refusals in words with the byte of their
-                          record, and places at which exact arithmetic finds no root marked
-                          `doubtful`; with --csv as comma-separated values
+                          how often each counts and its kind, a crank's roots by their angle t from
+                          0 to 360 degrees, and in radians (t is k * 45 degrees + 2 atan u), at a
+                          contact the ball's place and its distance from the circle, refusals in
+                          words with the byte of their record, and places at which exact arithmetic
+                          finds no root marked `doubtful`; with --csv as comma-separated values
 hall explain FILE         why roots are doubtful, with the numbers, and what to do about it: the
                           records that have such, or that there are none. FILE may be `-`
 hall explain FILE RECORD  the same of one record, whatever it is
 hall draw FILE RECORD     a picture of one record and its answer, in SVG, on standard output: the
                           curve of a list or a quad with its roots, the circle of a crank with its
-                          positions, the circle and the path of a contact with its times. FILE may
-                          be `-`. Status 1 where the record is refused or is beyond what a picture
-                          can show, 2 where there is no such record
+                          positions, the circle and the path of a contact with its times, each
+                          marked by its kind. FILE may be `-`. Status 1 where the record is refused
+                          or is beyond what a picture can show, 2 where there is no such record
 hall text [FILE]          write a hall file back as lines of text, of which `hall make` makes the
                           same file. Status 1 where the file is not read to its end
 hall compare FILE [--csv] each record by port, reference build and untouched Rust; prints those that
@@ -81,9 +81,16 @@ Tolerances
   confusion  of a quad: the same; where it is linear, |b| up to this is no equation
              of a crank: the same for u = tan((t - k * 45 degrees) / 2), the root that is listed
              of a contact: the same for t; and where the ball comes within confusion of the circle
-             without crossing it, or crosses it by no more, it touches it there, twice
+             without crossing it, or crosses it by no more, it brushes it there, twice
   angular    of a quad: |a| up to this counts as 0, and the equation as linear
   2^-30, about 1e-9, is usual for all; geomcore itself has 1e-7 for confusion, 1e-12 for angular.
+";
+
+const KINDS: &str = "
+Kinds of roots, as words and as letters of the listing
+  crossing  c  counts once
+  brush     b  counts more often, and at least one yes reply helped to form it: of contacts alone
+  flat      f  counts more often without one: roots that the tolerance joins, or the root 0
 ";
 
 const NUMBERS: &str = "
@@ -103,7 +110,7 @@ Statuses
 
 /// All of it.
 pub fn all() -> String {
-    [HELP, RECORDS, NUMBERS, STATUSES].concat()
+    [HELP, RECORDS, KINDS, NUMBERS, STATUSES].concat()
 }
 
 /// The help on one command; nothing where there is no such command.
@@ -124,7 +131,8 @@ pub fn of_command(name: &str) -> String {
 pub fn with_topics(name: &str) -> String {
     let topics: &[&str] = match name {
         "make" => &[RECORDS, NUMBERS],
-        "list" | "show" | "explain" | "draw" | "text" | "compare" => &[RECORDS],
+        "list" | "show" | "explain" | "draw" | "compare" => &[RECORDS, KINDS],
+        "text" => &[RECORDS],
         _ => &[],
     };
     of_command(name) + &topics.concat()

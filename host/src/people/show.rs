@@ -2,7 +2,8 @@
 use crate::people::doubt::Look;
 use crate::people::question;
 use crate::truth::hall_file::{Item, Kind, Record, items};
-use crate::truth::lister::{Answer, Line, Solution, lines};
+use crate::truth::kind;
+use crate::truth::lister::{Answer, Line, Listed, Solution, lines};
 use crate::truth::refusals::in_words;
 use std::cmp::Ordering;
 
@@ -60,10 +61,11 @@ impl Shown {
 /// A place of an answer.
 pub struct Place {
     pub place: f64,
-    /// As it is listed: not for a quadratic.
-    pub times: Option<u32>,
-    /// How often it counts, for a quadratic too.
+    /// How often it counts.
     pub multiplicity: u32,
+    pub kind: kind::Kind,
+    /// Whether the listing says both: not of a quadratic.
+    pub listed: bool,
     /// t of a crank's root, in degrees.
     pub angle: Option<f64>,
     /// Of a contact.
@@ -109,24 +111,27 @@ fn places(item: &Item, coeffs: &[f64], answer: &Answer) -> Vec<Place> {
         Ok(Record::Contact(contact)) => Some(contact),
         _ => None,
     };
-    let place = |(place, times): (f64, Option<u32>)| {
+    let place = |(place, listed): Listed| {
         let angle = match answer {
             Answer::Crank(k, _) => Some(degrees(*k, place)),
             _ => None,
         };
-        let multiplicity = match answer {
-            Answer::Quadratic(Solution::One(_)) => 2,
-            _ => times.unwrap_or(1),
-        };
+        let (multiplicity, kind) = listed.unwrap_or_else(|| unlisted(answer));
         let ball = contact.map(|c| Ball { at: c.ball(place), beyond: c.beyond(place) });
         // a ball within confusion of the circle is a contact by the customer's word
         let touches = contact.is_some_and(|c| c.touches(place));
         let doubtful = !touches && Look::at(coeffs, place, multiplicity).doubtful();
-        Place { place, times, multiplicity, angle, ball, doubtful }
+        Place { place, multiplicity, kind, listed: listed.is_some(), angle, ball, doubtful }
     };
     let mut all: Vec<Place> = answer.roots().into_iter().map(place).collect();
     all.sort_by(|a, b| a.angle.partial_cmp(&b.angle).unwrap_or(Ordering::Equal));
     all
+}
+
+/// How often a place of a quadratic counts, and the kind that this makes it.
+fn unlisted(answer: &Answer) -> (u32, kind::Kind) {
+    let multiplicity = if let Answer::Quadratic(Solution::One(_)) = answer { 2 } else { 1 };
+    (multiplicity, kind::Kind::of(multiplicity, false))
 }
 
 /// What an answer is, without its places; nothing for a refusal.

@@ -6,7 +6,7 @@ use crate::people::show::{Ball, Place, Shown, nine_decimals};
 /// No line is longer, but for a word that is.
 pub const COLUMNS: usize = 100;
 
-const HEAD: [&str; 6] = ["answer", "place", "bits", "times", "t in degrees", "t in radians"];
+const HEAD: [&str; 6] = ["answer", "place", "bits", "times, kind", "t in degrees", "t in radians"];
 
 /// What stands beside a root that exact arithmetic does not confirm.
 pub const DOUBTFUL: &str = "doubtful";
@@ -83,16 +83,20 @@ pub fn refused(shown: &Shown) -> Option<String> {
 }
 
 fn cells(answer: String, root: &Place) -> Cells {
-    let [place, bits, times, degrees, radians] = columns(root);
-    [answer, place, bits, times, degrees, radians]
+    let [place, bits, times, kind, degrees, radians] = columns(root);
+    let counts = format!("{times} {kind}").trim().to_string();
+    [answer, place, bits, counts, degrees, radians]
 }
 
-/// Place, bits, times, degrees and radians of a root.
-fn columns(root: &Place) -> [String; 5] {
+/// Place, bits, times, kind, degrees and radians of a root.
+fn columns(root: &Place) -> [String; 6] {
     let angle = |of: fn(f64) -> f64| root.angle.map(|t| nine_decimals(of(t))).unwrap_or_default();
-    let times = root.times.map(|n| n.to_string()).unwrap_or_default();
+    let [times, kind] = match root.listed {
+        true => [root.multiplicity.to_string(), root.kind.word().to_string()],
+        false => Default::default(),
+    };
     let bits = format!("{:016X}", bits(root.place));
-    [shortest(root.place), bits, times, angle(|t| t), angle(f64::to_radians)]
+    [shortest(root.place), bits, times, kind, angle(|t| t), angle(f64::to_radians)]
 }
 
 /// The rows under a head; a column with nothing in it is left out.
@@ -141,7 +145,7 @@ pub fn in_columns(text: &str) -> String {
 }
 
 const NAMES: &str = "record,byte,kind,tolerances,question,answer,refused,why,place,bits,times,\
-                     degrees,radians,x,y,distance,doubt\n";
+                     root kind,degrees,radians,x,y,distance,doubt\n";
 
 /// The same as comma-separated values: a line for each root, or one for a record without any.
 pub fn csv(all: &[Shown]) -> String {
@@ -154,7 +158,7 @@ fn csv_record(shown: &Shown) -> String {
     let place = [item.number, item.at].map(|n| n.to_string());
     let rest = [kind, &tolerances[..], question, answer, &number, &why].map(str::to_string);
     let front = [&place[..], &rest].concat();
-    let line = |root: [String; 9]| {
+    let line = |root: [String; 10]| {
         let fields = [&front[..], &root].concat();
         fields.iter().map(|field| quoted(field)).collect::<Vec<_>>().join(",") + "\n"
     };
@@ -165,11 +169,11 @@ fn csv_record(shown: &Shown) -> String {
 }
 
 /// What of a line belongs to one root.
-fn csv_root(root: &Place) -> [String; 9] {
-    let [place, bits, times, degrees, radians] = columns(root);
+fn csv_root(root: &Place) -> [String; 10] {
+    let [place, bits, times, kind, degrees, radians] = columns(root);
     let mark = if root.doubtful { DOUBTFUL } else { "" }.to_string();
     let [x, y, beyond] = root.ball.as_ref().map(numbers).unwrap_or_default();
-    [place, bits, times, degrees, radians, x, y, beyond, mark]
+    [place, bits, times, kind, degrees, radians, x, y, beyond, mark]
 }
 
 /// A field; in quotes where it has to be.

@@ -122,30 +122,30 @@ exported! {
     fn extremum(a: &[u8], d: u64, y: f64, lo: f64, hi: f64, tol: f64) -> f64;
     fn polish(a: &[u8], d: u64, y: f64, gap: f64) -> f64;
     /// On n candidates and m pairs, in 68 bytes as `Handed::bytes` has them: the count, four places
-    /// with their multiplicities, the count of pairs, and each centre and half, 14 doubles. Nothing
-    /// is written where n is above 4 or m above 2.
+    /// with their multiplicities and kinds, the count of pairs, and each centre and half, 18
+    /// doubles. Nothing is written where n is above 4 or m above 2.
     fn push_quadratic(a: &[u8], d: u64, al: f64, be: f64, tol: f64, c: &[u8], n: u64, m: u64,
         out: &mut [u8]) -> u64;
     /// Of n candidates, in the first 36 bytes of c: the count, and four places with their
-    /// multiplicities, 9 doubles. Nothing is written where n is above 4.
+    /// multiplicities and kinds, 13 doubles. Nothing is written where n is above 4.
     fn finish(a: &[u8], d: u64, c: &[u8], n: u64, tol: f64, out: &mut [u8]) -> u64;
 }
 
 // ---- crates/pongewaru
 exported! {
-    /// k of the crank equation, and then what its inquiry shows, as for a list, thirteen doubles.
+    /// k of the crank equation, and then what its inquiry shows, as for a list, 17 doubles.
     fn crank_inquire(confusion: f64, a2: f64, b2: f64, c1: f64, d1: f64, e: f64, replies: &[u8],
         out: &mut [u8]) -> u64;
-    /// The list of a path's contacts with a circle, every question replied as its numbers say; nine
+    /// The list of a path's contacts with a circle, every question replied as its numbers say; 13
     /// doubles as for `real_roots`.
     fn pin_contact(confusion: f64, x0: f64, x1: f64, x2: f64, y0: f64, y1: f64, y2: f64, cx: f64,
         cy: f64, r: f64, out: &mut [u8]) -> u64;
     /// What the inquiry about the doubles in `coeffs` shows after these replies, one byte each and 0
     /// for no: 0, or 4 where a reply was refused; 1 and the place where it asks, 0 and 0 where not;
-    /// and the list as for `real_roots`; twelve doubles.
+    /// and the list as for `real_roots`; 16 doubles.
     fn inquire(coeffs: &[u8], tol: f64, replies: &[u8], out: &mut [u8]) -> u64;
     /// How many roots the list of the doubles in `coeffs` has, and four places with their
-    /// multiplicities, nine doubles; 20 where the bytes are no whole doubles.
+    /// multiplicities and kinds, 13 doubles; 20 where the bytes are no whole doubles.
     fn real_roots(coeffs: &[u8], tol: f64, out: &mut [u8]) -> u64;
 
     /// A number, 0 to 4 for two, one, linear, degenerate and empty, and two places, NaN where there

@@ -1,6 +1,6 @@
 //! The proved functions, called through plain C calls: on bytes, as `exported` declares them, and
 //! on numbers.
-use crate::compare::answer::Answer;
+use crate::compare::answer::{Answer, LIST};
 
 pub mod clustering;
 pub mod contacts;
@@ -175,9 +175,9 @@ pub fn factorize(a: [f64; 5], d: u64, depth: u32) -> [f64; 10] {
     numbers(|out| exported::factorize(&forty(a), d, depth, out))
 }
 
-/// The list in nine doubles, or its refusal.
+/// The list, or its refusal.
 fn list(fill: impl FnOnce(&mut [u8]) -> u64) -> Answer {
-    match answered::<9>(fill) {
+    match answered::<LIST>(fill) {
         Ok(list) => Answer::read(&list),
         Err(refusal) => Answer::new(refusal, &[]),
     }

@@ -1,6 +1,6 @@
 //! Why the untouched Rust departs from the reference build: one leaf at a time put back
 //! (build/causes.rs), over made lists.
-use crate::compare::answer::{Answer, Root};
+use crate::compare::answer::Answer;
 use crate::compare::say;
 use crate::compare::ways;
 use crate::inputs::lists::{KINDS, handed_in, tolerance};
@@ -53,20 +53,19 @@ impl Made {
         *[&mut self.bits, &mut self.count, &mut self.multiplicity][sort] += 1;
         let alike = answer.same(untouched);
         self.alike += alike as u64;
+        let pairs = || answer.roots().iter().zip(wanted.roots()).map(|(a, b)| (a.value, b.value));
         if sort == 0 {
-            let pairs = || answer.roots().iter().zip(wanted.roots());
-            let apart = |(a, b): (&Root, &Root)| {
-                let size = a.0.abs().max(b.0.abs());
-                if a.0 == b.0 { 0.0 } else { (a.0 - b.0).abs() / size }
+            let apart = |(a, b): (f64, f64)| {
+                let size = a.abs().max(b.abs());
+                if a == b { 0.0 } else { (a - b).abs() / size }
             };
             let relative = pairs().map(apart).fold(0.0, f64::max);
             self.far += (relative > 2f64.powi(-40)) as u64;
             self.relative = self.relative.max(relative);
-            self.steps = pairs().map(|(a, b)| steps(a.0, b.0)).max().unwrap_or(0).max(self.steps);
+            self.steps = pairs().map(|(a, b)| steps(a, b)).max().unwrap_or(0).max(self.steps);
         }
         if input.1 == TOL {
-            let beyond = |(a, b): (&Root, &Root)| (a.0 - b.0).abs() > TOL * (1.0 + b.0.abs());
-            let moved = || answer.roots().iter().zip(wanted.roots()).any(beyond);
+            let moved = || pairs().any(|(a, b)| (a - b).abs() > TOL * (1.0 + b.abs()));
             self.usual += 1;
             self.noticed += (sort > 0 || moved()) as u64;
         }

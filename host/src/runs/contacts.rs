@@ -7,24 +7,33 @@ use crate::inputs::leaves::step;
 use crate::inputs::random::Random;
 use crate::people::text;
 use crate::port::contacts::pin_contact;
-use crate::runs::inquiries::{Ran, Touches, recorded, same_places};
+use crate::runs::inquiries::{Ran, recorded, same_places};
 use crate::runs::parts;
 use crate::truth::contact::Contact;
 use crate::truth::hall_file::Record;
-use crate::truth::lister::{Reference, Solver, Untouched};
+use crate::truth::kind::Root;
+use crate::truth::lister::{Reference, Solver, Touches};
+use crate::truth::reference::untouched;
 
-/// The Rust's run of a record with a closure; what is refused is not run.
-fn run_by(contact: &Contact, solver: &impl Solver, touches: Touches) -> Ran {
+/// The Rust's run of a record, by its `real_roots_touching`; what is refused is not run.
+fn run_by(contact: &Contact, touching: fn(&[f64], f64, Touches) -> Vec<Root>) -> Ran {
     let list = |touches: Touches| match contact.refusal() {
-        0 => Answer::new(0, &solver.touching(&contact.coefficients(), contact.confusion, touches)),
+        0 => Answer::new(0, &touching(&contact.coefficients(), contact.confusion, touches)),
         number => Answer::new(number.into(), &[]),
     };
-    recorded(|touches| (0, list(touches)), touches)
+    recorded(|touches| (0, list(touches)), &|t| contact.touches(t))
 }
 
 /// The reference build's.
 pub fn reference(contact: &Contact) -> Ran {
-    run_by(contact, &Reference, &|t| contact.touches(t))
+    run_by(contact, |a, tol, touches| Reference.touching(a, tol, touches))
+}
+
+fn by_untouched(contact: &Contact) -> Ran {
+    run_by(contact, |a, tol, touches| {
+        let list = untouched::poly::real_roots_touching(a, tol, touches);
+        list.iter().map(|r| Root::new(r.value, r.multiplicity)).collect()
+    })
 }
 
 pub const CASES: [&str; 21] = [
@@ -91,11 +100,12 @@ fn cases(contact: &Contact, ran: &Ran) -> [bool; CASES.len()] {
 /// One record, and what the others answer to it.
 pub fn add(outcome: &mut Outcome, contact: &Contact) {
     let ran = reference(contact);
-    let other = run_by(contact, &Untouched, &|t| contact.touches(t));
+    let other = by_untouched(contact);
     outcome.beside(&other.list, &ran.list, same_places(&other.places, &ran.places));
     let given = pin_contact(contact.numbers());
     outcome.inputs += 1;
     outcome.met.add(&cases(contact, &ran));
+    outcome.add_roots(ran.list.kinds());
     if !given.same(&ran.list) {
         outcome.differs(|| {
             let (given, wanted) = (given.text(), ran.list.text());

@@ -1,5 +1,5 @@
 //! Crank equations: the port's inquiries beside `solve_trig` up to its list of r.
-use crate::compare::answer::{Answer, Root};
+use crate::compare::answer::Answer;
 use crate::compare::outcome::Outcome;
 use crate::compare::ways;
 use crate::inputs::lists::tolerance;
@@ -7,11 +7,13 @@ use crate::inputs::polynomials;
 use crate::inputs::quadratics::crank;
 use crate::inputs::random::Random;
 use crate::port::inquiries::{Shown, crank_inquire};
-use crate::runs::inquiries::{Inquiry, MORE, Touches, add, cases};
+use crate::runs::inquiries::{Inquiry, MORE, add, cases};
 use crate::runs::parts;
-use crate::truth::lister::{finite, trimmed};
-use crate::truth::reference::{patched, untouched};
+use crate::truth::kind::Root;
+use crate::truth::lister::{Touches, finite, trimmed};
+use crate::truth::reference::untouched;
 use crate::truth::refusals;
+use crate::truth::touching;
 
 const OF_POLYNOMIALS: usize = polynomials::KINDS.len();
 
@@ -50,26 +52,21 @@ impl Crank {
     }
 }
 
-macro_rules! solve {
-    ($self:ident, $tree:ident, $touches:ident) => {{
-        let Crank([a2, b2, c1, d1, e], confusion) = *$self;
-        let tol = $tree::Tolerance { confusion, angular: 0.0, parametric: 0.0 };
-        let (k, quartic, list) = $tree::equation::solve_trig(a2, b2, c1, d1, e, tol, $touches);
-        $self.answer(k, &quartic, list.iter().map(|r| (r.value, r.multiplicity)))
-    }};
-}
-
 impl Inquiry for Crank {
     fn port(&self, replies: &[u8]) -> Result<Shown, u64> {
         crank_inquire(self.1, self.0, replies)
     }
 
     fn reference(&self, touches: Touches) -> (u64, Answer) {
-        solve!(self, patched, touches)
+        let (k, quartic, list) = touching::crank(self.0, self.1, touches);
+        self.answer(k, &quartic, list.into_iter().map(Root::by))
     }
 
     fn untouched(&self, touches: Touches) -> (u64, Answer) {
-        solve!(self, untouched, touches)
+        let Crank([a2, b2, c1, d1, e], confusion) = *self;
+        let tol = untouched::Tolerance { confusion, angular: 0.0, parametric: 0.0 };
+        let (k, quartic, list) = untouched::equation::solve_trig(a2, b2, c1, d1, e, tol, touches);
+        self.answer(k, &quartic, list.iter().map(|r| Root::new(r.value, r.multiplicity)))
     }
 
     fn text(&self) -> String {

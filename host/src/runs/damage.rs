@@ -9,6 +9,7 @@ use crate::people::table::in_columns;
 use crate::port;
 use crate::stored;
 use crate::truth::hall_file::{Item, Record, items};
+use crate::truth::kind::Root;
 use crate::truth::lister::{Answer, Line};
 use std::collections::HashSet;
 use std::hash::{DefaultHasher, Hash, Hasher};
@@ -29,7 +30,9 @@ pub struct Hunt {
 /// What a record met: its kind, the answer without its places, and how often each way was gone, up
 /// to three times.
 fn met(line: &Line, ways: &Counts) -> u64 {
-    let times = |roots: &[(f64, u32)]| roots.iter().map(|root| root.1).collect::<Vec<_>>();
+    let times = |roots: &[Root]| {
+        roots.iter().map(|r| (r.multiplicity, r.kind.number())).collect::<Vec<_>>()
+    };
     let shape = match &line.answer {
         Answer::Refused(n) => (*n as usize, "refused", vec![]),
         Answer::List(roots) => (0, "list", times(roots)),

@@ -7,7 +7,8 @@ use crate::people::doubt::Look;
 use crate::runs::{cranks, lists};
 use crate::truth::exact::{exponent, ldexp, scale_exponent};
 use crate::truth::hall_file::Record;
-use crate::truth::lister::{Answer, Reference, Root, Solver, Turned, answer, trimmed};
+use crate::truth::kind::Root;
+use crate::truth::lister::{Answer, Reference, Solver, Turned, answer, trimmed};
 use crate::truth::sturm::{distance_log, real_root_near};
 
 /// What the exact roots say of a listed one, by where they are and not by p(x).
@@ -30,7 +31,7 @@ pub enum Class {
 }
 
 /// The class of a listed root.
-pub fn class(coeffs: &[f64], (x, times): Root) -> Class {
+pub fn class(coeffs: &[f64], x: f64, times: u32) -> Class {
     let coeffs = &coeffs[..trimmed(coeffs)];
     if times == 1 {
         return match () {
@@ -102,8 +103,8 @@ impl Counts {
 type Faults = [Vec<String>; 2];
 
 fn add(counts: &mut Counts, faults: &mut Faults, record: &str, coeffs: &[f64], roots: &[Root]) {
-    for &(x, times) in roots {
-        let (class, marked) = (class(coeffs, (x, times)), Look::at(coeffs, x, times).doubtful());
+    for &Root { value: x, multiplicity: times, .. } in roots {
+        let (class, marked) = (class(coeffs, x, times), Look::at(coeffs, x, times).doubtful());
         let column = COLUMNS.iter().position(|c| (c.1, c.2) == (class, times > 1));
         let [of_these, all] = &mut counts.columns[column.unwrap_or_default()];
         *of_these += u64::from(marked);
@@ -174,7 +175,7 @@ mod tests {
     #[test]
     fn classes() {
         let pair = [1e-20 + ldexp(1.0, -80), -2e-10, 1.0];
-        for (coeffs, root, wanted) in [
+        for (coeffs, (x, times), wanted) in [
             (&[2.0, -3.0, 1.0, 0.0][..], (1.0, 1), Class::Good),
             (&[2.0, -3.0, 1.0, ldexp(1.0, -538)], (-ldexp(1.0, 538), 1), Class::Tiny),
             (&[2.0, -3.0, 1.0, ldexp(1.0, -500)], (-ldexp(1.0, 500), 1), Class::Good),
@@ -190,7 +191,7 @@ mod tests {
             (&[1.0, 0.0, 1.0], (0.0, 2), Class::False),
             (&[0.0, 6.0, 1.0, -6.0, f64::from_bits(1)], (0.0, 3), Class::Fewer),
         ] {
-            assert_eq!(class(coeffs, root), wanted, "{coeffs:?} {root:?}");
+            assert_eq!(class(coeffs, x, times), wanted, "{coeffs:?} {x:e} {times}");
         }
     }
     /// Every false place is marked, and no good one.

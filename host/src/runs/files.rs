@@ -73,6 +73,8 @@ impl Files {
             let line = line(item, &Reference);
             writeln!(wanted, "{line}").expect("a line");
             self.outcome.met.add(&cases(&line));
+            let listed = line.answer.roots().into_iter().filter_map(|(_, listed)| listed);
+            self.outcome.add_roots(listed.map(|(_, kind)| kind));
             each(item, &line, &ways::since(&before));
         }
         let len = wanted.len();
@@ -193,11 +195,19 @@ mod tests {
         assert_eq!(said(port::list_file), [""; 0]);
         let another_digit: ListFile = |bytes, out| {
             let len = port::list_file(bytes, out);
-            out[61] += 1;
+            out[65] += 1;
             len
         };
         let wanted = "138 bytes, line 2: list 2^-30: port 2 PL refused 3, reference 2 PL refused 2";
         assert_eq!(said(another_digit), [wanted]);
+        let another_kind: ListFile = |bytes, out| {
+            let len = port::list_file(bytes, out);
+            out[29] = b'f';
+            len
+        };
+        assert!(
+            said(another_kind)[0].starts_with("138 bytes, line 1: list 2^-30 2 -3 1: port 1 PL")
+        );
         let shorter: ListFile = |bytes, out| port::list_file(bytes, out) - 1;
         assert_eq!(said(shorter).len(), 1);
         let a_byte_more: ListFile = |bytes, out| {

@@ -1,6 +1,6 @@
 //! Inquiries: what the port asks and lists beside the Rust, whose closure `touches` says what the
 //! replies say.
-use crate::compare::answer::{Answer, Root};
+use crate::compare::answer::Answer;
 use crate::compare::bits;
 use crate::compare::outcome::Outcome;
 use crate::compare::ways;
@@ -9,12 +9,12 @@ use crate::inputs::random::Random;
 use crate::port::inquiries::{Shown, inquire};
 use crate::runs::lists::{shown, tolerance_for};
 use crate::runs::parts;
-use crate::truth::lister::refusal;
-use crate::truth::reference::{patched, untouched};
+use crate::truth::kind::Root;
+use crate::truth::lister::{Touches, refusal};
+use crate::truth::reference::untouched;
 use crate::truth::refusals;
+use crate::truth::touching;
 use std::cell::RefCell;
-
-pub type Touches<'a> = &'a dyn Fn(f64) -> bool;
 
 /// The Rust's run: k, 0 for a list; its list, with the number of the refusal; and the places that
 /// it asked about, in order.
@@ -152,6 +152,7 @@ pub fn add(outcome: &mut Outcome, inquiry: &impl Inquiry, more: bool) {
         more && refused == 0,
     ]);
     for (ran, touches) in [first].iter().chain(&others).zip(&REPLIES) {
+        outcome.add_roots(ran.list.kinds());
         if let Err(line) = followed(inquiry, ran, touches, more) {
             return outcome.differs(|| line);
         }
@@ -211,13 +212,13 @@ impl Inquiry for List<'_> {
     }
 
     fn reference(&self, touches: Touches) -> (u64, Answer) {
-        let list = patched::poly::real_roots_touching(self.0, self.1, touches);
-        self.answer(list.iter().map(|r| (r.value, r.multiplicity)))
+        let list = touching::list(self.0, self.1, touches);
+        self.answer(list.into_iter().map(Root::by))
     }
 
     fn untouched(&self, touches: Touches) -> (u64, Answer) {
         let list = untouched::poly::real_roots_touching(self.0, self.1, touches);
-        self.answer(list.iter().map(|r| (r.value, r.multiplicity)))
+        self.answer(list.iter().map(|r| Root::new(r.value, r.multiplicity)))
     }
 
     fn text(&self) -> String {

@@ -1,19 +1,20 @@
 //! Whole lists: the answers of the port, of the reference build and of the untouched Rust, compared
 //! over made lists.
-use crate::compare::answer::{Answer, Root};
+use crate::compare::answer::Answer;
 use crate::compare::outcome::Outcome;
 use crate::compare::ways;
 use crate::inputs::lists::{KINDS, Maker, handed_in, long, tolerance};
 use crate::inputs::random::Random;
 use crate::port;
 use crate::runs::parts;
+use crate::truth::kind::Root;
 use crate::truth::lister::refusal;
 use crate::truth::reference::{patched, untouched};
 
 /// The reference build's answer. A refused list is run too: the Rust's is empty then.
 pub fn reference(coeffs: &[f64], tol: f64) -> Answer {
     let list = patched::poly::real_roots(coeffs, tol);
-    let roots: Vec<Root> = list.iter().map(|r| (r.value, r.multiplicity)).collect();
+    let roots: Vec<Root> = list.iter().map(|r| Root::new(r.value, r.multiplicity)).collect();
     let refusal = refusal(coeffs);
     assert!(refusal == 0 || roots.is_empty(), "the Rust lists roots of {coeffs:?}");
     Answer::new(refusal.into(), &roots)
@@ -22,7 +23,7 @@ pub fn reference(coeffs: &[f64], tol: f64) -> Answer {
 /// The untouched Rust's.
 pub fn by_untouched(coeffs: &[f64], tol: f64) -> Answer {
     let list = untouched::poly::real_roots(coeffs, tol);
-    let roots: Vec<Root> = list.iter().map(|r| (r.value, r.multiplicity)).collect();
+    let roots: Vec<Root> = list.iter().map(|r| Root::new(r.value, r.multiplicity)).collect();
     Answer::new(refusal(coeffs).into(), &roots)
 }
 
@@ -58,7 +59,7 @@ fn cases(coeffs: &[f64], tol: f64, answer: &Answer) -> [bool; CASES.len()] {
     let roots = |n| answered && answer.len == n;
     let multiple = |m| answer.multiplicities().any(|n| n == m);
     let zeros = coeffs.iter().take_while(|c| **c == 0.0).count();
-    let at_zero = answer.roots().iter().any(|r| r.0 == 0.0);
+    let at_zero = answer.roots().iter().any(|r| r.value == 0.0);
     [
         answered,
         answer.refusal == 1,
@@ -93,6 +94,7 @@ fn add(outcome: &mut Outcome, coeffs: &[f64], tol: f64) {
     let given = port::real_roots(coeffs, tol);
     outcome.inputs += 1;
     outcome.met.add(&cases(coeffs, tol, &wanted));
+    outcome.add_roots(wanted.kinds());
     if !given.same(&wanted) {
         outcome.differs(|| {
             let (given, wanted) = (given.text(), wanted.text());

@@ -15,12 +15,12 @@ use crate::port::quadratics::{self, Solution};
 use crate::runs::contacts;
 use crate::runs::cranks::{self, Crank};
 use crate::runs::files;
-use crate::runs::inquiries::{Inquiry, List, REPLIES, Ran, Touches, recorded, same_places};
+use crate::runs::inquiries::{Inquiry, List, REPLIES, Ran, recorded, same_places};
 use crate::runs::lists::{shown, tolerance_for};
 use crate::runs::trees::{REFERENCE, Tree, tree};
 use crate::stored::telling::{self, Telling};
 use crate::truth::contact::Contact;
-use crate::truth::lister::{finite, refusal, trimmed};
+use crate::truth::lister::{Touches, finite, refusal, trimmed};
 use crate::truth::reference::own;
 use std::sync::atomic::{AtomicUsize, Ordering};
 use std::{panic, process};
@@ -224,7 +224,7 @@ impl Mutant {
     fn asks_for(&self, sort: usize) -> bool {
         match self.file {
             "equation.rs" => [2, 3].contains(&sort),
-            "hall_file.rs" | "lister.rs" => sort >= 5,
+            "hall_file.rs" | "kind.rs" | "lister.rs" => sort >= 5,
             "contact.rs" => sort == 6,
             _ => [0, 1, 4].contains(&sort),
         }

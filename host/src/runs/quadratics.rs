@@ -1,5 +1,5 @@
 //! Quadratics: the port's answers beside the Rust's.
-use crate::compare::answer::{Answer, Root};
+use crate::compare::answer::Answer;
 use crate::compare::outcome::Outcome;
 use crate::compare::ways;
 use crate::compare::{Same, Shown};
@@ -9,6 +9,7 @@ use crate::inputs::random::Random;
 use crate::port::quadratics::{self as port, Solution};
 use crate::runs::parts;
 use crate::runs::trees::{REFERENCE, Tree, UNTOUCHED};
+use crate::truth::kind::Root;
 use crate::truth::refusals;
 
 /// How many places each answer has, by its number.
@@ -33,7 +34,7 @@ pub fn refusing(tree: &Tree, abc: [f64; 3], tol: [f64; 2]) -> (u32, Solution) {
 
 /// As a list: each place once.
 fn as_list((refusal, (n, places)): (u32, Solution)) -> Answer {
-    let roots: Vec<Root> = places[..PLACES[n as usize]].iter().map(|x| (*x, 1)).collect();
+    let roots: Vec<Root> = places[..PLACES[n as usize]].iter().map(|x| Root::new(*x, 1)).collect();
     Answer::new(refusal.into(), &roots)
 }
 

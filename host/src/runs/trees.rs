@@ -2,7 +2,7 @@
 use crate::compare::answer::Answer;
 use crate::inputs::pieces::Pieces;
 use crate::port::quadratics::Solution;
-use crate::runs::inquiries::Touches;
+use crate::truth::lister::Touches;
 
 /// What a copy answers. Refusals are the host's own, by document 01.
 #[derive(Clone, Copy)]
@@ -22,7 +22,8 @@ pub struct Tree {
 /// The copy of this name.
 macro_rules! tree {
     ($tree:ident) => {{
-        use crate::compare::answer::{Answer, Root};
+        use crate::compare::answer::Answer;
+        use crate::truth::kind::Root;
         use crate::truth::reference::$tree::equation::{self, QuadraticSolution};
         use crate::truth::reference::$tree::{Tolerance, poly};
         fn told(s: QuadraticSolution) -> (u32, [f64; 2]) {
@@ -43,8 +44,11 @@ macro_rules! tree {
                 _ => QuadraticSolution::Empty,
             }
         }
+        fn root(r: &poly::RealRoot) -> Root {
+            Root::by((r.yes > 0, r.value, r.multiplicity))
+        }
         fn listed(coeffs: &[f64], roots: &[poly::RealRoot]) -> Answer {
-            let roots: Vec<Root> = roots.iter().map(|r| (r.value, r.multiplicity)).collect();
+            let roots: Vec<Root> = roots.iter().map(root).collect();
             Answer::new(crate::truth::lister::refusal(coeffs).into(), &roots)
         }
         const fn tolerance(confusion: f64, angular: f64) -> Tolerance {
@@ -57,7 +61,7 @@ macro_rules! tree {
                 let [a2, b2, c1, d1, e] = terms;
                 let (k, quartic, list) =
                     equation::solve_trig(a2, b2, c1, d1, e, tolerance(tol, 0.0), touches);
-                let roots = list.iter().map(|r| (r.value, r.multiplicity));
+                let roots = list.iter().map(root);
                 crate::runs::cranks::Crank(terms, tol).answer(k, &quartic, roots)
             },
             quadratic: |[a, b, c], [con, ang]| {
@@ -73,5 +77,5 @@ macro_rules! tree {
 #[cfg(any(feature = "causes", feature = "coverage", feature = "mutants"))]
 pub(crate) use tree;
 
-pub const REFERENCE: Tree = tree!(patched);
-pub const UNTOUCHED: Tree = tree!(untouched);
+pub const REFERENCE: Tree = tree!(patched_kinds);
+pub const UNTOUCHED: Tree = tree!(untouched_kinds);

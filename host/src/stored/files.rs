@@ -27,10 +27,10 @@ crank 2^-30 0 0 1 0 0
 
 /// Its listing in document 01.
 pub const DOCUMENT_LISTING: &str = "\
-1 PL ok 2 3FF0000000000000 1 4000000000000000 1
+1 PL ok 2 3FF0000000000000 1 c 4000000000000000 1 c
 2 PL refused 2
 3 QD two 3FF0000000000000 4000000000000000
-4 TG ok 4 2 BFF0000000000000 1 3FF0000000000000 1
+4 TG ok 4 2 BFF0000000000000 1 c 3FF0000000000000 1 c
 5 -- refused 6
 ";
 
@@ -184,7 +184,39 @@ contact 2^-30 0 0 0 0 0 0 3 0 1e200
 contact 2^-30 0 2^-600 0 0 0 0 0 0 1
 ";
 
-/// The same, with what tells a mistake.
+/// Crossings, brushes and flat roots, formed in every way. The contacts' paths rise to 257/256
+/// between two dips to about 255/256, at -4 and 4 or at 0 and 8.
+pub const KINDS: &str = "\
+list 2^-30 2 -3 1
+list 2^-30 1 -2 1
+list 2^-30 1 0 -2 0 1
+list 2^-30 0 0 -3 -2 1
+list 2^-30 0 0 0 -1 1
+crank 2^-30 0 0 1 0 -1
+crank 2^-30 1 0 0 0 1
+crank 2^-30 1 0 -4 0 3
+# two double roots, with a yes between them and with a no
+contact 2/256 0 30/256 0 257/256 0 -2/256 0 0 255/256
+contact 1/256 0 30/256 0 257/256 0 -2/256 0 0 255/256
+# two pairs: linked, each alone, and none
+contact 3/256 0 30/256 0 257/256 0 -2/256 0 0 254/256
+contact 2/256 0 30/256 0 257/256 0 -2/256 0 0 254/256
+contact 1/512 0 30/256 0 257/256 0 -2/256 0 0 254/256
+# four simple roots, linked and apart
+contact 1/256 0 30/256 0 257/256 0 -2/256 0 0 1
+contact 1/512 0 30/256 0 257/256 0 -2/256 0 0 1
+# simple roots before a pair: linked with it, beside it, and alone
+contact 3/512 0 30/256 0 257/256 1/512 -2/256 0 0 1
+contact 3/1024 0 30/256 0 257/256 1/512 -2/256 0 0 1
+contact 1/1024 0 30/256 0 257/256 1/512 -2/256 0 0 1
+# the root 0 twice and another double root; a pair or a link beside one in the band; none of these
+contact 2/256 -120/256 30/256 0 225/256 16/256 -2/256 0 0 255/256
+contact 1/256 -120/256 30/256 0 225/256 16/256 -2/256 0 0 1044479/1048576
+contact 1/256 -120/256 30/256 0 225/256 16/256 -2/256 0 0 1044481/1048576
+contact -1 -120/256 30/256 0 225/256 16/256 -2/256 0 0 1044481/1048576
+";
+
+/// Contacts, and those that tell a mistake.
 fn contacts() -> Vec<u8> {
     let telling = telling::contacts().map(|(_, contact)| Record::Contact(contact));
     [of_text(CONTACTS), file(&telling.collect::<Vec<_>>())].concat()
@@ -329,6 +361,7 @@ pub fn files() -> Vec<Named> {
         named("kept", of_text(KEPT)),
         named("refused", of_text(REFUSED)),
         named("contacts", contacts()),
+        named("kinds", of_text(KINDS)),
         named("tolerances", tolerances()),
         named("long_lists", long_lists()),
     ];

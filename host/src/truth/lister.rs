@@ -2,11 +2,11 @@
 //! over any solver. Nothing here calls the port.
 use crate::compare::bits;
 use crate::truth::hall_file::{Item, Kind, Record, items};
+use crate::truth::kind::{self, Root};
 use crate::truth::refusals;
+#[cfg(geomcore)]
+use crate::truth::touching;
 use std::fmt;
-
-/// A place and its multiplicity.
-pub type Root = (f64, u32);
 
 /// The Rust's `QuadraticSolution`.
 #[derive(Clone, Copy, Debug, PartialEq)]
@@ -46,6 +46,9 @@ pub struct Turned {
     pub roots: Vec<Root>,
 }
 
+/// The replies to questions.
+pub type Touches<'a> = &'a dyn Fn(f64) -> bool;
+
 /// Answers as the Rust gives them: nothing is refused.
 pub trait Solver {
     /// `real_roots`
@@ -55,8 +58,12 @@ pub trait Solver {
     /// `solve_trig`, every question replied no
     fn crank(&self, terms: [f64; 5], confusion: f64) -> Turned;
     /// `real_roots_touching`
-    fn touching(&self, coeffs: &[f64], tolerance: f64, touches: &dyn Fn(f64) -> bool) -> Vec<Root>;
+    fn touching(&self, coeffs: &[f64], tolerance: f64, touches: Touches) -> Vec<Root>;
 }
+
+/// A place of an answer, with the multiplicity and the kind that the listing says; of a quadratic it
+/// says neither.
+pub type Listed = (f64, Option<(u32, kind::Kind)>);
 
 /// What stands behind the mark of a line.
 #[derive(Clone, Debug, PartialEq)]
@@ -68,12 +75,11 @@ pub enum Answer {
 }
 
 impl Answer {
-    /// Places and multiplicities; a place of a quadratic has no multiplicity in the listing.
-    pub fn roots(&self) -> Vec<(f64, Option<u32>)> {
+    pub fn roots(&self) -> Vec<Listed> {
         match self {
             Answer::Refused(_) => vec![],
             Answer::List(roots) | Answer::Crank(_, roots) => {
-                roots.iter().map(|&(x, m)| (x, Some(m))).collect()
+                roots.iter().map(|r| (r.value, Some((r.multiplicity, r.kind)))).collect()
             }
             Answer::Quadratic(s) => s.places().into_iter().map(|x| (x, None)).collect(),
         }
@@ -88,9 +94,9 @@ impl fmt::Display for Answer {
             Answer::Crank(k, roots) => write!(f, "ok {k} {}", roots.len()),
             Answer::Quadratic(s) => write!(f, "{}", s.word()),
         }?;
-        self.roots().iter().try_for_each(|&(x, m)| {
+        self.roots().iter().try_for_each(|&(x, listed)| {
             write!(f, " {:016X}", bits(x))?;
-            m.map_or(Ok(()), |m| write!(f, " {m}"))
+            listed.map_or(Ok(()), |(m, kind)| write!(f, " {m} {}", kind.letter()))
         })
     }
 }
@@ -236,11 +242,15 @@ fn read_place(word: &str) -> Option<f64> {
 }
 
 fn read_roots(words: &[&str]) -> Option<Vec<Root>> {
-    let root = |pair: &[&str]| match pair {
-        [place, times] => Some((read_place(place)?, times.parse().ok()?)),
+    let root = |words: &[&str]| match words {
+        [place, times, letter] => Some(Root {
+            value: read_place(place)?,
+            multiplicity: times.parse().ok()?,
+            kind: kind::Kind::of_letter(letter)?,
+        }),
         _ => None,
     };
-    words.chunks(2).map(root).collect()
+    words.chunks(3).map(root).collect()
 }
 
 /// The reference build of document 01.
@@ -253,11 +263,11 @@ pub struct Untouched;
 
 #[cfg(geomcore)]
 macro_rules! solver {
-    ($name:ident, $tree:ident) => {
+    ($name:ident, $tree:ident, $crank:expr, $touching:expr) => {
         impl Solver for $name {
             fn list(&self, coeffs: &[f64], tolerance: f64) -> Vec<Root> {
                 let roots = crate::truth::reference::$tree::poly::real_roots(coeffs, tolerance);
-                roots.iter().map(|r| (r.value, r.multiplicity)).collect()
+                roots.iter().map(|r| Root::new(r.value, r.multiplicity)).collect()
             }
 
             fn quadratic(&self, [a, b, c]: [f64; 3], confusion: f64, angular: f64) -> Solution {
@@ -272,32 +282,22 @@ macro_rules! solver {
                 }
             }
 
-            fn crank(&self, [a2, b2, c1, d1, e]: [f64; 5], confusion: f64) -> Turned {
-                use crate::truth::reference::$tree::{Tolerance, equation};
-                let tol = Tolerance { confusion, angular: 0.0, parametric: 0.0 };
-                let (k, quartic, roots) = equation::solve_trig(a2, b2, c1, d1, e, tol, |_| false);
-                let roots = roots.iter().map(|r| (r.value, r.multiplicity)).collect();
-                Turned { k, quartic, roots }
+            fn crank(&self, terms: [f64; 5], confusion: f64) -> Turned {
+                let (k, quartic, roots) = $crank(terms, confusion, &|_| false);
+                Turned { k, quartic, roots: roots.into_iter().map(Root::by).collect() }
             }
 
-            fn touching(
-                &self,
-                coeffs: &[f64],
-                tolerance: f64,
-                touches: &dyn Fn(f64) -> bool,
-            ) -> Vec<Root> {
-                use crate::truth::reference::$tree::poly;
-                let roots = poly::real_roots_touching(coeffs, tolerance, touches);
-                roots.iter().map(|r| (r.value, r.multiplicity)).collect()
+            fn touching(&self, coeffs: &[f64], tolerance: f64, touches: Touches) -> Vec<Root> {
+                $touching(coeffs, tolerance, touches).into_iter().map(Root::by).collect()
             }
         }
     };
 }
 
 #[cfg(geomcore)]
-solver!(Reference, patched);
+solver!(Reference, patched, touching::crank, touching::list);
 #[cfg(geomcore)]
-solver!(Untouched, untouched);
+solver!(Untouched, untouched, touching::untouched::crank, touching::untouched::list);
 
 #[cfg(test)]
 mod tests {
@@ -305,10 +305,11 @@ mod tests {
 
     #[test]
     fn lines_read_back() {
-        let text = "1 PL ok 2 3FF0000000000000 1 4000000000000000 1\n2 PL refused 2\n\
+        let text = "1 PL ok 2 3FF0000000000000 1 c 4000000000000000 1 c\n2 PL refused 2\n\
                     3 QD two 3FF0000000000000 4000000000000000\n4 QD degenerate\n\
-                    5 TG ok 4 2 BFF0000000000000 1 3FF0000000000000 1\n6 TG ok 7 0\n\
-                    7 PC ok 1 3FF0000000000000 2\n8 PC refused 11\n9 -- refused 6\n";
+                    5 TG ok 4 2 BFF0000000000000 1 c 3FF0000000000000 1 c\n6 TG ok 7 0\n\
+                    7 PC ok 2 BFF0000000000000 2 b 3FF0000000000000 2 f\n8 PC refused 11\n\
+                    9 -- refused 6\n";
         let read = lines(text.as_bytes()).unwrap();
         assert_eq!(read.iter().map(|line| format!("{line}\n")).collect::<String>(), text);
         assert_eq!(lines(b""), Ok(vec![]));
@@ -324,8 +325,12 @@ mod tests {
             "01 PL ok 0\n",
             "1 PL ok 1\n",
             "1 PL  ok 0\n",
-            "1 PL ok 1 3ff0000000000000 1\n",
+            "1 PL ok 1 3ff0000000000000 1 c\n",
             "1 PL ok 1 3FF0000000000000\n",
+            "1 PL ok 1 3FF0000000000000 1\n",
+            "1 PL ok 1 3FF0000000000000 1 C\n",
+            "1 PL ok 1 3FF0000000000000 1 cc\n",
+            "1 PL ok 1 3FF0000000000000 c 1\n",
             "1 XX ok 0\n",
             "1 QD two 3FF0000000000000\n",
             "1 QD ok 0\n",

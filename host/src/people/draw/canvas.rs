@@ -1,6 +1,7 @@
 //! A picture of 800 by 600 with a title, marks, and labels that keep clear of each other.
-use super::Mark;
+use super::{Form, Mark};
 use crate::people::svg::{WIDTH, document, escaped, wrapped};
+use crate::truth::kind::Kind;
 use std::fmt::Write;
 
 pub const SIZE: [f64; 2] = [800.0, 600.0];
@@ -18,8 +19,9 @@ text { font: 12px monospace; fill: #1c2733; }
 .centre { fill: #5c6975; }
 .start { fill: #1b4f7d; }
 .arrow { fill: #1b4f7d; }
-.dot { fill: #a3241c; stroke: #ffffff; }
-.ring { fill: #ffffff; stroke: #a3241c; stroke-width: 2.5; }
+.crossing { fill: #a3241c; stroke: #ffffff; }
+.brush { fill: #e69f00; stroke: #1c2733; stroke-width: 1.5; stroke-linecap: square; }
+.flat { fill: #ffffff; stroke: #1c2733; stroke-width: 2.5; }
 .doubtful { fill: #ffffff; stroke: #5c6975; stroke-width: 2; stroke-dasharray: 3 2; }
 ";
 
@@ -161,10 +163,37 @@ impl Canvas {
         self.ink.extend(edge);
     }
 
+    /// A square on its corner; r is from there to its middle.
+    fn diamond(&mut self, class: &str, [x, y]: Point, r: f64) {
+        self.line(class, &[[x, y - r], [x + r, y], [x, y + r], [x - r, y], [x, y - r]]);
+    }
+
+    /// A dot, a diamond or a ring, which is dashed where it is doubtful.
+    fn form(&mut self, class: &str, at: Point, form: Form) {
+        match form {
+            Form::Of(Kind::Crossing) => self.circle(class, at, 4.5),
+            Form::Of(Kind::Brush) => self.diamond(class, at, 7.0),
+            Form::Of(Kind::Flat) | Form::Doubtful => self.circle(class, at, 5.5),
+        }
+    }
+
+    /// Below the title, the forms of these marks, each with its word.
+    pub fn legend(&mut self, marks: &[Mark]) {
+        let here = |form: &Form| marks.iter().any(|mark| mark.form() == *form);
+        let [mut x, y] = [26.0, self.room.top + 5.0];
+        for form in Form::ALL.into_iter().filter(here) {
+            let word = form.word();
+            self.form(&format!("key {word}"), [x, y - 4.0], form);
+            self.text([x + 12.0, y], "faint", word);
+            x += 36.0 + WIDTH * word.len() as f64;
+            self.room.top = y + 12.0;
+        }
+    }
+
     /// A mark, with a label behind whose name stand its own words.
     pub fn mark(&mut self, at: Point, mark: &Mark, towards: Point, name: &str) {
-        let (class, radius) = mark.form();
-        self.circle(class, at, radius);
+        let form = mark.form();
+        self.form(form.word(), at, form);
         self.taken.push(Area::around(at, 12.0, 12.0));
         self.label(at, towards, format!("{name}{}", mark.words()));
     }

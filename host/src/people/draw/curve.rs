@@ -75,7 +75,7 @@ pub fn lowest(p: &[f64]) -> f64 {
     let slope: Vec<f64> = (1..p.len()).map(|i| p[i] * (i as f64 / 4.0)).collect();
     let flat = port::real_roots(&slope, 0.0);
     let height = |x: f64| around(p, x).first().map_or(0.0, |a| a.log2());
-    let places = flat.roots().iter().map(|root| root.0);
+    let places = flat.roots().iter().map(|root| root.value);
     places.min_by(|a, b| height(*a).total_cmp(&height(*b))).unwrap_or(0.0)
 }
 

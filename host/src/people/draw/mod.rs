@@ -9,40 +9,58 @@ mod figures;
 use crate::people::show::{Place, Shown};
 use crate::people::table::DOUBTFUL;
 use crate::truth::hall_file::Record;
+use crate::truth::kind::Kind;
 use canvas::Canvas;
+
+/// How a mark looks. No two differ in colour alone.
+#[derive(Clone, Copy, PartialEq)]
+enum Form {
+    Of(Kind),
+    Doubtful,
+}
+
+impl Form {
+    /// In the order of the legend.
+    const ALL: [Form; 4] =
+        [Form::Of(Kind::Crossing), Form::Of(Kind::Brush), Form::Of(Kind::Flat), Form::Doubtful];
+
+    /// In the legend; its class too.
+    fn word(self) -> &'static str {
+        match self {
+            Form::Of(kind) => kind.word(),
+            Form::Doubtful => DOUBTFUL,
+        }
+    }
+}
 
 /// A root, a position of a crank or a contact, as it is marked.
 struct Mark {
     /// x, t in degrees, or t.
     place: f64,
     multiplicity: u32,
+    kind: Kind,
     doubtful: bool,
 }
 
 impl Mark {
     fn new(root: &Place) -> Mark {
-        let Place { place, multiplicity, angle, doubtful, .. } = *root;
-        Mark { place: angle.unwrap_or(place), multiplicity, doubtful }
+        let Place { place, multiplicity, kind, angle, doubtful, .. } = *root;
+        Mark { place: angle.unwrap_or(place), multiplicity, kind, doubtful }
     }
 
-    /// A dot where it counts once, a ring where more often, a dashed one where it is doubtful; and
-    /// its radius.
-    fn form(&self) -> (&'static str, f64) {
-        match (self.doubtful, self.multiplicity) {
-            (true, _) => (DOUBTFUL, 5.5),
-            (false, 0 | 1) => ("dot", 4.5),
-            (false, _) => ("ring", 5.5),
-        }
+    fn form(&self) -> Form {
+        if self.doubtful { Form::Doubtful } else { Form::Of(self.kind) }
     }
 
-    /// What is said behind its place.
+    /// What is said behind its place; a crossing counts once.
     fn words(&self) -> String {
-        let times = match self.multiplicity {
-            0 | 1 => String::new(),
-            2 => ", twice".to_string(),
-            n => format!(", {n} times"),
+        let kind = self.kind.word();
+        let words = match (self.kind, self.multiplicity) {
+            (Kind::Crossing, _) => String::new(),
+            (_, 2) => format!(", {kind}, twice"),
+            (_, n) => format!(", {kind}, {n} times"),
         };
-        if self.doubtful { format!("{times}, {DOUBTFUL}") } else { times }
+        if self.doubtful { format!("{words}, {DOUBTFUL}") } else { words }
     }
 }
 
@@ -63,6 +81,7 @@ pub fn drawn(shown: &Shown) -> Result<String, String> {
     let below = format!("record {}, {kind}, {tolerances}: {answer}", item.number);
     let mut canvas = Canvas::new(&shown.question, &below);
     let marks: Vec<Mark> = shown.roots.iter().map(Mark::new).collect();
+    canvas.legend(&marks);
     match record {
         Record::List { .. } | Record::Quadratic { .. } => {
             curve::draw(&mut canvas, &shown.coeffs, &marks)?
