@@ -78,23 +78,18 @@ module _ (m : ℕ) where
       go false true e h = cc
       go false false e h = cc
 
-  brush-so : (b : Bool) → Exactly (kindOf m b ≡ Brush) ((m ≡ 1 → ⊥) × (b ≡ true))
+  -- a brush where c is true, flat where it is false
+  other-so : (b c : Bool) → Exactly (kindOf m b ≡ cond c Brush Flat) ((m ≡ 1 → ⊥) × (b ≡ c))
   unfolding kindOf
-  brush-so b = record { where-it-holds = λ h. rw (ne-eqb m 1 (h .0), h .1); only-there = go (eqb m 1) b refl }
+  other-so b c = record { where-it-holds = λ h. rw (ne-eqb m 1 (h .0), h .1); only-there = go (eqb m 1) b c refl }
     where
-      go : (w b : Bool) → eqb m 1 ≡ w → sort w b ≡ Brush → (m ≡ 1 → ⊥) × (b ≡ true)
-      go true b e h = unlike cc
-      go false true e h = (eqb-false m 1 e, refl)
-      go false false e h = unlike cc
-
-  flat-so : (b : Bool) → Exactly (kindOf m b ≡ Flat) ((m ≡ 1 → ⊥) × (b ≡ false))
-  unfolding kindOf
-  flat-so b = record { where-it-holds = λ h. rw (ne-eqb m 1 (h .0), h .1); only-there = go (eqb m 1) b refl }
-    where
-      go : (w b : Bool) → eqb m 1 ≡ w → sort w b ≡ Flat → (m ≡ 1 → ⊥) × (b ≡ false)
-      go true b e h = unlike cc
-      go false true e h = unlike cc
-      go false false e h = (eqb-false m 1 e, refl)
+      go : (w b c : Bool) → eqb m 1 ≡ w → sort w b ≡ cond c Brush Flat → (m ≡ 1 → ⊥) × (b ≡ c)
+      go false true true e h = (eqb-false m 1 e, refl)
+      go false false false e h = (eqb-false m 1 e, refl)
+      go false true false e h = unlike cc
+      go false false true e h = unlike cc
+      go true b true e h = unlike cc
+      go true b false e h = unlike cc
 
 -- ---- a yes among the questions
 module _ (replies : List Bool) where
@@ -131,8 +126,8 @@ module _ (replies : List Bool) where
   has-kind f =
       let m = f .multiplicity in
       let l = f .questions in
-      let brush = brush-so m (someYes reply l) in
-      let flat = flat-so m (someYes reply l) in
+      let brush = other-so m (someYes reply l) true in
+      let flat = other-so m (someYes reply l) false in
       record {
         place = refl;
         multiplicity = refl;

@@ -5,7 +5,7 @@ use mathlib.Core.Path.{_≡_}
 use mathlib.Core.Bool.{Bool, true, false, cond, _&&_}
 use mathlib.Core.List.{List, [], _∷_, _++_, map}
 use Prim.Native.Nat.{ℕ, _+_, _<_}
-use lib.Dec.{ltb, eqb}
+use lib.Dec.{eqb}
 use lib.IntN.{ℤ}
 use lib.ListN.{length, getD}
 use lib.Ieee.{Float, nan, lt}
@@ -23,7 +23,7 @@ use Rattle.critical.specs.declared.TurningPoint.the-variants.{At, None}
 use Rattle.critical.specs.Critical.{extremumOf}
 use Rattle.poly.specs.declared.Solved.{Solved}
 use Rattle.poly.specs.RealRoots.{unscaledOf}
-use Rattle.touching.specs.Touching.{pairOrder, reachOf, allApart, apartOf}
+use Rattle.touching.specs.Touching.{pairOrder, reachOf, allApart, apartOf, doubleOf}
 
 -- A place, its multiplicity, and the questions, numbered from 0 in the order in which they are asked.
 pub record Formed : Type 0 where
@@ -65,10 +65,6 @@ pub record Joined : Type 0 where
 abbrev pub nothingJoined : Joined
 nothingJoined = record { first = zero64; last = zero64; at = zero64; touching = 0; mult = 0; questions = [] }
 
--- `u32::from(mult >= 2)`
-abbrev pub ofDouble : ℕ → ℕ
-ofDouble m = cond (ltb 1 m) 1 0
-
 -- one item
 abbrev pub begunBy : Formed → Joined
 begunBy it =
@@ -76,7 +72,7 @@ begunBy it =
       first = it .value;
       last = it .value;
       at = it .value;
-      touching = ofDouble (it .multiplicity);
+      touching = doubleOf (it .multiplicity);
       mult = it .multiplicity;
       questions = it .questions;
     }
@@ -88,7 +84,7 @@ linkedTo c it n y =
       first = c .first;
       last = it .value;
       at = y;
-      touching = c .touching + (1 + ofDouble (it .multiplicity));
+      touching = c .touching + (1 + doubleOf (it .multiplicity));
       mult = c .mult + it .multiplicity;
       questions = (c .questions ++ it .questions) ++ n ∷ [];
     }
