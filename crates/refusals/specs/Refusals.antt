@@ -1,4 +1,4 @@
--- The refusals, each number of documents 01 and 02 under the name that it has in code, and the one of the C functions alone. Definitions only.
+-- The refusals, each number of documents 01 and 02 under the name that it has in code, and the two of the C functions alone. Definitions only.
 use Prim.Native.Nat.{ℕ}
 
 -- 'some coefficient not finite, wherever it stands'; of a quadratic 'one of a, b, c', of a crank 'one of the five'
@@ -49,6 +49,22 @@ noRadius = 11
 abbrev pub madeNotFinite : ℕ
 madeNotFinite = 12
 
+-- 'the text is not a sum'
+abbrev pub notASum : ℕ
+notASum = 13
+
+-- 'some part of it has degree above 4 after zero terms are dropped'
+abbrev pub degreeTooHigh : ℕ
+degreeTooHigh = 14
+
+-- 'some coefficient of a part is above 2^53 in size'
+abbrev pub coefficientTooLarge : ℕ
+coefficientTooLarge = 15
+
 -- the coefficients' bytes end inside a double
 abbrev pub cutDouble : ℕ
 cutDouble = 20
+
+-- the text has more bytes than a record holds, 255
+abbrev pub textTooLong : ℕ
+textTooLong = 21

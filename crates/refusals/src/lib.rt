@@ -1,5 +1,5 @@
-// The refusals, each number of documents 01 and 02 under one name; 0 is said where nothing is refused. 13 to 19 are to follow.
-// The last is of the C functions alone. It rests on nothing; every operation that refuses rests on it.
+// The refusals, each number of documents 01 and 02 under one name; 0 is said where nothing is refused. 16 to 19 are to follow.
+// The last two are of the C functions alone. It rests on nothing; every operation that refuses rests on it.
 
 // 'some coefficient not finite, wherever it stands'; of a quadratic 'one of a, b, c', of a crank 'one of the five'.
 pub const NOT_FINITE: u32 = 1;
@@ -37,5 +37,17 @@ pub const NO_RADIUS: u32 = 11;
 // 'a coefficient made is not finite'
 pub const MADE_NOT_FINITE: u32 = 12;
 
+// 'the text is not a sum'
+pub const NOT_A_SUM: u32 = 13;
+
+// 'some part of it has degree above 4 after zero terms are dropped'
+pub const DEGREE_TOO_HIGH: u32 = 14;
+
+// 'some coefficient of a part is above 2^53 in size'
+pub const COEFFICIENT_TOO_LARGE: u32 = 15;
+
 // The coefficients' bytes end inside a double.
 pub const CUT_DOUBLE: u32 = 20;
+
+// The text has more bytes than a record holds, 255.
+pub const TEXT_TOO_LONG: u32 = 21;

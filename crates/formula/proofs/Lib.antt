@@ -1,0 +1,10 @@
+pub mod Sound
+pub mod Complete
+pub mod Bytes
+pub mod Answers
+pub mod Factors
+pub mod Cursors
+pub mod Cycle
+pub mod Whole
+pub mod Theorem
+pub mod Examples

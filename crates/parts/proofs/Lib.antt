@@ -1,0 +1,7 @@
+pub mod Coefficients
+pub mod Limits
+pub mod Values
+pub mod Words
+pub mod Entries
+pub mod Sums
+pub mod Joins

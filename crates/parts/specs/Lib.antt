@@ -1,0 +1,4 @@
+pub mod Polynomial
+pub mod Value
+pub mod Products
+pub mod Part
