@@ -8,3 +8,4 @@ pub mod Cycle
 pub mod Whole
 pub mod Theorem
 pub mod Examples
+pub mod Short

@@ -42,7 +42,7 @@ letter-limits = (lit≤ tt, small, refl)
 mutual
   unfolding sumOf
 
-  sum-limits : (a : Sum) → Limits (sumOf a)
+  pub sum-limits : (a : Sum) → Limits (sumOf a)
   sum-limits (term a) = term-limits a
   sum-limits (join a g b) = joined-limits (signOf g) (sumOf a) (termOf b) (sum-limits a) (term-limits b)
 
@@ -223,14 +223,14 @@ few s =
     go (exact p) h = h .0
     go (refused n) h = lit≤ tt
 
--- (and what is refused has a number above 0)
-refused-above : (v : Value) → Limits v → (n : ℕ) → v ≡ refused n → 0 < n
-refused-above v h n e = ⊎-elim (λ (q : n ≡ 14). omega arith) (λ (q : n ≡ 15). omega arith) (subst Limits e h)
+-- (and what is refused has a number from 13 to 15)
+refused-above : (v : Value) → Limits v → (n : ℕ) → v ≡ refused n → (13 ≤ n) × (n ≤ 15)
+refused-above v h n e = ⊎-elim (λ (q : n ≡ 14). (omega arith, omega arith)) (λ (q : n ≡ 15). (omega arith, omega arith)) (subst Limits e h)
 
-pub refused-number : (s : List ℕ) (n : ℕ) → formulaOf s ≡ refused n → 0 < n
+pub refused-number : (s : List ℕ) (n : ℕ) → formulaOf s ≡ refused n → (13 ≤ n) × (n ≤ 15)
 unfolding formulaOf
 refused-number s n = go (readingOf s)
   where
-    go : (o : Option Sum) → ifSome o (refused 13) sumOf ≡ refused n → 0 < n
-    go none e = let q : _≡_ {A = ℕ} 13 n = ap numberOf e in omega arith
+    go : (o : Option Sum) → ifSome o (refused 13) sumOf ≡ refused n → (13 ≤ n) × (n ≤ 15)
+    go none e = let q : _≡_ {A = ℕ} 13 n = ap numberOf e in (omega arith, omega arith)
     go (some a) e = refused-above (sumOf a) (sum-limits a) n e

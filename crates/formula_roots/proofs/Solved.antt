@@ -1,7 +1,7 @@
 -- What a formula is answered with, by what it expands to, and that demand 1 holds of it.
 use mathlib.Core.Path.{_≡_, refl, sym, ap, subst, subst⁻¹, _∙_}
 use mathlib.Core.List.{List, []}
-use Prim.Native.Nat.{ℕ, _-_, _≤_}
+use Prim.Native.Nat.{ℕ, _+_, _-_, _≤_}
 use native.Mathlib.Omega.{arith}
 use lib.ListN.{length, take, replicate, length-map}
 use lib.Seq.{take-at}
@@ -18,6 +18,7 @@ use Rattle.parts.specs.Value.{Value, exact, refused}
 use Rattle.formula.specs.declared.Expanded.{Expanded}
 use Rattle.formula.specs.Formula.{formulaOf, floatsOf, answeredOf, expandOf}
 use Rattle.formula.proofs.Theorem.{few, refused-number}
+use Rattle.formula.proofs.Short.{short-text}
 use Rattle.formula_roots.specs.FormulaRoots.{handedOn, solvedOf, formulaRootsOf}
 
 module _ (s : List ℕ) (tol : Float) (e : Expanded) (h : e ≡ expandOf s) where
@@ -43,7 +44,7 @@ module _ (s : List ℕ) (tol : Float) (e : Expanded) (h : e ≡ expandOf s) wher
           ∙ ap (λ (l : List Float). realRootsOf l tol) (take-at (floatsOf p) (replicate (5 - length p) zero64) (length p) (length-map p (ofInt binary64)))
       go (refused n) q =
           let m : n ≡ 0 = sym (ap (λ (x : Expanded). x .number) (is (refused n) q)) ∙ z in
-          absurd (omega (arith, refused-number s n q))
+          absurd (omega (arith, refused-number s n q .0))
 
   -- the coefficients that are handed on stand in the array
   pub in-room : e .len ≤ 5
@@ -62,3 +63,13 @@ formula-within s tol = value-within (formulaOf s) tol
 pub holds : (s : List ℕ) (tol : Float) {a : Answer} → a ≡ formulaRootsOf s tol
     → (a ≡ formulaRootsOf s tol) × Within (degreeLeft (handedOn (formulaOf s))) (listOf (a .roots))
 holds s tol is = (is, subst⁻¹ (λ (a : Answer). Within (degreeLeft (handedOn (formulaOf s))) (listOf (a .roots))) is (formula-within s tol))
+
+-- ---- what holds of every refusal, and of the list's answer to at most two coefficients more than the text has bytes, holds of every answer
+pub answered-by : (P : Answer → Type 0) (s : List ℕ) (tol : Float) → ((n : ℕ) → n ≤ 15 → P (record { number = n; roots = noRoots }))
+    → ((cs : List Float) → length cs ≤ length s + 2 → P (realRootsOf cs tol)) → P (formulaRootsOf s tol)
+unfolding formulaRootsOf solvedOf
+answered-by P s tol refusal answer = go (formulaOf s) refl
+  where
+    go : (v : Value) → formulaOf s ≡ v → P (solvedOf v tol)
+    go (refused n) e = refusal n (refused-number s n e .1)
+    go (exact p) e = answer (floatsOf p) (omega (arith, short-text s p e, length-map p (ofInt binary64)))
