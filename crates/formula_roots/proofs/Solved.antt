@@ -8,12 +8,12 @@ use lib.Seq.{take-at}
 use lib.Ieee.{Float, binary64, ofInt}
 use Rattle.float.specs.Literals.{zero64}
 use Rattle.roots.specs.Roots.{listOf, noRoots}
-use Rattle.roots.specs.Listed.{Within}
+use Rattle.roots.specs.Listed.{Within, Fits}
 use Rattle.roots.proofs.Sums.{within-none, within-more}
 use Rattle.poly.specs.declared.Answer.{Answer}
 use Rattle.poly.specs.Coefficients.{degreeLeft}
 use Rattle.poly.specs.RealRoots.{realRootsOf}
-use Rattle.poly.proofs.Sums.{answer-within}
+use Rattle.poly.proofs.Sums.{answer-within, answer-fits}
 use Rattle.parts.specs.Value.{Value, exact, refused}
 use Rattle.formula.specs.declared.Expanded.{Expanded}
 use Rattle.formula.specs.Formula.{formulaOf, floatsOf, answeredOf, expandOf}
@@ -73,3 +73,6 @@ answered-by P s tol refusal answer = go (formulaOf s) refl
     go : (v : Value) → formulaOf s ≡ v → P (solvedOf v tol)
     go (refused n) e = refusal n (refused-number s n e .1)
     go (exact p) e = answer (floatsOf p) (omega (arith, short-text s p e, length-map p (ofInt binary64)))
+
+pub formula-fits : (s : List ℕ) (tol : Float) → Fits (formulaRootsOf s tol .roots)
+formula-fits s tol = answered-by (λ (a : Answer). Fits (a .roots)) s tol (λ n h. (refl, omega arith)) (λ cs h. answer-fits cs tol)
