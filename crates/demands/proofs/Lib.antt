@@ -16,5 +16,7 @@ pub mod Unfolded
 pub mod Quadratics
 pub mod Entries
 pub mod Example
+pub mod Line
 pub mod Contact
+pub mod Formula
 pub mod Proved

@@ -22,10 +22,11 @@ use Rattle.factorize.specs.Factorize.{factorizeOf}
 use Rattle.factorize.proofs.Degree.{degrees-add}
 use Rattle.accuracy.proofs.Polishing.{polishing}
 use Rattle.roots.specs.declared.RealRoot.{RealRoot}
-use Rattle.roots.specs.Roots.{rootsOf}
+use Rattle.roots.specs.Roots.{listOf, rootsOf}
 use Rattle.roots.specs.Listed.{blank}
 use Rattle.finish.specs.Finish.{byValue, finishOf}
 use Rattle.finish.proofs.Simple.{simple-polished}
+use Rattle.poly.specs.declared.Answer.{Answer}
 use Rattle.poly.specs.Coefficients.{zerosOf}
 use Rattle.poly.specs.Solve.{candidatesOf, finishedOf, solveOf}
 use Rattle.poly.proofs.Refusals.{trimmed-is, number-most, no-root, stands-for, answered-is}
@@ -39,9 +40,13 @@ use Rattle.crank.proofs.Theorem.{cranks}
 use Rattle.contact.specs.Contact.{madeOf}
 use Rattle.contact.specs.Claims.{repliesOf}
 use Rattle.contact.proofs.Theorem.{contacts}
+use Rattle.formula.specs.Formula.{formulaOf}
+use Rattle.formula_roots.specs.FormulaRoots.{handedOn}
+use Rattle.formula_roots.proofs.Solved.{answered-by, formula-doubles, formula-solved}
 use Rattle.demands.specs.Table.{table}
+use Rattle.demands.specs.Example.{ascii}
 use Rattle.demands.specs.Demands.{Demands, SquareRoot, CubeRoot, Third, Logarithm, ScaledCoefficients, FactorDegrees}
-use Rattle.demands.specs.Demands.{TotalOrder, Sorts, Lists, SimpleRoots, PinContacts}
+use Rattle.demands.specs.Demands.{TotalOrder, Sorts, Lists, SimpleRoots, PinContacts, NeverBrush, TypedFormulas}
 use Rattle.demands.proofs.Nearest.{signed, positive-units}
 use Rattle.demands.proofs.Doubles.{units-exact, only-one}
 use Rattle.demands.proofs.Roots.{square-nearest, cube-nearest, rest-nearest, scaled-most, scaled-least, sqrt-is, cbrt-is}
@@ -57,6 +62,7 @@ use Rattle.demands.proofs.Quadratics.{quadratics}
 use Rattle.listing.proofs.Bound.{listing-fits}
 use Rattle.demands.proofs.Example.{example, empty, too-long}
 use Rattle.demands.proofs.Contact.{contact-line}
+use Rattle.demands.proofs.Formula.{formula-line, formula-cut}
 use Rattle.demands.proofs.Entries.{given, stated, all-rows, agree}
 
 square-root : SquareRoot
@@ -167,6 +173,17 @@ pin-contacts = record {
   line = contact-line;
 }
 
+typed-formulas : TypedFormulas
+unfolding formulaOf ascii
+typed-formulas = record {
+  polished = λ s tol e. simple-roots .polished (handedOn (formulaOf s)) tol (formula-doubles s) (formula-solved s tol e);
+  kinds = λ s tol.
+      answered-by (λ (a : Answer). NeverBrush (listOf (a .roots))) s tol (λ n h k l. absurd (omega (arith, l))) (λ cs h. kinds .list cs tol);
+  line = formula-line;
+  cut = formula-cut;
+  rows = refl;
+}
+
 pub demands : Demands
 demands = record {
   doubles = record { exact = units-exact; one = only-one };
@@ -191,4 +208,5 @@ demands = record {
   hall-file = record { example = example; empty = empty; too-long = too-long; room = listing-fits };
   pin-contacts = pin-contacts;
   kinds = kinds;
+  typed-formulas = typed-formulas;
 }

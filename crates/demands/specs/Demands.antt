@@ -14,6 +14,7 @@ use lib.Ieee.Exact.{HasValue}
 use lib.Ieee.Positive.{positive}
 use Rattle.facts.specs.Sort.{sortedBy}
 use Rattle.float.specs.Literals.{zero64, two64, four64}
+use Rattle.float.specs.Bytes.{f64At}
 use Rattle.float.specs.Methods.{isFiniteOf, isSignNegativeOf, totalLeOf}
 use Rattle.float.specs.Units.{unitsOf, Finite}
 use Rattle.order.specs.Order.{fallingOf}
@@ -55,6 +56,8 @@ use Rattle.contact.specs.declared.Path.{Path}
 use Rattle.contact.specs.declared.Circle.{Circle}
 use Rattle.contact.specs.Contact.{madeOf, pinContactOf}
 use Rattle.contact.specs.Claims.{repliesOf, Contacts}
+use Rattle.formula.specs.Formula.{formulaOf}
+use Rattle.formula_roots.specs.FormulaRoots.{handedOn, formulaRootsOf}
 use Rattle.listing.specs.Answers.{contactAt}
 use Rattle.text.specs.Digits.{decimal}
 use Rattle.listing.specs.Words.{letterOf}
@@ -64,6 +67,7 @@ use Rattle.demands.specs.Loops.{runsFrom, chainsFrom}
 use Rattle.demands.specs.Formed.{Formed, timesOf, unasked, chainsFormed, rootsFormed, replyIn, SomeYes, unformed}
 use Rattle.demands.specs.Table.{Row, table, rowAnswerOf}
 use Rattle.demands.specs.Example.{ascii, exampleFile, exampleListing}
+use Rattle.demands.specs.Texts.{TextRow, texts}
 
 -- ---- words
 
@@ -406,6 +410,20 @@ pub record Kinds : Type 0 where
   pub line : (r : RealRoot) → rootText r ≡ (placeText (r .value) ++ (32 ∷ decimal (r .multiplicity))) ++ (32 ∷ letterOf (r .kind) ∷ [])
   pub letters : letterOf Crossing ∷ letterOf Brush ∷ letterOf Flat ∷ [] ≡ ascii "cbf"
 
+-- ---- request Three, 'Formulas as mechanics write them'
+
+-- Demand 3 covers these roots through the list, and so do the kinds of request Two: none is a brush, since nothing is asked. 'A record TX holds a length byte 0
+-- to 255, a tolerance and that much ASCII', 'whose answer or refusal prints like PL': the line of a file of one such record, and of one whose length byte or
+-- later bytes are missing, '7, fewer bytes than the record needs'. `rows`: what some texts come to.
+pub record TypedFormulas : Type 0 where
+  pub polished : (s : List ℕ) (tol : Float) → formulaRootsOf s tol .number ≡ 0 → NotWorsened (handedOn (formulaOf s)) tol
+  pub kinds : (s : List ℕ) (tol : Float) → NeverBrush (listOf (formulaRootsOf s tol .roots))
+  pub line : (tolerance text : List ℕ) → length tolerance ≡ 8 → length text ≤ 255
+      → let file = ascii "TX" ++ (length text ∷ tolerance ++ text) in
+      listing file ≡ ascii "1 TX " ++ (polynomialText (formulaRootsOf text (f64At file 3)) ++ ascii "\n")
+  pub cut : (s : List ℕ) → getD s 0 0 ≤ 255 → length s < 9 + getD s 0 0 → listing (ascii "TX" ++ s) ≡ ascii "1 TX refused 7\n"
+  pub rows : map (λ (r : TextRow). formulaOf (ascii (r .text))) texts ≡ map (λ (r : TextRow). r .value) texts
+
 -- ---- all of them
 pub record Demands : Type 0 where
   pub doubles : Doubles
@@ -430,3 +448,4 @@ pub record Demands : Type 0 where
   pub hall-file : HallFile
   pub pin-contacts : PinContacts
   pub kinds : Kinds
+  pub typed-formulas : TypedFormulas

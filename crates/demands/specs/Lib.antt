@@ -3,3 +3,4 @@ pub mod Table
 pub mod Loops
 pub mod Formed
 pub mod Example
+pub mod Texts

@@ -7,5 +7,4 @@ pub mod Cursors
 pub mod Cycle
 pub mod Whole
 pub mod Theorem
-pub mod Examples
 pub mod Short

@@ -1,18 +1,23 @@
 -- What a formula is answered with, by what it expands to, and that demand 1 holds of it.
 use mathlib.Core.Path.{_≡_, refl, sym, ap, subst, subst⁻¹, _∙_}
-use mathlib.Core.List.{List, []}
-use Prim.Native.Nat.{ℕ, _+_, _-_, _≤_}
+use mathlib.Core.List.{List, [], _∷_}
+use Prim.Native.Nat.{ℕ, zero, suc, _+_, _-_, _≤_}
 use native.Mathlib.Omega.{arith}
+use lib.IntN.{ℤ}
 use lib.ListN.{length, take, replicate, length-map}
 use lib.Seq.{take-at}
 use lib.Ieee.{Float, binary64, ofInt}
+use lib.Ieee.Bits.{is-true}
+use lib.Ieee.Fits.{ofInt-fits}
 use Rattle.float.specs.Literals.{zero64}
 use Rattle.roots.specs.Roots.{listOf, noRoots}
 use Rattle.roots.specs.Listed.{Within, Fits}
 use Rattle.roots.proofs.Sums.{within-none, within-more}
 use Rattle.poly.specs.declared.Answer.{Answer}
 use Rattle.poly.specs.Coefficients.{degreeLeft}
-use Rattle.poly.specs.RealRoots.{realRootsOf}
+use Rattle.poly.specs.Conditions.{AllDoubles}
+use Rattle.poly.specs.Solve.{solveOf}
+use Rattle.poly.specs.RealRoots.{answerOf, realRootsOf}
 use Rattle.poly.proofs.Sums.{answer-within, answer-fits}
 use Rattle.parts.specs.Value.{Value, exact, refused}
 use Rattle.formula.specs.declared.Expanded.{Expanded}
@@ -76,3 +81,23 @@ answered-by P s tol refusal answer = go (formulaOf s) refl
 
 pub formula-fits : (s : List ℕ) (tol : Float) → Fits (formulaRootsOf s tol .roots)
 formula-fits s tol = answered-by (λ (a : Answer). Fits (a .roots)) s tol (λ n h. (refl, omega arith)) (λ cs h. answer-fits cs tol)
+
+-- ---- demand 3: what is solved are doubles
+floats-fit : (p : List ℤ) → AllDoubles (floatsOf p)
+floats-fit (z ∷ p) zero h = is-true _ (ofInt-fits binary64 z)
+floats-fit (z ∷ p) (suc i) h = floats-fit p i (omega arith)
+
+handed-fit : (v : Value) → AllDoubles (handedOn v)
+handed-fit (refused n) i h = absurd (omega arith)
+handed-fit (exact p) i h = floats-fit p i h
+
+pub formula-doubles : (s : List ℕ) → AllDoubles (handedOn (formulaOf s))
+formula-doubles s = handed-fit (formulaOf s)
+
+pub formula-solved : (s : List ℕ) (tol : Float) → formulaRootsOf s tol .number ≡ 0 → solveOf (handedOn (formulaOf s)) tol .number ≡ 0
+unfolding formulaRootsOf solvedOf realRootsOf answerOf
+formula-solved s tol = go (formulaOf s) refl
+  where
+    go : (v : Value) → formulaOf s ≡ v → solvedOf v tol .number ≡ 0 → solveOf (handedOn v) tol .number ≡ 0
+    go (refused n) e z = absurd (omega (arith, refused-number s n e .0))
+    go (exact p) e z = z

@@ -1,28 +1,19 @@
--- What some texts expand to, by computation: one fact about all rows.
-use mathlib.Core.Path.{_≡_, refl}
-use mathlib.Core.List.{List, [], _∷_, map}
-use Prim.Native.Nat.{ℕ}
-use Prim.Native.Char.{code}
-use Prim.Native.String as text
+-- Texts of formulas, and what each comes to. Definitions only.
+use mathlib.Core.List.{List, [], _∷_}
 use Prim.Native.String.{String}
 use lib.IntN.{pos, negsuc}
 use Rattle.parts.specs.Value.{Value, exact, refused}
-use Rattle.formula.specs.Formula.{formulaOf}
 
-ascii : String → List ℕ
-ascii text.[] = []
-ascii (text._∷_ c s) = code c ∷ ascii s
+-- a text, and its polynomial, the coefficient of t^0 first, or its refusal
+pub record TextRow : Type 0 where
+  pub text : String
+  pub value : Value
 
--- a text, and what it expands to
-record Row : Type 0 where
-  formula : String
-  value : Value
+abbrev row : String → Value → TextRow
+row s v = record { text = s; value = v }
 
-abbrev row : String → Value → Row
-row s v = record { formula = s; value = v }
-
-abbrev rows : List Row
-rows =
+abbrev pub texts : List TextRow
+texts =
     row "(t-2)^2*(t+1)" (exact (pos 4 ∷ pos 0 ∷ negsuc 2 ∷ pos 1 ∷ []))
     -- joins are grouped from the left, a product before a sum, a power before a product
     ∷ row "1-2-3" (exact (negsuc 3 ∷ []))
@@ -33,11 +24,22 @@ rows =
     -- no sum, also where a limit is met before that shows
     ∷ row "" (refused 13)
     ∷ row "-t" (refused 13)
+    ∷ row "(-t)" (refused 13)
+    ∷ row "+t" (refused 13)
     ∷ row "t^2^2" (refused 13)
+    ∷ row "t^12" (refused 13)
     ∷ row "0000000007" (refused 13)
+    ∷ row "t - 2" (refused 13)
+    ∷ row "T" (refused 13)
+    ∷ row "(t" (refused 13)
+    ∷ row "t)" (refused 13)
+    ∷ row "()" (refused 13)
+    ∷ row "2t" (refused 13)
+    ∷ row "t(" (refused 13)
     ∷ row "t^9*" (refused 13)
     -- a degree above 4, whatever becomes of it later; zero terms are dropped
     ∷ row "(t^5)^0" (refused 14)
+    ∷ row "0*t^5" (refused 14)
     ∷ row "t^5-t^5" (refused 14)
     ∷ row "0*t^4*t" (exact [])
     -- a coefficient above 2^53, and 2^53 itself
@@ -51,7 +53,3 @@ rows =
     ∷ row "94906266*94906266+t^5" (refused 15)
     ∷ row "94906266*t^4*(94906266*t)" (refused 14)
     ∷ []
-
-every : map (λ (r : Row). formulaOf (ascii (r .formula))) rows ≡ map (λ (r : Row). r .value) rows
-unfolding formulaOf ascii
-every = refl
