@@ -6,5 +6,8 @@ pub mod Factors
 pub mod Cursors
 pub mod Cycle
 pub mod Whole
+pub mod Parts
+pub mod Meaning
+pub mod Short
 pub mod Theorem
 pub mod Examples

@@ -4,4 +4,5 @@ pub mod Reading
 pub mod Formula
 pub mod Readers
 pub mod Meaning
+pub mod Parts
 pub mod Claims
