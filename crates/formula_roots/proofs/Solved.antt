@@ -1,0 +1,64 @@
+-- What a formula is answered with, by what it expands to, and that demand 1 holds of it.
+use mathlib.Core.Path.{_≡_, refl, sym, ap, subst, subst⁻¹, _∙_}
+use mathlib.Core.List.{List, []}
+use Prim.Native.Nat.{ℕ, _-_, _≤_}
+use native.Mathlib.Omega.{arith}
+use lib.ListN.{length, take, replicate, length-map}
+use lib.Seq.{take-at}
+use lib.Ieee.{Float, binary64, ofInt}
+use Rattle.float.specs.Literals.{zero64}
+use Rattle.roots.specs.Roots.{listOf, noRoots}
+use Rattle.roots.specs.Listed.{Within}
+use Rattle.roots.proofs.Sums.{within-none, within-more}
+use Rattle.poly.specs.declared.Answer.{Answer}
+use Rattle.poly.specs.Coefficients.{degreeLeft}
+use Rattle.poly.specs.RealRoots.{realRootsOf}
+use Rattle.poly.proofs.Sums.{answer-within}
+use Rattle.parts.specs.Value.{Value, exact, refused}
+use Rattle.formula.specs.declared.Expanded.{Expanded}
+use Rattle.formula.specs.Formula.{formulaOf, floatsOf, answeredOf, expandOf}
+use Rattle.formula.proofs.Theorem.{few, refused-number}
+use Rattle.formula_roots.specs.FormulaRoots.{handedOn, solvedOf, formulaRootsOf}
+
+module _ (s : List ℕ) (tol : Float) (e : Expanded) (h : e ≡ expandOf s) where
+  is : (v : Value) → formulaOf s ≡ v → e ≡ answeredOf v
+  unfolding expandOf
+  is v q = h ∙ ap answeredOf q
+
+  pub not-solved : (e .number ≡ 0 → ⊥) → record { number = e .number; roots = noRoots } ≡ formulaRootsOf s tol
+  unfolding formulaRootsOf answeredOf
+  not-solved f = go (formulaOf s) refl
+    where
+      go : (v : Value) → formulaOf s ≡ v → record { number = e .number; roots = noRoots } ≡ solvedOf v tol
+      go (exact p) q = absurd (f (ap (λ (x : Expanded). x .number) (is (exact p) q)))
+      go (refused n) q = ap (λ (x : Expanded). record { number = x .number; roots = noRoots }) (is (refused n) q)
+
+  pub solved : e .number ≡ 0 → realRootsOf (take (e .len) (e .coeffs)) tol ≡ formulaRootsOf s tol
+  unfolding formulaRootsOf answeredOf
+  solved z = go (formulaOf s) refl
+    where
+      go : (v : Value) → formulaOf s ≡ v → realRootsOf (take (e .len) (e .coeffs)) tol ≡ solvedOf v tol
+      go (exact p) q =
+          ap (λ (x : Expanded). realRootsOf (take (x .len) (x .coeffs)) tol) (is (exact p) q)
+          ∙ ap (λ (l : List Float). realRootsOf l tol) (take-at (floatsOf p) (replicate (5 - length p) zero64) (length p) (length-map p (ofInt binary64)))
+      go (refused n) q =
+          let m : n ≡ 0 = sym (ap (λ (x : Expanded). x .number) (is (refused n) q)) ∙ z in
+          absurd (omega (arith, refused-number s n q))
+
+  -- the coefficients that are handed on stand in the array
+  pub in-room : e .len ≤ 5
+  in-room = subst (λ (x : Expanded). x .len ≤ 5) (sym h) (few s)
+
+-- ---- demand 1
+value-within : (v : Value) (tol : Float) → Within (degreeLeft (handedOn v)) (listOf (solvedOf v tol .roots))
+unfolding solvedOf
+value-within (refused n) tol = within-more 0 (degreeLeft []) [] (omega arith) within-none
+value-within (exact p) tol = answer-within (floatsOf p) tol
+
+pub formula-within : (s : List ℕ) (tol : Float) → Within (degreeLeft (handedOn (formulaOf s))) (listOf (formulaRootsOf s tol .roots))
+unfolding formulaRootsOf
+formula-within s tol = value-within (formulaOf s) tol
+
+pub holds : (s : List ℕ) (tol : Float) {a : Answer} → a ≡ formulaRootsOf s tol
+    → (a ≡ formulaRootsOf s tol) × Within (degreeLeft (handedOn (formulaOf s))) (listOf (a .roots))
+holds s tol is = (is, subst⁻¹ (λ (a : Answer). Within (degreeLeft (handedOn (formulaOf s))) (listOf (a .roots))) is (formula-within s tol))
