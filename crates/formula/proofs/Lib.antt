@@ -9,5 +9,5 @@ pub mod Whole
 pub mod Parts
 pub mod Meaning
 pub mod Short
-pub mod Theorem
+pub mod Texts
 pub mod Examples

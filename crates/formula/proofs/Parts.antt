@@ -184,8 +184,8 @@ high-or-large xs w u = ⊎-elim (λ l. ⊎-elim same before (eq-or-lt-of-le l)) 
     before l = u .3 (w .0) l .0 (w .2)
 
 module _ (xs : List (List ℤ)) (p : List ℤ) where
-  pub all-exact : (v : Value) → Judged xs p v → AllMeet xs → v ≡ exact (trimmed p)
-  all-exact (exact q) w h = ap exact (w .2)
+  pub all-exact : (v : Value) → Judged xs p v → AllMeet xs → Meets p × (v ≡ exact (trimmed p))
+  all-exact (exact q) w h = (w .1, ap exact (w .2))
   all-exact (refused n) (inl w) h = absurd (high-or-all xs (w .1) h)
   all-exact (refused n) (inr w) h = absurd (large-or-all xs (w .1) h)
 

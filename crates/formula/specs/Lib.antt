@@ -5,4 +5,3 @@ pub mod Formula
 pub mod Readers
 pub mod Meaning
 pub mod Parts
-pub mod Claims

@@ -1,1 +1,4 @@
 pub mod Solved
+pub mod Doubles
+pub mod Theorem
+pub mod Short
