@@ -106,7 +106,7 @@ struct pongewaru_quartic {
 };
 
 /* No listing is longer. */
-#define PONGEWARU_LISTING_MOST 163860
+#define PONGEWARU_LISTING_MOST 524308
 
 /* ---- First part: libpongewaru.a */
 

@@ -341,7 +341,7 @@ pub record HallFile : Type 0 where
   pub example : listing exampleFile ≡ exampleListing
   pub empty : listing [] ≡ []
   pub too-long : (s : List ℕ) → 65536 < length s → listing s ≡ ascii "0 -- refused 9\n"
-  pub room : (s : List ℕ) → length (listing s) ≤ 163860
+  pub room : (s : List ℕ) → length (listing s) ≤ 524308
 
 -- ---- request One, 'Pin contact from path and circle'
 

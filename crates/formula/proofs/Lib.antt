@@ -8,6 +8,6 @@ pub mod Cycle
 pub mod Whole
 pub mod Parts
 pub mod Meaning
-pub mod Short
 pub mod Texts
+pub mod Short
 pub mod Examples

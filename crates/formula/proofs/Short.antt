@@ -1,16 +1,22 @@
--- A formula of one or two bytes has no power of t but t itself, and none has no byte.
-use mathlib.Core.Path.{_≡_, refl}
+-- A text of one or two bytes has no power of t but t itself; so a text has at most two coefficients more than bytes: `short-text`.
+use mathlib.Core.Path.{_≡_, refl, subst, subst⁻¹}
 use mathlib.Core.List.{List, [], _∷_, _++_}
+use mathlib.Core.Logic.{⊎-elim}
 use Prim.Native.Nat.{ℕ, zero, suc, _+_, _≤_, _<_}
 use native.Mathlib.Omega.{arith}
 use lib.Dec.{T}
 use lib.ListN.{length, length-append}
 use lib.IntN.{ℤ, pos}
-use Rattle.parts.specs.Polynomial.{coefficientOf}
+use Rattle.algebra.specs.NatOrder.{le-or-lt}
+use Rattle.parts.specs.Polynomial.{coefficientOf, trimmed}
+use Rattle.parts.specs.Value.{Value, exact, refused}
+use Rattle.parts.proofs.Coefficients.{trimmed-short}
 use Rattle.formula.specs.Grammar.{isNumber, plain, power, Sum, term, join, Term, factor, times, Factor, number, letter, bracket}
-use Rattle.formula.specs.Grammar.{signByte, powerText, sumText, termText, factorText}
+use Rattle.formula.specs.Grammar.{signByte, powerText, sumText, termText, factorText, Derives}
 use Rattle.formula.specs.Expansion.{digitsFrom}
-use Rattle.formula.specs.Parts.{sumPolynomial, factorPolynomial}
+use Rattle.formula.specs.Formula.{formulaOf}
+use Rattle.formula.specs.Parts.{sumPolynomial, factorPolynomial, Meets}
+use Rattle.formula.proofs.Texts.{meets-short, Way, no-sum, high, large, meets, way}
 
 -- ---- how long a text is, at least
 join-length : (s u : List ℕ) (b : ℕ) → length (s ++ b ∷ u) ≡ length s + suc (length u)
@@ -21,7 +27,7 @@ number-length [] t = absurd t
 number-length (b ∷ d) t = omega arith
 
 mutual
-  pub sum-length : (a : Sum) → 0 < length (sumText a)
+  sum-length : (a : Sum) → 0 < length (sumText a)
   sum-length (term a) = term-length a
   sum-length (join a g b) = omega (arith, join-length (sumText a) (termText b) (signByte g))
 
@@ -54,7 +60,26 @@ short-factor (letter plain) h = two-linear (pos 0) (pos 1)
 short-factor (letter (power d t)) h = absurd (omega arith)
 short-factor (bracket a p) h = absurd (omega (arith, join-length (sumText a) (powerText p) 41, sum-length a))
 
-pub short-linear : (a : Sum) → length (sumText a) ≤ 2 → (k : ℕ) → 2 ≤ k → coefficientOf (sumPolynomial a) k ≡ pos 0
+short-linear : (a : Sum) → length (sumText a) ≤ 2 → Linear (sumPolynomial a)
 short-linear (term (factor a)) h = short-factor a h
 short-linear (term (times a b)) h = absurd (omega (arith, join-length (termText a) (factorText b) 42, term-length a, factor-length b))
 short-linear (join a g b) h = absurd (omega (arith, join-length (sumText a) (termText b) (signByte g), sum-length a, term-length b))
+
+-- ---- how many coefficients a text has
+pub short-text : (s : List ℕ) (p : List ℤ) → formulaOf s ≡ exact p → length p ≤ length s + 2
+short-text s p e = subst Few e (go (way s))
+  where
+    Few : Value → Type 0
+    Few (exact q) = length q ≤ length s + 2
+    Few (refused n) = Unit {0}
+
+    of-tree : (a : Sum) → Derives s a → Meets (sumPolynomial a) → length (trimmed (sumPolynomial a)) ≤ length s + 2
+    of-tree a d m = ⊎-elim
+        (λ h. omega (arith, trimmed-short 2 (sumPolynomial a) (short-linear a (subst⁻¹ (λ (u : List ℕ). length u ≤ 2) d h))))
+        (λ h. omega (arith, meets-short (sumPolynomial a) m)) (le-or-lt (length s) 2)
+
+    go : Way s → Few (formulaOf s)
+    go (no-sum f q) = subst⁻¹ Few q tt
+    go (high a d w q) = subst⁻¹ Few q tt
+    go (large a d w q) = subst⁻¹ Few q tt
+    go (meets a d h m q) = subst⁻¹ Few q (of-tree a d m)

@@ -3,7 +3,7 @@ use mathlib.Core.Path.{_≡_, refl, sym, ap, subst, subst⁻¹, _∙_}
 use mathlib.Core.List.{List}
 use mathlib.Core.Logic.{inl, inr, ⊎-elim}
 use mathlib.Core.Option.{Option, none, some, Option·none-ne-some}
-use Prim.Native.Nat.{ℕ, zero, suc, _^_, _≤_, _<_}
+use Prim.Native.Nat.{ℕ, zero, suc, _^_, _≤_}
 use native.Mathlib.Omega.{arith}
 use lib.Dec.{lit≤}
 use lib.ListN.{length}
@@ -72,14 +72,14 @@ module _ (s : List ℕ) where
       go (large a t w q) = subst⁻¹ C q e
       go (meets a t w m q) = subst⁻¹ C q (f (sumPolynomial a) m)
 
-  -- ---- for callers: what is answered stands in the array, and a refusal has a number
+  -- ---- for callers: what is answered stands in the array, and a refusal has a number from 13 to 15
   pub few : expandOf s .len ≤ 5
   unfolding expandOf answeredOf
   few = by-way (λ (v : Value). answeredOf v .len ≤ 5) (lit≤ tt) (lit≤ tt) (lit≤ tt) meets-short
 
-  pub refused-number : (n : ℕ) → formulaOf s ≡ refused n → 0 < n
+  pub refused-number : (n : ℕ) → formulaOf s ≡ refused n → (13 ≤ n) × (n ≤ 15)
   refused-number n e = subst Numbered e (by-way Numbered (omega arith) (omega arith) (omega arith) (λ p m. tt))
     where
       Numbered : Value → Type 0
       Numbered (exact p) = Unit {0}
-      Numbered (refused n) = 0 < n
+      Numbered (refused n) = (13 ≤ n) × (n ≤ 15)

@@ -1,23 +1,24 @@
 -- What a formula is answered with, by what it expands to, and that demand 1 holds of it.
 use mathlib.Core.Path.{_≡_, refl, sym, ap, subst, subst⁻¹, _∙_}
 use mathlib.Core.List.{List, []}
-use Prim.Native.Nat.{ℕ, _-_, _≤_}
+use Prim.Native.Nat.{ℕ, _+_, _-_, _≤_}
 use native.Mathlib.Omega.{arith}
 use lib.ListN.{length, take, replicate, length-map}
 use lib.Seq.{take-at}
 use lib.Ieee.{Float, binary64, ofInt}
 use Rattle.float.specs.Literals.{zero64}
 use Rattle.roots.specs.Roots.{listOf, noRoots}
-use Rattle.roots.specs.Listed.{Within}
+use Rattle.roots.specs.Listed.{Within, Fits}
 use Rattle.roots.proofs.Sums.{within-none, within-more}
 use Rattle.poly.specs.declared.Answer.{Answer}
 use Rattle.poly.specs.Coefficients.{degreeLeft}
 use Rattle.poly.specs.RealRoots.{realRootsOf}
-use Rattle.poly.proofs.Sums.{answer-within}
+use Rattle.poly.proofs.Sums.{answer-within, answer-fits}
 use Rattle.parts.specs.Value.{Value, exact, refused}
 use Rattle.formula.specs.declared.Expanded.{Expanded}
 use Rattle.formula.specs.Formula.{formulaOf, floatsOf, answeredOf, expandOf}
 use Rattle.formula.proofs.Texts.{few, refused-number}
+use Rattle.formula.proofs.Short.{short-text}
 use Rattle.formula_roots.specs.FormulaRoots.{handedOn, solvedOf, formulaRootsOf}
 
 -- the coefficients that code hands on
@@ -53,7 +54,7 @@ module _ (s : List ℕ) (tol : Float) (e : Expanded) (h : e ≡ expandOf s) wher
       go (exact p) q = refl
       go (refused n) q =
           let m : n ≡ 0 = sym (ap (λ (x : Expanded). x .number) (is (refused n) q)) ∙ z in
-          absurd (omega (arith, refused-number s n q))
+          absurd (omega (arith, refused-number s n q .0))
 
   -- the coefficients that are handed on stand in the array
   pub in-room : e .len ≤ 5
@@ -72,3 +73,16 @@ formula-within s tol = value-within (formulaOf s) tol
 pub holds : (s : List ℕ) (tol : Float) {a : Answer} → a ≡ formulaRootsOf s tol
     → (a ≡ formulaRootsOf s tol) × Within (degreeLeft (handedOn (formulaOf s))) (listOf (a .roots))
 holds s tol is = (is, subst⁻¹ (λ (a : Answer). Within (degreeLeft (handedOn (formulaOf s))) (listOf (a .roots))) is (formula-within s tol))
+
+-- ---- what holds of every refusal, and of the list's answer to at most two coefficients more than the text has bytes, holds of every answer
+pub answered-by : (P : Answer → Type 0) (s : List ℕ) (tol : Float) → ((n : ℕ) → n ≤ 15 → P (record { number = n; roots = noRoots }))
+    → ((cs : List Float) → length cs ≤ length s + 2 → P (realRootsOf cs tol)) → P (formulaRootsOf s tol)
+unfolding formulaRootsOf solvedOf
+answered-by P s tol refusal answer = go (formulaOf s) refl
+  where
+    go : (v : Value) → formulaOf s ≡ v → P (solvedOf v tol)
+    go (refused n) e = refusal n (refused-number s n e .1)
+    go (exact p) e = answer (floatsOf p) (omega (arith, short-text s p e, length-map p (ofInt binary64)))
+
+pub formula-fits : (s : List ℕ) (tol : Float) → Fits (formulaRootsOf s tol .roots)
+formula-fits s tol = answered-by (λ (a : Answer). Fits (a .roots)) s tol (λ n h. (refl, omega arith)) (λ cs h. answer-fits cs tol)

@@ -7,24 +7,22 @@ use native.Mathlib.Omega.{arith}
 use lib.IntN.{ℤ}
 use lib.Ieee.{Float}
 use Rattle.roots.specs.Roots.{noRoots}
-use Rattle.roots.specs.Listed.{Fits}
 use Rattle.poly.specs.declared.Answer.{Answer}
 use Rattle.poly.specs.RealRoots.{realRootsOf}
 use Rattle.poly.specs.Conditions.{Exactly}
 use Rattle.poly.proofs.Refusals.{number-most, no-root}
-use Rattle.poly.proofs.Sums.{answer-fits}
 use Rattle.parts.specs.Polynomial.{trimmed}
 use Rattle.parts.specs.Value.{Value, exact, refused}
 use Rattle.formula.specs.Grammar.{Sum, Derives}
 use Rattle.formula.specs.Parts.{sumPolynomial, sumParts, Meets, AllMeet, FirstHigh, FirstLarge}
-use Rattle.formula.specs.Formula.{formulaOf, floatsOf, answeredOf, expandOf}
+use Rattle.formula.specs.Formula.{formulaOf, answeredOf, expandOf}
 use Rattle.formula.proofs.Complete.{one-reading}
 use Rattle.formula.proofs.Meaning.{sum-value}
 use Rattle.formula.proofs.Parts.{all-exact, high-refused, large-refused}
 use Rattle.formula.proofs.Texts.{Way, no-sum, high, large, meets, way, derived-judged}
 use Rattle.formula_roots.specs.FormulaRoots.{handedOn, solvedOf, formulaRootsOf}
 use Rattle.formula_roots.specs.Claims.{Constant, Varying, Result, Formulas}
-use Rattle.formula_roots.proofs.Solved.{handed, formula-within}
+use Rattle.formula_roots.proofs.Solved.{handed, formula-within, answered-by, formula-fits}
 use Rattle.formula_roots.proofs.Doubles.{result-of, list-two, list-zero, list-number}
 
 module _ (s : List ℕ) (tol : Float) where
@@ -149,14 +147,6 @@ module _ (s : List ℕ) (tol : Float) where
           ⊎-elim (λ e. inl (is ∙ e)) (λ e. inr (inl (is ∙ e))) (list-number (sumPolynomial a) coeffs (w .0) tol)
 
   -- ---- all of them
-  by-value : (C : Answer → Type 0) → ((n : ℕ) → C (record { number = n; roots = noRoots })) → ((l : List Float) → C (realRootsOf l tol)) → C answer
-  unfolding formulaRootsOf solvedOf
-  by-value C none list = go (formulaOf s)
-    where
-      go : (v : Value) → C (solvedOf v tol)
-      go (refused n) = none n
-      go (exact p) = list (floatsOf p)
-
   stopped : 0 < expandOf s .number → answer .number ≡ expandOf s .number
   unfolding formulaRootsOf solvedOf expandOf answeredOf
   stopped = go (formulaOf s)
@@ -175,6 +165,6 @@ module _ (s : List ℕ) (tol : Float) where
     handed = handed s;
     stopped = stopped;
     roots = formula-within s tol;
-    array = by-value (λ (x : Answer). Fits (x .roots)) (λ n. (refl, omega arith)) (λ l. answer-fits l tol);
-    refused = by-value (λ (x : Answer). 0 < x .number → x .roots ≡ noRoots) (λ n h. refl) (λ l. no-root l tol);
+    array = formula-fits s tol;
+    refused = answered-by (λ (x : Answer). 0 < x .number → x .roots ≡ noRoots) s tol (λ n l h. refl) (λ cs l. no-root cs tol);
   }

@@ -1,9 +1,10 @@
--- What printing needs of the solver's answers: at most four roots, short numbers, k below 8. Of lists, that they have fewer roots than coefficients.
+-- What printing needs of the solver's answers: at most four roots, short numbers, k below 8. Of lists, that they have fewer roots than coefficients; of formulas,
+-- at most one root more than bytes.
 use mathlib.Core.Path.{_≡_, refl, sym, subst}
 use mathlib.Core.Bool.{Bool, true, false, cond}
 use mathlib.Core.Logic.{_⊎_, ⊎-elim}
 use mathlib.Core.List.{List, [], _∷_}
-use Prim.Native.Nat.{ℕ, _-_, _<_, _≤_}
+use Prim.Native.Nat.{ℕ, _+_, _-_, _<_, _≤_}
 use native.Mathlib.Nat.{eq-zero-or-pos}
 use native.Mathlib.Omega.{arith}
 use borrow.Author.Tests.{eqb-true}
@@ -39,6 +40,8 @@ use Rattle.contact.specs.declared.Path.{Path}
 use Rattle.contact.specs.declared.Circle.{Circle}
 use Rattle.contact.specs.Contact.{pinContactOf}
 use Rattle.contact.proofs.Theorem.{contacts}
+use Rattle.formula_roots.specs.FormulaRoots.{formulaRootsOf}
+use Rattle.formula_roots.proofs.Solved.{answered-by}
 use Rattle.listing.specs.Printable.{Printable}
 
 -- A list within demand 1's bounds, in its array.
@@ -139,3 +142,14 @@ contact-short confusion path circle =
       ⊎-elim (λ e. omega (arith, e)) (λ more. ⊎-elim (λ e. omega (arith, e)) (λ m. omega (arith, m .1)) more) (all .numbers .no-other),
       record { fits = all .array; short = omega (arith, all .roots .sum, all .degree) },
     )
+
+-- ---- formulas
+pub record FormulaShort (text : List ℕ) (a : Answer) : Type 0 where
+  pub number : a .number < 100
+  pub roots : Printable (a .roots)
+  pub few : a .roots .len ≤ length text + 1
+
+pub formula-short : (text : List ℕ) (tol : Float) → FormulaShort text (formulaRootsOf text tol)
+formula-short text tol =
+    answered-by (FormulaShort text) text tol (λ n h. record { number = omega arith; roots = none-short; few = omega arith })
+    (λ cs h. let a = list-short cs tol in record { number = a .number; roots = a .roots; few = omega (arith, a .fewer) })

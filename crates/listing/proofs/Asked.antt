@@ -3,7 +3,7 @@ use mathlib.Core.Path.{_≡_, sym, subst}
 use mathlib.Core.List.{List, []}
 use Prim.Native.Nat.{ℕ, _+_, _*_, _-_, _<_, _≤_}
 use native.Mathlib.Omega.{arith}
-use lib.ListN.{length}
+use lib.ListN.{length, drop, length-take}
 use Rattle.float.specs.Bytes.{f64At}
 use Rattle.poly.specs.declared.Answer.{Answer}
 use Rattle.equation.specs.declared.QuadraticAnswer.{QuadraticAnswer}
@@ -11,14 +11,14 @@ use Rattle.crank.specs.declared.CrankAnswer.{CrankAnswer}
 use Rattle.lent_bytes.specs.Bytes.{f64sAt}
 use Rattle.lent_bytes.proofs.Doubles.{f64s-length}
 use Rattle.records.specs.declared.Kind.{Kind}
-use Rattle.records.specs.declared.Kind.the-variants.{Polynomial, Quadratic, Crank, Contact, Unknown}
+use Rattle.records.specs.declared.Kind.the-variants.{Polynomial, Quadratic, Crank, Contact, Formula, Unknown}
 use Rattle.records.specs.declared.Record.{Record}
 use Rattle.records.specs.Records.{countAt}
-use Rattle.listing.specs.Answers.{polynomialAt, quadraticAt, crankAt, pathAt, circleAt, contactAt}
+use Rattle.listing.specs.Answers.{polynomialAt, quadraticAt, crankAt, pathAt, circleAt, contactAt, textAt, formulaAt}
 use Rattle.listing.specs.Lines.{polynomialText, quadraticText, crankText, answerText, wordsOf}
 use Rattle.listing.specs.Printable.{Printable}
 use Rattle.listing.proofs.Texts.{or-length, polynomial-length, quadratic-length, crank-length}
-use Rattle.listing.proofs.Answers.{ListShort, list-short, quadratic-short, CrankShort, crank-short, contact-short}
+use Rattle.listing.proofs.Answers.{ListShort, list-short, quadratic-short, CrankShort, crank-short, contact-short, FormulaShort, formula-short}
 
 module _ (s : List ℕ) (at : ℕ) where
   polynomial-at-short : ListShort (f64sAt (countAt s at) s (at + 11)) (polynomialAt s at)
@@ -37,6 +37,10 @@ module _ (s : List ℕ) (at : ℕ) where
   unfolding contactAt
   contact-at-short = contact-short (f64At s (at + 2)) (pathAt s at) (circleAt s at)
 
+  formula-at-short : FormulaShort (textAt s at) (formulaAt s at)
+  unfolding formulaAt
+  formula-at-short = formula-short (textAt s at) (f64At s (at + 3))
+
   -- ---- what printing them asks
   pub polynomial-prints : (r : Answer) → r ≡ polynomialAt s at → (r .number < 100) × Printable (r .roots)
   polynomial-prints r e =
@@ -52,6 +56,10 @@ module _ (s : List ℕ) (at : ℕ) where
 
   pub contact-prints : (r : Answer) → r ≡ contactAt s at → (r .number < 100) × Printable (r .roots)
   contact-prints r e = subst (λ (a : Answer). (a .number < 100) × Printable (a .roots)) (sym e) contact-at-short
+
+  pub formula-prints : (r : Answer) → r ≡ formulaAt s at → (r .number < 100) × Printable (r .roots)
+  formula-prints r e =
+      subst (λ (a : Answer). (a .number < 100) × Printable (a .roots)) (sym e) (formula-at-short .number, formula-at-short .roots)
 
   -- ---- the text of each kind, from the answer
   pub polynomial-text : (k : Kind) (r : Answer) → k ≡ Polynomial → r ≡ polynomialAt s at → polynomialText r ≡ answerText k s at
@@ -70,6 +78,10 @@ module _ (s : List ℕ) (at : ℕ) where
   unfolding answerText
   contact-text k r e f = rw (e, f)
 
+  pub formula-text : (k : Kind) (r : Answer) → k ≡ Formula → r ≡ formulaAt s at → polynomialText r ≡ answerText k s at
+  unfolding answerText
+  formula-text k r e f = rw (e, f)
+
   pub unknown-text : (k : Kind) → k ≡ Unknown → [] ≡ answerText k s at
   unfolding answerText
   unknown-text k e = rw e
@@ -85,6 +97,13 @@ module _ (s : List ℕ) (at : ℕ) where
   unfolding answerText
   quadratic-at-length = quadratic-length (quadraticAt s at) quadratic-at-short
 
+  formula-length : length (polynomialText (formulaAt s at)) ≤ 10 + 22 * formulaAt s at .roots .len
+  formula-length = let a = formula-at-short in polynomial-length (formulaAt s at) (a .number) (a .roots)
+
+  pub formula-at-length : length (answerText Formula s at) ≤ 10 + 22 * (countAt s at + 1)
+  unfolding answerText
+  formula-at-length = let a = formula-at-short in omega (arith, formula-length, a .few, length-take (countAt s at) (drop (at + 11) s))
+
   pub answer-length : (kind : Kind) → length (answerText kind s at) ≤ 98
   unfolding answerText
   answer-length Polynomial =
@@ -97,6 +116,7 @@ module _ (s : List ℕ) (at : ℕ) where
   answer-length Contact =
       let a = contact-at-short in
       omega (arith, polynomial-length (contactAt s at) (a .0) (a .1), a .1 .fits .1)
+  answer-length Formula = let a = formula-at-short in omega (arith, formula-length, a .roots .fits .1)
   answer-length Unknown = omega arith
 
   pub words-length : (found : Record) → found .number < 100 → length (wordsOf s at found) ≤ 98

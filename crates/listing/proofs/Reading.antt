@@ -40,7 +40,7 @@ sofar-none l s =
 
 module _ {l s o : List ℕ} {at n w : ℕ} (sofar : Sofar l s o at n w) where
   -- what is stored is a part of the lines
-  pub sofar-short : length s ≤ 65536 → w ≤ 163860
+  pub sofar-short : length s ≤ 65536 → w ≤ 524308
   sofar-short h =
       omega (arith, sofar .written .place, length-append (sofar .text) (linesFrom (sofar .fuel) s at n), ap length (sofar .rest), all-lines-fit s h)
 

@@ -1,6 +1,7 @@
 -- The solver's answers to the numbers of a record that stands whole. Definitions only.
 use mathlib.Core.List.{List}
 use Prim.Native.Nat.{ℕ, _+_}
+use lib.ListN.{take, drop}
 use Rattle.float.specs.Bytes.{f64At}
 use Rattle.lent_bytes.specs.Bytes.{f64sAt}
 use Rattle.poly.specs.declared.Answer.{Answer}
@@ -12,6 +13,7 @@ use Rattle.crank.specs.Crank.{crankOf}
 use Rattle.contact.specs.declared.Path.{Path}
 use Rattle.contact.specs.declared.Circle.{Circle}
 use Rattle.contact.specs.Contact.{pinContactOf}
+use Rattle.formula_roots.specs.FormulaRoots.{formulaRootsOf}
 use Rattle.records.specs.Records.{countAt}
 
 -- 'PL: count byte, tolerance, that many coefficients'
@@ -49,3 +51,10 @@ circleAt s at = record { cx = f64At s (at + 58); cy = f64At s (at + 66); r = f64
 
 unfoldable pub contactAt : List ℕ → ℕ → Answer
 contactAt s at = pinContactOf (f64At s (at + 2)) (pathAt s at) (circleAt s at)
+
+-- 'A record TX holds a length byte 0 to 255, a tolerance and that much ASCII'
+abbrev pub textAt : List ℕ → ℕ → List ℕ
+textAt s at = take (countAt s at) (drop (at + 11) s)
+
+unfoldable pub formulaAt : List ℕ → ℕ → Answer
+formulaAt s at = formulaRootsOf (textAt s at) (f64At s (at + 3))

@@ -15,11 +15,11 @@ use Rattle.solution.specs.declared.QuadraticSolution.the-variants.{Two, One, Li
 use Rattle.equation.specs.declared.QuadraticAnswer.{QuadraticAnswer}
 use Rattle.crank.specs.declared.CrankAnswer.{CrankAnswer}
 use Rattle.records.specs.declared.Kind.{Kind}
-use Rattle.records.specs.declared.Kind.the-variants.{Polynomial, Quadratic, Crank, Contact, Unknown}
+use Rattle.records.specs.declared.Kind.the-variants.{Polynomial, Quadratic, Crank, Contact, Formula, Unknown}
 use Rattle.records.specs.declared.Record.{Record}
 use Rattle.records.specs.Marks.{markOf}
 use Rattle.listing.specs.Words.{refused, ok, two, one, linear, degenerate, empty, letterOf}
-use Rattle.listing.specs.Answers.{polynomialAt, quadraticAt, crankAt, contactAt}
+use Rattle.listing.specs.Answers.{polynomialAt, quadraticAt, crankAt, contactAt, formulaAt}
 
 -- ---- places and roots
 
@@ -77,13 +77,14 @@ crankText a = orRefused (a .number) (ok ++ (decimal (a .k) ++ (32 ∷ rootsText 
 
 -- ---- the line
 
--- what the solver answers to a record that stands whole; of PC: 'The line prints like PL'
+-- what the solver answers to a record that stands whole; of PC: 'The line prints like PL', of TX: 'whose answer or refusal prints like PL'
 unfoldable pub answerText : Kind → List ℕ → ℕ → List ℕ
-unfolding polynomialText quadraticText crankText polynomialAt quadraticAt crankAt contactAt
+unfolding polynomialText quadraticText crankText polynomialAt quadraticAt crankAt contactAt formulaAt
 answerText Polynomial s at = polynomialText (polynomialAt s at)
 answerText Quadratic s at = quadraticText (quadraticAt s at)
 answerText Crank s at = crankText (crankAt s at)
 answerText Contact s at = polynomialText (contactAt s at)
+answerText Formula s at = polynomialText (formulaAt s at)
 answerText Unknown s at = []
 
 -- what stands behind the mark

@@ -156,6 +156,7 @@ fn put_answer(out: &mut [u8], w: usize, s: &[u8], at: usize, kind: Kind) -> usiz
         Kind::Quadratic => put_quadratic(out, w, crate::numbers::quadratic_at(s, at)),
         Kind::Crank => put_crank(out, w, crate::numbers::crank_at(s, at)),
         Kind::Contact => put_polynomial(out, w, crate::numbers::contact_at(s, at)),
+        Kind::Formula => put_polynomial(out, w, crate::numbers::formula_at(s, at)),
         Kind::Unknown => w,
     }
 }

@@ -1,8 +1,8 @@
-// What the solver answers to the numbers of a record that stands whole.
+// What the solver answers to the numbers, or the text, of a record that stands whole.
 ghost use mathlib.Core.Path.{_≡_};
 ghost use Rattle.records.specs.Records.{Whole};
-ghost use Rattle.listing.specs.Answers.{polynomialAt, quadraticAt, crankAt, contactAt};
-ghost use Rattle.records.specs.declared.Kind.the-variants.{Polynomial, Quadratic, Crank, Contact};
+ghost use Rattle.listing.specs.Answers.{polynomialAt, quadraticAt, crankAt, contactAt, formulaAt};
+ghost use Rattle.records.specs.declared.Kind.the-variants.{Polynomial, Quadratic, Crank, Contact, Formula};
 use contact::Circle;
 use contact::Path;
 use crank::CrankAnswer;
@@ -65,4 +65,15 @@ pub fn contact_at(s: &[u8], at: usize) -> Answer
         r: f64_at(s, at + 74),
     };
     contact::pin_contact(confusion, path, circle)
+}
+
+pub fn formula_at(s: &[u8], at: usize) -> Answer
+    requires { ⌜ Whole Formula (now s) at ⌝ }
+    ensures { λ r. ⌜ r ≡ formulaAt (now (s .entry)) at ⌝ }
+{
+    let length = s[at + 2] as usize;
+    let tol = f64_at(s, at + 3);
+    let text = at + 11;
+    let end = text + length;
+    formula_roots::formula_roots(&s[text..end], tol)
 }

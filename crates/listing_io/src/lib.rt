@@ -10,10 +10,10 @@ ghost use Rattle.io.specs.Counts.{Counts};
 ghost use Rattle.listing.specs.File.{listing};
 
 // Room for every listing (`listing-fits`).
-pub fn output_buffer() -> [u8; 163860]
-    ensures { λ r. ⌜ 163860 ≡ length r ⌝ }
+pub fn output_buffer() -> [u8; 524308]
+    ensures { λ r. ⌜ 524308 ≡ length r ⌝ }
 {
-    [0; 163860]
+    [0; 524308]
 }
 
 // How many bytes were read, none where a read failed, and how many their listing has.
@@ -24,7 +24,7 @@ pub struct ListedFile {
 }
 
 // Reads fd to its end, or until file is full, and stores the listing of what was read from the start of out on.
-pub fn list_fd(fd: i32, file: &mut [u8], out: &mut [u8; 163860]) -> ListedFile
+pub fn list_fd(fd: i32, file: &mut [u8], out: &mut [u8; 524308]) -> ListedFile
     ensures { λ r. ⌜ r .read ≤ length (now (file .exit)) ⌝ }
     ensures { λ r. ⌜ (r .failed ≡ true → r .read ≡ 0) ⌝ }
     ensures { λ r. ⌜ r .len ≡ length (listing (take (r .read) (now (file .exit)))) ⌝ }

@@ -3,3 +3,4 @@ pub mod Inquiries
 pub mod Cranks
 pub mod Quadratics
 pub mod Contacts
+pub mod Formulas

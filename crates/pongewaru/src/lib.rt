@@ -4,6 +4,7 @@
 pub mod contacts;
 pub mod cranks;
 pub mod files;
+pub mod formulas;
 pub mod inquiries;
 pub mod lists;
 pub mod quadratics;

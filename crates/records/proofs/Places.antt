@@ -8,11 +8,11 @@ use borrow.Author.Tests.{le-ltb, ltb-false}
 use lib.Dec.{ltb}
 use lib.ListN.{length}
 use Rattle.records.specs.declared.Kind.{Kind}
-use Rattle.records.specs.declared.Kind.the-variants.{Polynomial, Quadratic, Crank, Contact, Unknown}
+use Rattle.records.specs.declared.Kind.the-variants.{Polynomial, Quadratic, Crank, Contact, Formula, Unknown}
 use Rattle.records.specs.declared.Record.{Record}
 use Rattle.refusals.specs.Refusals.{unknownMark, cut, countTooLarge, fileTooLong}
 use Rattle.records.specs.Marks.{kindAt}
-use Rattle.records.specs.Records.{countAt, endedOf, heldOf, polynomialRecord, recordOf, recordAt, Sound}
+use Rattle.records.specs.Records.{countAt, endedOf, heldOf, polynomialRecord, formulaRecord, recordOf, recordAt, Sound}
 
 -- a record whose mark was read
 pub record-of : (s : List ℕ) (at : ℕ) → 2 ≤ length s - at → (k m : Kind) → k ≡ kindAt s at → k ≡ m → recordOf m s at ≡ recordAt s at
@@ -36,7 +36,8 @@ module _ (P : Record → Type 0) (s : List ℕ) (at : ℕ) (ends : (kind : Kind)
       (polynomial : countAt s at ≤ 32 → at + (11 + 8 * countAt s at) ≤ length s → P (wholeOf Polynomial (at + (11 + 8 * countAt s at))))
       (quadratic : at + 42 ≤ length s → P (wholeOf Quadratic (at + 42)))
       (crank : at + 50 ≤ length s → P (wholeOf Crank (at + 50)))
-      (contact : at + 82 ≤ length s → P (wholeOf Contact (at + 82))) where
+      (contact : at + 82 ≤ length s → P (wholeOf Contact (at + 82)))
+      (formula : at + (11 + countAt s at) ≤ length s → P (wholeOf Formula (at + (11 + countAt s at)))) where
     polynomial-by : P (polynomialRecord s at)
     unfolding polynomialRecord
     polynomial-by = go (ltb (length s - at) 3) (ltb 32 (countAt s at)) refl
@@ -50,12 +51,24 @@ module _ (P : Record → Type 0) (s : List ℕ) (at : ℕ) (ends : (kind : Kind)
         go false true e = ends Polynomial countTooLarge (omega arith) (omega arith)
         go false false e = held-by Polynomial size (omega arith) (polynomial (ltb-false 32 (countAt s at) e))
 
+    formula-by : P (formulaRecord s at)
+    unfolding formulaRecord
+    formula-by = go (ltb (length s - at) 3)
+      where
+        size : ℕ
+        size = 11 + countAt s at
+
+        go : (b : Bool) → P (cond b (endedOf Formula cut s) (heldOf Formula size s at))
+        go true = ends Formula cut (omega arith) (omega arith)
+        go false = held-by Formula size (omega arith) formula
+
     of-by : (k : Kind) → P (recordOf k s at)
     unfolding recordOf
     of-by Polynomial = polynomial-by
     of-by Quadratic = held-by Quadratic 42 (omega arith) quadratic
     of-by Crank = held-by Crank 50 (omega arith) crank
     of-by Contact = held-by Contact 82 (omega arith) contact
+    of-by Formula = formula-by
     of-by Unknown = ends Unknown unknownMark (omega arith) (omega arith)
 
     pub record-by : P (recordAt s at)
@@ -80,6 +93,7 @@ module _ (s : List ℕ) (at : ℕ) where
       (λ c h. record { short = omega arith; whole = λ e. (c, h) })
       (λ h. record { short = omega arith; whole = λ e. h })
       (λ h. record { short = omega arith; whole = λ e. h })
+      (λ h. record { short = omega arith; whole = λ e. h })
       (λ h. record { short = omega arith; whole = λ e. h }))
 
 -- reading goes on past at, and not past the end
@@ -91,6 +105,7 @@ pub record-forward : (s : List ℕ) (at : ℕ) → at < length s → Forward s a
 record-forward s at inside =
     record-by (Forward s at) s at (λ kind number h k. record { past = inside; within = omega arith })
     (λ c h. record { past = omega arith; within = h })
+    (λ h. record { past = omega arith; within = h })
     (λ h. record { past = omega arith; within = h })
     (λ h. record { past = omega arith; within = h })
     (λ h. record { past = omega arith; within = h })

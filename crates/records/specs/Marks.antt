@@ -5,14 +5,15 @@ use Prim.Native.Nat.{ℕ, _+_}
 use lib.Dec.{eqb}
 use lib.ListN.{getD}
 use Rattle.records.specs.declared.Kind.{Kind}
-use Rattle.records.specs.declared.Kind.the-variants.{Polynomial, Quadratic, Crank, Contact, Unknown}
+use Rattle.records.specs.declared.Kind.the-variants.{Polynomial, Quadratic, Crank, Contact, Formula, Unknown}
 
--- `PL`, `QD`, `TG`, `PC`; 'Where no whole known mark was read the mark prints as `--`'
+-- `PL`, `QD`, `TG`, `PC`, `TX`; 'Where no whole known mark was read the mark prints as `--`'
 abbrev pub markOf : Kind → List ℕ
 markOf Polynomial = 80 ∷ 76 ∷ []
 markOf Quadratic = 81 ∷ 68 ∷ []
 markOf Crank = 84 ∷ 71 ∷ []
 markOf Contact = 80 ∷ 67 ∷ []
+markOf Formula = 84 ∷ 88 ∷ []
 markOf Unknown = 45 ∷ 45 ∷ []
 
 -- whether the two bytes from at on are the mark
@@ -33,4 +34,5 @@ kindAt s at =
     let kind = markedOf Quadratic kind s at in
     let kind = markedOf Crank kind s at in
     let kind = markedOf Contact kind s at in
+    let kind = markedOf Formula kind s at in
     kind

@@ -7,11 +7,11 @@ use lib.Dec.{ltb}
 use lib.ListN.{length, getD}
 use Rattle.refusals.specs.Refusals.{unknownMark, cut, countTooLarge}
 use Rattle.records.specs.declared.Kind.{Kind}
-use Rattle.records.specs.declared.Kind.the-variants.{Polynomial, Quadratic, Crank, Contact, Unknown}
+use Rattle.records.specs.declared.Kind.the-variants.{Polynomial, Quadratic, Crank, Contact, Formula, Unknown}
 use Rattle.records.specs.declared.Record.{Record}
 use Rattle.records.specs.Marks.{kindAt}
 
--- the count byte of a PL record
+-- the count byte of a PL record, the length byte of a TX record
 abbrev pub countAt : List ℕ → ℕ → ℕ
 countAt s at = getD s (at + 2) 0
 
@@ -30,13 +30,19 @@ polynomialRecord s at =
     cond (ltb (length s - at) 3) (endedOf Polynomial cut s)
     (cond (ltb 32 (countAt s at)) (endedOf Polynomial countTooLarge s) (heldOf Polynomial (11 + 8 * countAt s at) s at))
 
+-- 'A record TX holds a length byte 0 to 255, a tolerance and that much ASCII'; '7, no count byte'
+unfoldable pub formulaRecord : List ℕ → ℕ → Record
+unfolding heldOf
+formulaRecord s at = cond (ltb (length s - at) 3) (endedOf Formula cut s) (heldOf Formula (11 + countAt s at) s at)
+
 -- a record whose whole mark was read; QD has five numbers, TG six, PC ten
 unfoldable pub recordOf : Kind → List ℕ → ℕ → Record
-unfolding heldOf polynomialRecord
+unfolding heldOf polynomialRecord formulaRecord
 recordOf Polynomial s at = polynomialRecord s at
 recordOf Quadratic s at = heldOf Quadratic 42 s at
 recordOf Crank s at = heldOf Crank 50 s at
 recordOf Contact s at = heldOf Contact 82 s at
+recordOf Formula s at = formulaRecord s at
 recordOf Unknown s at = endedOf Unknown unknownMark s
 
 -- '7, bytes end inside the mark'
@@ -52,6 +58,7 @@ Whole Polynomial s at = (countAt s at ≤ 32) × (at + (11 + 8 * countAt s at) �
 Whole Quadratic s at = at + 42 ≤ length s
 Whole Crank s at = at + 50 ≤ length s
 Whole Contact s at = at + 82 ≤ length s
+Whole Formula s at = at + (11 + countAt s at) ≤ length s
 Whole Unknown s at = Unit {0}
 
 -- the record is refused, or stands whole at at

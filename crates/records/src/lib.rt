@@ -4,7 +4,7 @@ ghost use mathlib.Core.Path.{_≡_};
 ghost use Prim.Native.Nat.{_+_, _^_, _≤_, _<_};
 ghost use lib.ListN.{length};
 ghost use Rattle.records.specs.Marks.{markOf, isMark, markedOf, kindAt};
-ghost use Rattle.records.specs.Records.{endedOf, heldOf, polynomialRecord, recordAt};
+ghost use Rattle.records.specs.Records.{endedOf, heldOf, polynomialRecord, formulaRecord, recordAt};
 
 // A record's mark says its kind.
 pub enum Kind {
@@ -12,6 +12,7 @@ pub enum Kind {
     Quadratic,
     Crank,
     Contact,
+    Formula,
     Unknown,
 }
 
@@ -31,6 +32,7 @@ pub fn mark(kind: Kind) -> [u8; 2]
         Kind::Quadratic => *b"QD",
         Kind::Crank => *b"TG",
         Kind::Contact => *b"PC",
+        Kind::Formula => *b"TX",
         Kind::Unknown => *b"--",
     }
 }
@@ -66,6 +68,7 @@ fn kind_at(s: &[u8], at: usize) -> Kind
     kind = marked(s, at, Kind::Quadratic, kind);
     kind = marked(s, at, Kind::Crank, kind);
     kind = marked(s, at, Kind::Contact, kind);
+    kind = marked(s, at, Kind::Formula, kind);
     kind
 }
 
@@ -110,6 +113,18 @@ fn polynomial_record(s: &[u8], at: usize) -> Record
     held(s, at, Kind::Polynomial, 11 + 8 * count)
 }
 
+// A length byte, a tolerance, and as many bytes of text as the length says.
+fn formula_record(s: &[u8], at: usize) -> Record
+    requires { ⌜ at + 2 ≤ length (now s) ⌝ }
+    ensures { λ r. ⌜ r ≡ formulaRecord (now (s .entry)) at ⌝ }
+{
+    if s.len() - at < 3 {
+        return ended(s, Kind::Formula, refusals::CUT);
+    }
+    let length = s[at + 2] as usize;
+    held(s, at, Kind::Formula, 11 + length)
+}
+
 pub fn record_at(s: &[u8], at: usize) -> Record
     requires { ⌜ at ≤ length (now s) ⌝ }
     ensures { λ r. ⌜ r ≡ recordAt (now (s .entry)) at ⌝ }
@@ -123,6 +138,7 @@ pub fn record_at(s: &[u8], at: usize) -> Record
         Kind::Quadratic => held(s, at, Kind::Quadratic, 42),
         Kind::Crank => held(s, at, Kind::Crank, 50),
         Kind::Contact => held(s, at, Kind::Contact, 82),
+        Kind::Formula => formula_record(s, at),
         Kind::Unknown => ended(s, Kind::Unknown, refusals::UNKNOWN_MARK),
     }
 }

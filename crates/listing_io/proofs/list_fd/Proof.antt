@@ -12,7 +12,7 @@ use Rattle.io.specs.Counts.{Counts}
 use Rattle.listing_io.proofs.list_fd.Statement.{statement}
 use Rattle.listing_io.proofs.list_fd.Tie as tie
 
-counts : (n : ℕ) (s out : List ℕ) → n ≡ length (listing s) → length out ≡ 163860 → Counts n out
+counts : (n : ℕ) (s out : List ℕ) → n ≡ length (listing s) → length out ≡ 524308 → Counts n out
 counts n s out e k = let fits : n ≤ length out = omega (arith, listing-fits s) in (fits, sym (length-take-le n out fits))
 
 slice-aggregate-list-file : tie.Need-slice-aggregate-list-file
@@ -23,7 +23,7 @@ slice-aggregate-list-file c =
 returns : tie.Need-returns
 returns c =
     let listed = c .list-file in
-    let room : length (listed .last .1 .0) ≡ 163860 = search needs in
+    let room : length (listed .last .1 .0) ≡ 524308 = search needs in
     let lent = c .before .before in
     let read = lent .before .before .before .read-file .ensures in
     let count = counts (listed .result) _ (listed .last .1 .0) (listed .ensures .0) room in

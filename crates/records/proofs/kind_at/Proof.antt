@@ -9,4 +9,4 @@ unfolding kindAt
 returns c = cc
 
 pub kind-at-spec : {M : Type 1} → statement M
-kind-at-spec = tie.close (tie.spec (λ c κs. search needs) (λ c κs. search needs) (λ c κs. search needs) (λ c κs. search needs) returns)
+kind-at-spec = tie.close (tie.spec (λ c κs. search needs) (λ c κs. search needs) (λ c κs. search needs) (λ c κs. search needs) (λ c κs. search needs) returns)

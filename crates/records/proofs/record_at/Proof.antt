@@ -53,8 +53,17 @@ returns-6 c =
     let after-kind-at = c .before .before .before in
     let first-test = after-kind-at .before in
     let start = first-test .before .before in
-    c .ended2 .ensures
+    c .formula-record .ensures
     ∙ record-of (start .args .s .now) (start .args .at) (first-test .if1 .left) _ _ (after-kind-at .kind-at .ensures) (c .before .enum-told5 .given .1)
+
+returns-7 : tie.Need-returns-7
+unfolding recordOf
+returns-7 c =
+    let after-kind-at = c .before .before .before in
+    let first-test = after-kind-at .before in
+    let start = first-test .before .before in
+    c .ended2 .ensures
+    ∙ record-of (start .args .s .now) (start .args .at) (first-test .if1 .left) _ _ (after-kind-at .kind-at .ensures) (c .before .enum-told6 .given .1)
 
 pub record-at-spec : {M : Type 1} → statement M
 record-at-spec =
@@ -74,8 +83,11 @@ record-at-spec =
     (λ c κs. search needs)
     (λ c. search needs)
     (λ c κs. search needs)
+    (λ c. search needs)
+    (λ c κs. search needs)
     returns-2
     returns-3
     returns-4
     returns-5
-    returns-6)
+    returns-6
+    returns-7)

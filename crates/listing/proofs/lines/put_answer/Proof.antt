@@ -3,8 +3,8 @@ use mathlib.Core.Path.{subst}
 use Rattle.text.proofs.Laws.{written-none, written-as}
 use Rattle.records.specs.declared.Kind.{Kind}
 use Rattle.records.specs.Records.{Whole}
-use Rattle.listing.proofs.Asked.{polynomial-prints, quadratic-prints, crank-prints, contact-prints}
-use Rattle.listing.proofs.Asked.{polynomial-text, quadratic-text, crank-text, contact-text, unknown-text}
+use Rattle.listing.proofs.Asked.{polynomial-prints, quadratic-prints, crank-prints, contact-prints, formula-prints}
+use Rattle.listing.proofs.Asked.{polynomial-text, quadratic-text, crank-text, contact-text, formula-text, unknown-text}
 use borrow.Author.Needs.{needs}
 use Rattle.listing.proofs.lines.put_answer.Statement.{statement}
 use Rattle.listing.proofs.lines.put_answer.Tie as tie
@@ -65,6 +65,20 @@ put-polynomial-requires-2 c κs =
     let start = lent .before in
     (start .pre .0, contact-prints (start .args .s .now) (start .args .at) (c .contact-at .result) (c .contact-at .ensures))
 
+formula-at-requires : tie.Need-formula-at-requires
+formula-at-requires c κs =
+    let told = c .before in
+    let lent = told .before .before .before in
+    let start = lent .before in
+    subst (λ (k : Kind). Whole k (start .args .s .now) (start .args .at)) (told .enum-told5 .given .1) (start .pre .1)
+
+put-polynomial-requires-3 : tie.Need-put-polynomial-requires-3
+put-polynomial-requires-3 c κs =
+    let told = c .before .before in
+    let lent = told .before .before .before in
+    let start = lent .before in
+    (start .pre .0, formula-prints (start .args .s .now) (start .args .at) (c .formula-at .result) (c .formula-at .ensures))
+
 returns : tie.Need-returns
 returns c =
     let put = c .before .before in
@@ -107,9 +121,19 @@ returns-4 c =
 
 returns-5 : tie.Need-returns-5
 returns-5 c =
+    let put = c .before .before in
+    let answer = put .before in
+    let told = answer .before .before in
+    let lent = told .before .before .before in
+    let start = lent .before in
+    written-as (formula-text (start .args .s .now) (start .args .at) _ _ (told .enum-told5 .given .1) (answer .formula-at .ensures))
+    (put .put-polynomial3 .ensures)
+
+returns-6 : tie.Need-returns-6
+returns-6 c =
     let lent = c .before .before .before in
     let start = lent .before in
-    written-as (unknown-text (start .args .s .now) (start .args .at) _ (c .enum-told5 .given .1)) (written-none (start .args .out .now) (start .args .w))
+    written-as (unknown-text (start .args .s .now) (start .args .at) _ (c .enum-told6 .given .1)) (written-none (start .args .out .now) (start .args .w))
 
 pub put-answer-spec : {M : Type 1} → statement M
 put-answer-spec =
@@ -128,6 +152,9 @@ put-answer-spec =
     contact-at-requires
     put-polynomial-requires-2
     (λ c. search needs)
+    formula-at-requires
+    put-polynomial-requires-3
+    (λ c. search needs)
     (λ c. search needs)
     returns
     (λ c. search needs)
@@ -136,4 +163,6 @@ put-answer-spec =
     returns-3
     (λ c. search needs)
     returns-4
-    returns-5)
+    (λ c. search needs)
+    returns-5
+    returns-6)
