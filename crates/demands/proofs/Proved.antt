@@ -43,6 +43,7 @@ use Rattle.contact.proofs.Theorem.{contacts}
 use Rattle.formula.specs.Formula.{formulaOf}
 use Rattle.formula_roots.specs.FormulaRoots.{handedOn}
 use Rattle.formula_roots.proofs.Solved.{answered-by, formula-doubles, formula-solved}
+use Rattle.formula_roots.proofs.Theorem.{formulas}
 use Rattle.demands.specs.Table.{table}
 use Rattle.demands.specs.Example.{ascii}
 use Rattle.demands.specs.Demands.{Demands, SquareRoot, CubeRoot, Third, Logarithm, ScaledCoefficients, FactorDegrees}
@@ -176,6 +177,7 @@ pin-contacts = record {
 typed-formulas : TypedFormulas
 unfolding formulaOf ascii
 typed-formulas = record {
+  every = formulas;
   polished = λ s tol e. simple-roots .polished (handedOn (formulaOf s)) tol (formula-doubles s) (formula-solved s tol e);
   kinds = λ s tol.
       answered-by (λ (a : Answer). NeverBrush (listOf (a .roots))) s tol (λ n h k l. absurd (omega (arith, l))) (λ cs h. kinds .list cs tol);

@@ -7,6 +7,7 @@ use Prim.Native.Nat.{ℕ, zero, suc, _+_, _*_, _≤_}
 use native.Mathlib.Omega.{arith}
 use lib.Dec.{T, eqb, eqb→eq}
 use lib.ListN.{length, length-append}
+use lib.Ieee.Bits.{is-true}
 use lib.Ieee.Fits.{and-l, and-r}
 use Rattle.formula.specs.Grammar.{isDigit, allDigits, isNumber, Number, Sign, plus, minus, Power, plain, power, Sum, term, join, Term, factor, times, Factor, number, letter, bracket, signByte, powerText, sumText, termText, factorText}
 use Rattle.formula.specs.Reading.{Read, fails, reads, andThen, ifSome, after, afterSign, digitsOf, behindDigits, checked, numberOf, readDigit, readPower, readNumber, readUnit, readClosed, readSum, moreTerms, readTerm, moreFactors, readFactor, whole, readingOf}
@@ -21,9 +22,6 @@ record Ends (s : List ℕ) : Type 0 where
 pub checked-true : {A : Type 0} (b : Bool) (f : T b → A) (t : T b) → checked b f ≡ some (f t)
 checked-true true f t = refl
 
-true-is : (b : Bool) → T b → b ≡ true
-true-is true t = refl
-
 unlike-digit : (c b : ℕ) (s : List ℕ) → isDigit c ≡ false → T (isDigit b) → after c (b ∷ s) ≡ none
 unlike-digit c b s e d = go (eqb b c) (λ t. subst T (ap isDigit (eqb→eq b c t) ∙ e) d)
   where
@@ -34,13 +32,13 @@ unlike-digit c b s e d = go (eqb b c) (λ t. subst T (ap isDigit (eqb→eq b c t
 digits-of : (d rest : List ℕ) → T (allDigits d) → digitsOf rest ≡ [] → digitsOf (d ++ rest) ≡ d
 digits-of [] rest t e = e
 digits-of (b ∷ d) rest t e =
-    ap (λ (x : Bool). cond x (b ∷ digitsOf (d ++ rest)) []) (true-is (isDigit b) (and-l (isDigit b) (allDigits d) t))
+    ap (λ (x : Bool). cond x (b ∷ digitsOf (d ++ rest)) []) (is-true (isDigit b) (and-l (isDigit b) (allDigits d) t))
     ∙ ap (λ (x : List ℕ). b ∷ x) (digits-of d rest (and-r (isDigit b) (allDigits d) t) e)
 
 behind-of : (d rest : List ℕ) → T (allDigits d) → digitsOf rest ≡ [] → behindDigits (d ++ rest) ≡ rest
 behind-of [] rest t e = ap (λ (x : List ℕ). x ++ behindDigits rest) (sym e) ∙ digits-are rest
 behind-of (b ∷ d) rest t e =
-    ap (λ (x : Bool). cond x (behindDigits (d ++ rest)) (b ∷ d ++ rest)) (true-is (isDigit b) (and-l (isDigit b) (allDigits d) t))
+    ap (λ (x : Bool). cond x (behindDigits (d ++ rest)) (b ∷ d ++ rest)) (is-true (isDigit b) (and-l (isDigit b) (allDigits d) t))
     ∙ behind-of d rest (and-r (isDigit b) (allDigits d) t) e
 
 -- ---- factors

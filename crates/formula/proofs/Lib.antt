@@ -6,5 +6,7 @@ pub mod Factors
 pub mod Cursors
 pub mod Cycle
 pub mod Whole
-pub mod Theorem
+pub mod Parts
+pub mod Meaning
+pub mod Texts
 pub mod Short

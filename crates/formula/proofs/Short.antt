@@ -1,83 +1,85 @@
--- A short text has few coefficients: at most two more than it has bytes. (With three bytes or more there are at most five whatever the text.)
-use mathlib.Core.Path.{_≡_, refl, subst}
-use mathlib.Core.List.{List, [], _∷_}
-use mathlib.Core.Option.{Option, none, some}
-use Prim.Native.Nat.{ℕ, _+_, _≤_, _<_}
+-- A text of one or two bytes has no power of t but t itself; so a text has at most two coefficients more than bytes: `short-text`.
+use mathlib.Core.Path.{_≡_, refl, subst, subst⁻¹}
+use mathlib.Core.List.{List, [], _∷_, _++_}
+use mathlib.Core.Logic.{⊎-elim}
+use Prim.Native.Nat.{ℕ, zero, suc, _+_, _≤_, _<_}
 use native.Mathlib.Omega.{arith}
-use lib.Dec.{T, eqb, ltb, lit≤}
+use lib.Dec.{T}
 use lib.ListN.{length, length-append}
-use lib.IntN.{ℤ, pos, natAbs}
-use Rattle.facts.specs.Cond.{either-way}
-use Rattle.parts.specs.Polynomial.{trimmed}
-use Rattle.parts.specs.Value.{Value, exact, refused, tooLarge, limited}
-use Rattle.parts.proofs.Limits.{Limits}
-use Rattle.formula.specs.Grammar.{isNumber, Power, plain, power, powerText, signByte, sumText, termText, factorText}
-use Rattle.formula.specs.Grammar.{Sum, term, join, Term, factor, times, Factor, number, letter, bracket}
-use Rattle.formula.specs.Expansion.{digitsFrom, sumOf}
-use Rattle.formula.specs.Reading.{ifSome, readingOf}
+use lib.IntN.{ℤ, pos}
+use Rattle.algebra.specs.NatOrder.{le-or-lt}
+use Rattle.parts.specs.Polynomial.{coefficientOf, trimmed}
+use Rattle.parts.specs.Value.{Value, exact, refused}
+use Rattle.parts.proofs.Coefficients.{trimmed-short}
+use Rattle.formula.specs.Grammar.{isNumber, plain, power, Sum, term, join, Term, factor, times, Factor, number, letter, bracket}
+use Rattle.formula.specs.Grammar.{signByte, powerText, sumText, termText, factorText, Derives}
+use Rattle.formula.specs.Expansion.{digitsFrom}
 use Rattle.formula.specs.Formula.{formulaOf}
-use Rattle.formula.proofs.Sound.{reading-is}
-use Rattle.formula.proofs.Theorem.{sum-limits}
+use Rattle.formula.specs.Parts.{sumPolynomial, factorPolynomial, Meets}
+use Rattle.formula.proofs.Texts.{meets-short, Way, no-sum, high, large, meets, way}
 
--- ---- no part has an empty text
-digits-some : (d : List ℕ) → T (isNumber d) → 0 < length d
-digits-some [] t = absurd t
-digits-some (b ∷ d) t = omega arith
+-- ---- how long a text is, at least
+join-length : (s u : List ℕ) (b : ℕ) → length (s ++ b ∷ u) ≡ length s + suc (length u)
+join-length s u b = length-append s (b ∷ u)
+
+number-length : (d : List ℕ) → T (isNumber d) → 0 < length d
+number-length [] t = absurd t
+number-length (b ∷ d) t = omega arith
 
 mutual
-  sum-some : (a : Sum) → 0 < length (sumText a)
-  sum-some (term a) = term-some a
-  sum-some (join a g b) = omega (arith, length-append (sumText a) (signByte g ∷ termText b))
+  sum-length : (a : Sum) → 0 < length (sumText a)
+  sum-length (term a) = term-length a
+  sum-length (join a g b) = omega (arith, join-length (sumText a) (termText b) (signByte g))
 
-  term-some : (a : Term) → 0 < length (termText a)
-  term-some (factor a) = factor-some a
-  term-some (times a b) = omega (arith, length-append (termText a) (42 ∷ factorText b))
+  term-length : (a : Term) → 0 < length (termText a)
+  term-length (factor a) = factor-length a
+  term-length (times a b) = omega (arith, join-length (termText a) (factorText b) 42)
 
-  factor-some : (a : Factor) → 0 < length (factorText a)
-  factor-some (number n p) = omega (arith, length-append (n .digits) (powerText p), digits-some (n .digits) (n .number))
-  factor-some (letter p) = omega arith
-  factor-some (bracket a p) = omega arith
+  factor-length : (a : Factor) → 0 < length (factorText a)
+  factor-length (number n p) = omega (arith, length-append (n .digits) (powerText p), number-length (n .digits) (n .number))
+  factor-length (letter p) = omega arith
+  factor-length (bracket a p) = omega arith
 
--- ---- a tree with a text of one or two bytes is a number or the letter
-abbrev Few : List ℕ → Value → Type 0
-Few s (exact p) = length p ≤ length s + 2
-Few s (refused n) = Unit {0}
+-- ---- no power but the first
+abbrev Linear : List ℤ → Type 0
+Linear p = (k : ℕ) → 2 ≤ k → coefficientOf p k ≡ pos 0
 
-long-few : (a : Sum) → 3 ≤ length (sumText a) → Few (sumText a) (sumOf a)
-long-few a h = go (sumOf a) (sum-limits a)
-  where
-    go : (v : Value) → Limits v → Few (sumText a) v
-    go (exact p) l = omega (arith, l .0)
-    go (refused n) l = tt
+two-linear : (a b : ℤ) → Linear (a ∷ b ∷ [])
+two-linear a b zero l = absurd (omega arith)
+two-linear a b (suc zero) l = absurd (omega arith)
+two-linear a b (suc (suc k)) l = refl
 
-constant-few : (s : List ℕ) (z : ℤ) → Few s (limited (z ∷ []))
-unfolding limited
-constant-few s z =
-    let q = trimmed (z ∷ []) in
-    let one : length q ≤ 1 = either-way (λ (l : List ℤ). length l ≤ 1) (eqb (natAbs z) 0) (omega arith) (omega arith) in
-    either-way (Few s) (ltb 5 (length q)) tt (either-way (Few s) (tooLarge q) tt (omega (arith, one)))
+one-linear : (a : ℤ) → Linear (a ∷ [])
+one-linear a zero l = absurd (omega arith)
+one-linear a (suc k) l = refl
 
-sum-few : (a : Sum) → Few (sumText a) (sumOf a)
-unfolding sumOf
-sum-few (term (factor (number n plain))) = constant-few (sumText (term (factor (number n plain)))) (pos (digitsFrom 0 (n .digits)))
-sum-few (term (factor (letter plain))) = lit≤ tt
-sum-few (term (factor (number n (power d t)))) =
-    long-few (term (factor (number n (power d t)))) (omega (arith, length-append (n .digits) (94 ∷ d ∷ []), digits-some (n .digits) (n .number)))
-sum-few (term (factor (letter (power d t)))) = long-few (term (factor (letter (power d t)))) (lit≤ tt)
-sum-few (term (factor (bracket a p))) =
-    long-few (term (factor (bracket a p))) (omega (arith, length-append (sumText a) (41 ∷ powerText p), sum-some a))
-sum-few (term (times a b)) =
-    long-few (term (times a b)) (omega (arith, length-append (termText a) (42 ∷ factorText b), term-some a, factor-some b))
-sum-few (join a g b) = long-few (join a g b) (omega (arith, length-append (sumText a) (signByte g ∷ termText b), sum-some a, term-some b))
+short-factor : (a : Factor) → length (factorText a) ≤ 2 → Linear (factorPolynomial a)
+short-factor (number n plain) h = one-linear (pos (digitsFrom 0 (n .digits)))
+short-factor (number n (power d t)) h = absurd (omega (arith, length-append (n .digits) (94 ∷ d ∷ []), number-length (n .digits) (n .number)))
+short-factor (letter plain) h = two-linear (pos 0) (pos 1)
+short-factor (letter (power d t)) h = absurd (omega arith)
+short-factor (bracket a p) h = absurd (omega (arith, join-length (sumText a) (powerText p) 41, sum-length a))
 
-abbrev Unread : Value → Type 0
-Unread (exact p) = ⊥
-Unread (refused n) = Unit {0}
+short-linear : (a : Sum) → length (sumText a) ≤ 2 → Linear (sumPolynomial a)
+short-linear (term (factor a)) h = short-factor a h
+short-linear (term (times a b)) h = absurd (omega (arith, join-length (termText a) (factorText b) 42, term-length a, factor-length b))
+short-linear (join a g b) h = absurd (omega (arith, join-length (sumText a) (termText b) (signByte g), sum-length a, term-length b))
 
+-- ---- how many coefficients a text has
 pub short-text : (s : List ℕ) (p : List ℤ) → formulaOf s ≡ exact p → length p ≤ length s + 2
-unfolding formulaOf
-short-text s p = go (readingOf s) refl
+short-text s p e = subst Few e (go (way s))
   where
-    go : (o : Option Sum) → readingOf s ≡ o → ifSome o (refused 13) sumOf ≡ exact p → length p ≤ length s + 2
-    go none e q = absurd (subst Unread q tt)
-    go (some a) e q = subst (λ (u : List ℕ). length p ≤ length u + 2) (reading-is s a e) (subst (Few (sumText a)) q (sum-few a))
+    Few : Value → Type 0
+    Few (exact q) = length q ≤ length s + 2
+    Few (refused n) = Unit {0}
+
+    of-tree : (a : Sum) → Derives s a → Meets (sumPolynomial a) → length (trimmed (sumPolynomial a)) ≤ length s + 2
+    of-tree a d m = ⊎-elim
+        (λ h. omega (arith, trimmed-short 2 (sumPolynomial a) (short-linear a (subst⁻¹ (λ (u : List ℕ). length u ≤ 2) d h))))
+        (λ h. omega (arith, meets-short (sumPolynomial a) m)) (le-or-lt (length s) 2)
+
+    go : Way s → Few (formulaOf s)
+    go (no-sum f q) = subst⁻¹ Few q tt
+    go (high a d w q) = subst⁻¹ Few q tt
+    go (large a d w q) = subst⁻¹ Few q tt
+    go (meets a d h m q) = subst⁻¹ Few q (of-tree a d m)

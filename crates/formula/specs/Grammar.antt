@@ -1,5 +1,6 @@
 -- The grammar of formulas: a tree is a reading, and its text is what it reads. A text of bytes is a sum where it is the text of a `Sum`. Definitions only.
 -- In ASCII ( is 40, ) 41, * 42, + 43, - 45, 0 to 9 are 48 to 57, ^ is 94 and t 116.
+use mathlib.Core.Path.{_≡_}
 use mathlib.Core.Bool.{Bool, true, _&&_}
 use mathlib.Core.List.{List, [], _∷_, _++_}
 use Prim.Native.Nat.{ℕ}
@@ -68,3 +69,7 @@ abbrev mutual
   factorText (number n p) = n .digits ++ powerText p
   factorText (letter p) = 116 ∷ powerText p
   factorText (bracket a p) = 40 ∷ sumText a ++ 41 ∷ powerText p
+
+-- the grammar derives the text s by the tree a
+abbrev pub Derives : List ℕ → Sum → Type 0
+Derives s a = sumText a ≡ s

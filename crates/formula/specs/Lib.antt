@@ -4,4 +4,4 @@ pub mod Reading
 pub mod Formula
 pub mod Readers
 pub mod Meaning
-pub mod Claims
+pub mod Parts

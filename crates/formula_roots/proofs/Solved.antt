@@ -22,9 +22,18 @@ use Rattle.poly.proofs.Sums.{answer-within, answer-fits}
 use Rattle.parts.specs.Value.{Value, exact, refused}
 use Rattle.formula.specs.declared.Expanded.{Expanded}
 use Rattle.formula.specs.Formula.{formulaOf, floatsOf, answeredOf, expandOf}
-use Rattle.formula.proofs.Theorem.{few, refused-number}
+use Rattle.formula.proofs.Texts.{few, refused-number}
 use Rattle.formula.proofs.Short.{short-text}
 use Rattle.formula_roots.specs.FormulaRoots.{handedOn, solvedOf, formulaRootsOf}
+
+-- the coefficients that code hands on
+pub handed : (s : List ℕ) → take (expandOf s .len) (expandOf s .coeffs) ≡ handedOn (formulaOf s)
+unfolding expandOf answeredOf
+handed s = go (formulaOf s)
+  where
+    go : (v : Value) → take (answeredOf v .len) (answeredOf v .coeffs) ≡ handedOn v
+    go (refused n) = refl
+    go (exact p) = take-at (floatsOf p) (replicate (5 - length p) zero64) (length p) (length-map p (ofInt binary64))
 
 module _ (s : List ℕ) (tol : Float) (e : Expanded) (h : e ≡ expandOf s) where
   is : (v : Value) → formulaOf s ≡ v → e ≡ answeredOf v
@@ -41,12 +50,13 @@ module _ (s : List ℕ) (tol : Float) (e : Expanded) (h : e ≡ expandOf s) wher
 
   pub solved : e .number ≡ 0 → realRootsOf (take (e .len) (e .coeffs)) tol ≡ formulaRootsOf s tol
   unfolding formulaRootsOf answeredOf
-  solved z = go (formulaOf s) refl
+  solved z =
+      ap (λ (x : Expanded). realRootsOf (take (x .len) (x .coeffs)) tol) h
+      ∙ ap (λ (l : List Float). realRootsOf l tol) (handed s)
+      ∙ go (formulaOf s) refl
     where
-      go : (v : Value) → formulaOf s ≡ v → realRootsOf (take (e .len) (e .coeffs)) tol ≡ solvedOf v tol
-      go (exact p) q =
-          ap (λ (x : Expanded). realRootsOf (take (x .len) (x .coeffs)) tol) (is (exact p) q)
-          ∙ ap (λ (l : List Float). realRootsOf l tol) (take-at (floatsOf p) (replicate (5 - length p) zero64) (length p) (length-map p (ofInt binary64)))
+      go : (v : Value) → formulaOf s ≡ v → realRootsOf (handedOn v) tol ≡ solvedOf v tol
+      go (exact p) q = refl
       go (refused n) q =
           let m : n ≡ 0 = sym (ap (λ (x : Expanded). x .number) (is (refused n) q)) ∙ z in
           absurd (omega (arith, refused-number s n q .0))
@@ -83,7 +93,7 @@ pub formula-fits : (s : List ℕ) (tol : Float) → Fits (formulaRootsOf s tol .
 formula-fits s tol = answered-by (λ (a : Answer). Fits (a .roots)) s tol (λ n h. (refl, omega arith)) (λ cs h. answer-fits cs tol)
 
 -- ---- demand 3: what is solved are doubles
-floats-fit : (p : List ℤ) → AllDoubles (floatsOf p)
+pub floats-fit : (p : List ℤ) → AllDoubles (floatsOf p)
 floats-fit (z ∷ p) zero h = is-true _ (ofInt-fits binary64 z)
 floats-fit (z ∷ p) (suc i) h = floats-fit p i (omega arith)
 

@@ -1,1 +1,2 @@
 pub mod FormulaRoots
+pub mod Claims

@@ -1,5 +1,6 @@
 pub mod Coefficients
 pub mod Limits
+pub mod Trimmed
 pub mod Values
 pub mod Words
 pub mod Entries

@@ -7,7 +7,7 @@ use mathlib.Core.List.{_∷_}
 use Rattle.float.proofs.Whole.{whole-exact}
 use Rattle.lent_bytes.specs.Numbers.{number, five}
 use Rattle.formula.specs.declared.Expanded.{Expanded}
-use Rattle.formula.proofs.Theorem.{few}
+use Rattle.formula.proofs.Texts.{few}
 use Rattle.pongewaru.proofs.Listing.{refused-first, answered-then}
 use Rattle.pongewaru.proofs.formulas.pongewaru_formula_coefficients.Statement.{statement}
 use Rattle.pongewaru.proofs.formulas.pongewaru_formula_coefficients.Tie as tie
