@@ -141,7 +141,7 @@ fn lists_and_files_too_long() {
 
 #[test]
 fn marks() {
-    assert_eq!(Kind::ALL.map(Kind::mark), ["PL", "QD", "TG", "PC"]);
+    assert_eq!(Kind::ALL.map(Kind::mark), ["PL", "QD", "TG", "PC", "TX"]);
     for mark in [&b"PLX"[..], b"P", b"", b"pl", b"LP"] {
         assert_eq!(Kind::of_mark(mark), None);
     }

@@ -51,6 +51,7 @@ fn of_edges(r: &mut Random, kind: Kind) -> Record {
             Record::Crank { confusion: tolerance(r), terms }
         }
         Kind::Contact => Record::Contact(Contact::new(std::array::from_fn(|_| r.edge()))),
+        Kind::Formula => Record::Formula { tolerance: r.edge(), text: b"t^2-2".to_vec() },
     }
 }
 

@@ -13,6 +13,7 @@ pub fn equation(record: &Record) -> String {
             sum(terms.iter().copied().zip(names))
         }
         Record::Contact(contact) => return from_centre(contact),
+        Record::Formula { text, .. } => text.escape_ascii().to_string(),
     };
     format!("{sum} = 0")
 }
@@ -27,7 +28,9 @@ fn from_centre(contact: &Contact) -> String {
 /// The tolerances, each behind its name.
 pub fn tolerances(record: &Record) -> String {
     match record {
-        Record::List { tolerance, .. } => format!("tol {}", word(*tolerance)),
+        Record::List { tolerance, .. } | Record::Formula { tolerance, .. } => {
+            format!("tol {}", word(*tolerance))
+        }
         Record::Quadratic { confusion, angular, .. } => {
             format!("confusion {}, angular {}", word(*confusion), word(*angular))
         }

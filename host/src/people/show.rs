@@ -1,6 +1,7 @@
 //! A listing, with what people want to see beside it.
 use crate::people::doubt::Look;
 use crate::people::question;
+use crate::truth::formula;
 use crate::truth::hall_file::{Item, Kind, Record, items};
 use crate::truth::kind;
 use crate::truth::lister::{Answer, Line, Listed, Solution, lines};
@@ -174,6 +175,7 @@ fn equation(record: &Record, answer: &Answer) -> Vec<f64> {
         (Record::Crank { terms, .. }, Answer::Crank(k, _)) => quartic(*terms, *k).to_vec(),
         (Record::Crank { .. }, _) => vec![],
         (Record::Contact(contact), _) => contact.coefficients().to_vec(),
+        (Record::Formula { text, .. }, _) => formula::coefficients(text).unwrap_or_default(),
     }
 }
 

@@ -5,6 +5,7 @@
 use crate::people::number::{character, number, word};
 use crate::people::slider;
 use crate::truth::contact::Contact;
+use crate::truth::formula;
 use crate::truth::hall_file::{Kind, MOST_BYTES, MOST_COEFFICIENTS, Record};
 use std::fmt;
 
@@ -84,6 +85,8 @@ fn record(words: &[&str]) -> Result<Option<Record>, Fault> {
         let known = format!("a line begins with {known} or {}", slider::WORD);
         return fault(first, format!("no kind of record: {known}{odd}"));
     }
+    // a formula's text is no number
+    let rest = if kind == Some(Kind::Formula) { &rest[..rest.len().min(1)] } else { rest };
     let numbers = rest.iter().map(|word| number(word).or_else(|why| fault(word, why)));
     let numbers = numbers.collect::<Result<Vec<f64>, Fault>>()?;
     match kind {
@@ -102,6 +105,7 @@ fn record(words: &[&str]) -> Result<Option<Record>, Fault> {
             let form = "contact CONFUSION x0 x1 x2 y0 y1 y2 cx cy R";
             Ok(Record::Contact(Contact::new(exactly(words, &numbers, form)?)))
         }
+        Some(Kind::Formula) => formula(words, &numbers),
         None => crank_of_slider(words, &numbers),
     }
     .map(Some)
@@ -138,6 +142,15 @@ fn crank_of_slider(words: &[&str], numbers: &[f64]) -> Result<Record, Fault> {
     }
 }
 
+fn formula(words: &[&str], numbers: &[f64]) -> Result<Record, Fault> {
+    match (words, numbers) {
+        ([_, _, text], &[tolerance]) if text.len() <= formula::MOST_BYTES => {
+            Ok(Record::Formula { tolerance, text: text.as_bytes().to_vec() })
+        }
+        _ => fault(words[0], "a formula's line is formula TOL TEXT"),
+    }
+}
+
 fn list(words: &[&str], numbers: Vec<f64>) -> Result<Record, Fault> {
     let Some((&tolerance, coeffs)) = numbers.split_first() else {
         return fault(words[0], "the tolerance is missing behind it: list TOL c0 c1 ..");
@@ -163,7 +176,11 @@ fn exactly<const N: usize>(words: &[&str], numbers: &[f64], form: &str) -> Resul
 /// The line that reads back as this record.
 pub fn line(record: &Record) -> String {
     let numbers = record.numbers().into_iter().map(word);
+    let text = match record {
+        Record::Formula { text, .. } => Some(text.escape_ascii().to_string()),
+        _ => None,
+    };
     let words: Vec<String> =
-        [record.kind().word().to_string()].into_iter().chain(numbers).collect();
+        [record.kind().word().to_string()].into_iter().chain(numbers).chain(text).collect();
     words.join(" ")
 }

@@ -13,11 +13,12 @@ use crate::truth::lister::{Answer, Line, Reference, line};
 use std::fmt::Write;
 
 /// Of the records of all files.
-pub const CASES: [&str; 16] = [
+pub const CASES: [&str; 20] = [
     "lists",
     "quadratics",
     "cranks",
     "contacts",
+    "formulas",
     "with no whole known mark",
     "refused 1",
     "refused 2",
@@ -30,10 +31,13 @@ pub const CASES: [&str; 16] = [
     "refused 10",
     "refused 11",
     "refused 12",
+    "refused 13",
+    "refused 14",
+    "refused 15",
 ];
 
 /// The numbers of the last of them.
-const REFUSED: [u8; 11] = [1, 2, 3, 5, 6, 7, 8, 9, 10, 11, 12];
+const REFUSED: [u8; 14] = [1, 2, 3, 5, 6, 7, 8, 9, 10, 11, 12, 13, 14, 15];
 
 fn cases(line: &Line) -> [bool; CASES.len()] {
     let kind = |k| line.kind == Some(k);

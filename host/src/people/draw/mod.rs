@@ -83,7 +83,7 @@ pub fn drawn(shown: &Shown) -> Result<String, String> {
     let marks: Vec<Mark> = shown.roots.iter().map(Mark::new).collect();
     canvas.legend(&marks);
     match record {
-        Record::List { .. } | Record::Quadratic { .. } => {
+        Record::List { .. } | Record::Quadratic { .. } | Record::Formula { .. } => {
             curve::draw(&mut canvas, &shown.coeffs, &marks)?
         }
         Record::Crank { .. } => crank::draw(&mut canvas, &marks),
