@@ -103,7 +103,7 @@ const REASONS: [&str; 3] = [
 ];
 
 fn record(shown: &Shown) -> String {
-    let text = wrapped(&front(shown));
+    let text = front(shown);
     if let Some(refused) = refused(shown) {
         return text + &wrapped(&refused);
     }

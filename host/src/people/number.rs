@@ -50,10 +50,15 @@ pub fn character(c: char) -> String {
         '*' | '\u{D7}' | '\u{B7}' => ": write 3e-9 for three times 10^-9",
         _ => " stands in no number",
     };
+    named(c) + hint
+}
+
+/// A character, and its number where that is not seen or not known by heart.
+pub fn named(c: char) -> String {
     match c {
-        '\u{21}'..='\u{7E}' => format!("`{c}`{hint}"),
-        c if c.is_control() || c == '\u{FEFF}' => format!("U+{:04X}{hint}", c as u32),
-        c => format!("`{c}` (U+{:04X}){hint}", c as u32),
+        '\u{21}'..='\u{7E}' => format!("`{c}`"),
+        c if c.is_control() || c == '\u{FEFF}' => format!("U+{:04X}", c as u32),
+        c => format!("`{c}` (U+{:04X})", c as u32),
     }
 }
 

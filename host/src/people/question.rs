@@ -1,6 +1,9 @@
 //! The question of a record, as people write it.
+use crate::people::marked;
+use crate::people::mistyped::is_sum;
 use crate::people::number::{shortest, word};
 use crate::truth::contact::Contact;
+use crate::truth::formula;
 use crate::truth::hall_file::Record;
 
 /// The equation, its highest power first.
@@ -13,9 +16,23 @@ pub fn equation(record: &Record) -> String {
             sum(terms.iter().copied().zip(names))
         }
         Record::Contact(contact) => return from_centre(contact),
-        Record::Formula { text, .. } => text.escape_ascii().to_string(),
+        Record::Formula { text, .. } => return marked::row(text) + behind(text),
     };
     format!("{sum} = 0")
+}
+
+/// What stands behind a formula's text; one that is no sum is no side of an equation.
+pub fn behind(text: &[u8]) -> &'static str {
+    if is_sum(text) { " = 0" } else { "" }
+}
+
+/// The equation of a formula, multiplied out; none where it has no polynomial, or is no formula.
+pub fn expanded(record: &Record) -> Option<String> {
+    let Record::Formula { text, .. } = record else {
+        return None;
+    };
+    let coeffs = formula::coefficients(text).ok()?;
+    Some(format!("{} = 0", polynomial(&coeffs, "t")))
 }
 
 /// The ball's distance from the circle's centre is the radius.

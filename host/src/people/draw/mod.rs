@@ -83,9 +83,10 @@ pub fn drawn(shown: &Shown) -> Result<String, String> {
     let marks: Vec<Mark> = shown.roots.iter().map(Mark::new).collect();
     canvas.legend(&marks);
     match record {
-        Record::List { .. } | Record::Quadratic { .. } | Record::Formula { .. } => {
-            curve::draw(&mut canvas, &shown.coeffs, &marks)?
+        Record::List { .. } | Record::Quadratic { .. } => {
+            curve::draw(&mut canvas, &shown.coeffs, "x", &marks)?
         }
+        Record::Formula { .. } => curve::draw(&mut canvas, &shown.coeffs, "t", &marks)?,
         Record::Crank { .. } => crank::draw(&mut canvas, &marks),
         Record::Contact(contact) => contact::draw(&mut canvas, contact, &marks)?,
     }
