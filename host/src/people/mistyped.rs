@@ -7,7 +7,7 @@ const OPERAND: &str = "a number, `t` or a bracket is missing";
 const DIGIT: &str = "a power is one digit, 0 to 9";
 const FRONT: &str = "no sign stands in front";
 const WHOLE: &str = "numbers are whole: write `3*t-4` for `1.5*t-2`";
-const LETTERS: &str = "a formula has digits, `t`, `+`, `-`, `*`, `^`, `(` and `)` alone";
+const LETTERS: &str = "a formula has digits, `t` and `+-*^()` alone";
 
 pub fn is_sum(text: &[u8]) -> bool {
     !matches!(expanded(text), Err(Fault::NotASum { .. }))
@@ -54,7 +54,7 @@ fn missing(before: &[u8]) -> String {
         (None, _) => OPERAND.to_string(),
         (Some('^'), _) => "behind `^` a digit is missing".to_string(),
         (Some(c @ ('(' | '+' | '-' | '*')), _) => format!("behind `{c}` {OPERAND}"),
-        (_, Some(i)) => format!("the bracket at character {} is not closed: `)` is missing", i + 1),
+        (_, Some(i)) => format!("`)` is missing for the bracket at character {}", i + 1),
         (_, None) => LETTERS.to_string(),
     }
 }

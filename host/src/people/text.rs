@@ -155,25 +155,21 @@ fn crank_of_slider(words: &[&str], numbers: &[f64]) -> Result<Record, Fault> {
     }
 }
 
-const FORMULA: &str = "formula TOL TEXT";
+const FORMULA: &str = "formula TOL TEXT, and TOL is usually 2^-30";
 
-/// The rest of the line is the text.
+/// What stands behind the tolerance is the text.
 fn formula(line: &str) -> Result<Record, Fault> {
     let (name, rest) = first_word(line);
     let (typed, text) = first_word(rest);
     if typed.is_empty() {
         return fault(name, format!("the tolerance is missing behind it: {FORMULA}"));
     }
-    let tolerance = match number(typed) {
-        Ok(tolerance) => tolerance,
-        Err(_) if typed.contains(['t', 'T', 'x', 'X', '(']) => {
-            return fault(
-                typed,
-                format!("the tolerance, as 2^-30, is missing before it: {FORMULA}"),
-            );
-        }
-        Err(why) => return fault(typed, why),
-    };
+    let tolerance = number(typed).or_else(|why| {
+        let like_text = typed.contains(['t', 'T', 'x', 'X', '(']) && !typed.starts_with("0x");
+        let why =
+            if like_text { format!("the tolerance is missing before it: {FORMULA}") } else { why };
+        fault(typed, why)
+    })?;
     let text = match text.strip_prefix("0x").or(text.strip_prefix("0X")) {
         _ if text.is_empty() => {
             return fault(typed, format!("the text is missing behind it: {FORMULA}"));
