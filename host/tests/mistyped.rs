@@ -1,4 +1,5 @@
-//! Formulas that are typed wrong: what `hall make` says of each, with a mark under its place.
+//! Formulas as people type them: what `hall make` says of those that are wrong, with a mark under
+//! the place, and how `hall show` shows them.
 mod run;
 
 use host::people::text;
@@ -242,4 +243,143 @@ fn long_texts() {
     assert!(open.starts_with(&why(100_000)), "{open}");
     let bytes = said(&format!("formula 1 0x{}", "74".repeat(256)));
     assert!(bytes.ends_with(": a formula has at most 255 characters, and here are 256"));
+}
+
+/// What a file shows, without the head of its table.
+fn shown(bytes: &[u8]) -> String {
+    let out = hall(&["show"], bytes);
+    assert_eq!((out.status.code(), &out.stderr[..]), (Some(0), &b""[..]));
+    let table = lines(&out.stdout);
+    let head = table.lines().next().is_some_and(|line| line.starts_with("  answer "));
+    table.split_once('\n').filter(|_| head).map_or(table.clone(), |(_, rows)| rows.to_string())
+}
+
+/// The formula, what it comes to, and the roots, as a list of the same numbers has them.
+#[test]
+fn answered_formulas() {
+    let text = "formula 2^-30 (t-2)^2*(t+1)\nformula 0.5 t^2+1\nlist 2^-30 4 0 -3 1\n";
+    let wanted = "\
+1 formula, tol 2^-30: (t-2)^2*(t+1) = 0
+  expanded: t^3 - 3 t^2 + 4 = 0
+  2 roots  -1     BFF0000000000000  1 crossing
+           2      4000000000000000  2 flat
+2 formula, tol 0.5: t^2+1 = 0
+  expanded: t^2 + 1 = 0
+  0 roots
+3 list, tol 2^-30: x^3 - 3 x^2 + 4 = 0
+  2 roots  -1     BFF0000000000000  1 crossing
+           2      4000000000000000  2 flat
+";
+    assert_eq!(shown(&made(text)), wanted);
+    let csv = lines(&hall(&["show", "--csv"], &made(text)).stdout);
+    let rows: Vec<&str> = csv.lines().collect();
+    assert!(rows[0].ends_with(",distance,doubt,expanded"));
+    let front = "1,0,formula,tol 2^-30,(t-2)^2*(t+1) = 0,2 roots,,,2,4000000000000000,2,flat,";
+    assert_eq!(rows[2], format!("{front},,,,,,t^3 - 3 t^2 + 4 = 0"));
+    assert!(rows[4].starts_with("3,40,list,") && rows[4].ends_with(",crossing,,,,,,,"), "{csv}");
+}
+
+/// A text, the marks under it, and the refusal.
+const REFUSED: [(&[u8], &str, &str); 15] = [
+    (b"2t", " ^", "13: no sum: `t` cannot be character 2: write `2*t`"),
+    (
+        b"t - 2",
+        " ^",
+        "13: no sum: a blank cannot be character 2: there are no blanks in a formula:",
+    ),
+    (b"t^12", "   ^", "13: no sum: `2` cannot be character 4: a power is one digit, 0 to 9"),
+    (b"(t-2", "    ^", "13: no sum: it ends too early, behind character 4: `)` is missing for the"),
+    (b"", "^", "13: no sum: the text is empty: a number, `t` or a bracket is missing"),
+    (
+        b"t\xFF\xFE",
+        " ^~~~",
+        "13: no sum: the byte 255 cannot be character 2: a formula has digits,",
+    ),
+    (b"t\n\0", " ^~", "13: no sum: the byte 10 cannot be character 2: there are no blanks in a"),
+    ("t²".as_bytes(), " ^", "13: no sum: the byte 194 cannot be character 2: `²` (U+00B2): write"),
+    (b"t^5+2x", "     ^", "13: no sum: `x` cannot be character 6: the one letter is `t`, and `*`"),
+    (b"(t^5)^0", " ^~~", "14: `t^5` comes to degree 5, and a part has at most 4"),
+    (b"1+t^4*t-t", "  ^~~~~", "14: `t^4*t` comes to degree 5, and a part has at most 4"),
+    (b"(1000*t)^9", "^~~~~~~~~~", "14: `(1000*t)^9` comes to degree 5, and a part has at most 4"),
+    (b"t+(10000*t)^9", "  ^~~~~~~~~~~", "15: `(10000*t)^9` comes to 10000000000000000 t^4, and a"),
+    (b"7", "", "2: no equation: the formula comes to 7, whatever t is"),
+    (b"0*t^4*t", "", "2: no equation: the formula comes to 0, whatever t is"),
+];
+
+/// Marks under the character or the part at fault, and the reason; no equation that is multiplied
+/// out.
+#[test]
+fn refused_formulas() {
+    let front = "1 formula, tol 0.5: ";
+    for (text, marks, why) in REFUSED {
+        let table = shown(&record(0.5, text));
+        let rows: Vec<&str> = table.lines().collect();
+        assert!(rows[0].starts_with(front.trim_end()), "{table}");
+        let (under, refused) = if marks.is_empty() { ("", rows[1]) } else { (rows[1], rows[2]) };
+        assert_eq!(under, format!("{}{marks}", " ".repeat(front.len())).trim_end(), "{table}");
+        assert!(format!("{refused} ").starts_with(&format!("  refused {why} ")), "{table}");
+        assert!(!table.contains("expanded"), "{table}");
+        let reason = lines(&hall(&["explain", "-", "1"], &record(0.5, text)).stdout);
+        assert_eq!(reason, table);
+        let csv = lines(&hall(&["show", "--csv"], &record(0.5, text)).stdout);
+        let row = csv.lines().nth(1).unwrap();
+        assert!(row.contains(why.split_once(": ").unwrap().1), "{row}");
+    }
+    let front = |text| shown(&record(0.5, text)).lines().next().unwrap().to_string();
+    assert_eq!(front(b"t^2=4"), "1 formula, tol 0.5: t^2=4");
+    assert_eq!(front(b"t\n\0\\\x7F\xC3'"), "1 formula, tol 0.5: t\\n\\0\\\\\\u{7f}\\xc3'");
+    assert_eq!(front(b"t^5"), "1 formula, tol 0.5: t^5 = 0");
+}
+
+/// Long texts go on in the next row, with their marks; no row has over 100 columns.
+#[test]
+fn long_formulas() {
+    let five = "(t+1)*(t+1)*(t+1)*(t+1)*(t+1)";
+    let text = format!("{}{five}", "t+".repeat(30));
+    let table = shown(&record(1.0, text.as_bytes()));
+    let rows: Vec<&str> = table.lines().collect();
+    assert_eq!(rows[0], format!("1 formula, tol 1: {}(t+1)*(t+1)*(t+1)*(t+1", "t+".repeat(30)));
+    assert_eq!(rows[1], format!("{}^{}", " ".repeat(78), "~".repeat(21)));
+    assert_eq!(rows[2..4], ["    )*(t+1) = 0", "    ~~~~~~~"]);
+    assert!(rows[4].starts_with(&format!("  refused 14: `{five}` comes to degree 5")));
+    for text in [&[b'('; 255][..], &[0xFF; 255], &b"t+".repeat(127), "½".repeat(127).as_bytes()] {
+        let bytes = record(1.0, text);
+        let told = [&["show"][..], &["explain", "-"], &["explain", "-", "1"]];
+        for told in told.map(|words| lines(&hall(words, &bytes).stdout)) {
+            assert!(told.lines().all(|line| line.chars().count() <= 100), "{told}");
+        }
+    }
+}
+
+/// 127 brackets around `t`: the most that a text holds.
+#[test]
+fn deep_brackets() {
+    let deep = |n: usize| format!("{}t{}", "(".repeat(n), ")".repeat(n));
+    let table = shown(&made(&format!("formula 1 {}", deep(127))));
+    assert!(
+        table.ends_with("\n  expanded: t = 0\n  1 root   0      0000000000000000  1 crossing\n")
+    );
+    let open = [&[b'('; 128][..], b"t", &[b')'; 126]].concat();
+    let table = shown(&record(1.0, &open)).replace("\n    ", " ");
+    let why =
+        "it ends too early, behind character 255: `)` is missing for the bracket at character 2";
+    assert!(table.contains(&format!("  refused 13: no sum: {why}\n")), "{table}");
+}
+
+/// What is doubtful is explained of the equation that is multiplied out.
+#[test]
+fn formulas_are_explained() {
+    let told = lines(&hall(&["explain", "-", "1"], &made("formula 2^-30 (t-2)^2*(t+1)")).stdout);
+    let wanted = "\
+1 formula, tol 2^-30: (t-2)^2*(t+1) = 0
+  p is t^3 - 3 t^2 + 4, computed without rounding: the places are those of p = 0
+  -1 (BFF0000000000000), once: a root, p is 0 there
+  2 (4000000000000000), 2 times, flat: a root, p is 0 there
+roots: 2, none of them doubtful
+";
+    assert_eq!(told, wanted);
+    // roots apart, and joined by a tolerance of 1
+    let joined = lines(&hall(&["show"], &made("formula 1 t*(t-1)\nlist 1 0 -1 1")).stdout);
+    let doubts: Vec<&str> = joined.lines().filter(|row| row.starts_with("  doubtful")).collect();
+    assert!(doubts.len() == 2 && doubts[0] == doubts[1], "{joined}");
 }
