@@ -8,7 +8,7 @@ use crate::people::show::ListFile;
 use crate::people::text;
 use crate::port;
 use crate::runs::parts;
-use crate::truth::hall_file::{Item, Kind, MOST_BYTES, file, items};
+use crate::truth::hall_file::{Item, Kind, MOST_BYTES, MOST_LISTED, file, items};
 use crate::truth::lister::{Answer, Line, Reference, line};
 use std::fmt::Write;
 
@@ -51,7 +51,7 @@ fn cases(line: &Line) -> [bool; CASES.len()] {
 const UNTOUCHED: [u8; 16] = [0xA5; 16];
 
 /// Room for the longest listing, and for these behind it.
-const ROOM: usize = 163_860 + UNTOUCHED.len();
+const ROOM: usize = MOST_LISTED + UNTOUCHED.len();
 
 /// What was compared so far, and a buffer for the port's listing.
 pub(super) struct Files {

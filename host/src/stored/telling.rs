@@ -1,4 +1,4 @@
-//! Stored lists and contacts that tell mistakes which made ones seldom or never show.
+//! Stored lists, contacts and formulas that tell mistakes which made ones seldom or never show.
 use crate::people::text;
 use crate::truth::contact::Contact;
 use crate::truth::hall_file::Record;
@@ -107,3 +107,9 @@ pub fn contacts() -> impl Iterator<Item = (&'static str, Contact)> {
         other => panic!("{name}: {other:?}"),
     })
 }
+
+/// What a formula shows, and its text.
+pub const FORMULAS: &[(&str, &str)] = &[
+    ("2^53 itself", "90071992*100000000+54740992"),
+    ("2^53 and 1", "90071992*100000000+54740993"),
+];

@@ -7,6 +7,9 @@ use crate::truth::refusals;
 /// A longer file is refused whole.
 pub const MOST_BYTES: usize = 65_536;
 
+/// No listing has more bytes.
+pub const MOST_LISTED: usize = 7 * MOST_BYTES + 20;
+
 /// A record with a higher count ends the reading.
 pub const MOST_COEFFICIENTS: usize = 32;
 
@@ -100,10 +103,14 @@ impl Record {
         if let Record::Formula { text, .. } = self { text } else { &[] }
     }
 
+    /// How many bytes stand before its numbers.
+    pub fn before_numbers(&self) -> usize {
+        2 + usize::from(self.count().is_some())
+    }
+
     /// How many bytes it has in a file.
     pub fn size(&self) -> usize {
-        let count = usize::from(self.count().is_some());
-        2 + count + 8 * self.numbers().len() + self.text().len()
+        self.before_numbers() + 8 * self.numbers().len() + self.text().len()
     }
 
     /// Its bytes in a file. A list may have up to 255 coefficients here: more than 32 make a file
