@@ -357,7 +357,7 @@ fn deep_brackets() {
     let deep = |n: usize| format!("{}t{}", "(".repeat(n), ")".repeat(n));
     let table = shown(&made(&format!("formula 1 {}", deep(127))));
     assert!(
-        table.ends_with("\n  expanded: t = 0\n  1 root   0      0000000000000000  1 crossing\n")
+        table.ends_with("\n  expanded: t = 0\n  1 root  0      0000000000000000  1 crossing\n")
     );
     let open = [&[b'('; 128][..], b"t", &[b')'; 126]].concat();
     let table = shown(&record(1.0, &open)).replace("\n    ", " ");

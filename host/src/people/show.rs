@@ -2,7 +2,7 @@
 use crate::people::doubt::Look;
 use crate::people::{mistyped, question};
 use crate::truth::formula::{self, Fault};
-use crate::truth::hall_file::{Item, Kind, Record, items};
+use crate::truth::hall_file::{Item, Kind, MOST_LISTED, Record, items};
 use crate::truth::kind;
 use crate::truth::lister::{Answer, Line, Listed, Solution, lines};
 use crate::truth::refusals::in_words;
@@ -14,7 +14,7 @@ pub type ListFile = fn(&[u8], &mut [u8]) -> u64;
 
 /// The whole listing that a lister writes.
 pub fn whole_listing(bytes: &[u8], list_file: ListFile) -> Vec<u8> {
-    let mut out = vec![0; 1 << 18];
+    let mut out = vec![0; MOST_LISTED];
     let len = list_file(bytes, &mut out) as usize;
     if len > out.len() {
         out.resize(len, 0);
