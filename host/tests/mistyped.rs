@@ -12,7 +12,7 @@ fn said(line: &str) -> String {
 }
 
 /// A text, which of its characters is marked, from 0 on, and what is said of it.
-const MISTYPED: [(&str, usize, &str); 68] = [
+const MISTYPED: [(&str, usize, &str); 69] = [
     // blanks and other characters that are not seen
     ("(t - 2)^2", 2, "a blank: there are no blanks in a formula: leave it out"),
     ("t-2 t", 3, "a blank: there are no blanks in a formula: leave it out"),
@@ -41,6 +41,7 @@ const MISTYPED: [(&str, usize, &str); 68] = [
     ("t^2-12t+3", 6, "`t`: write `12*t`"),
     ("tt", 1, "`t`: write `t*t`"),
     ("t^2t", 3, "`t`: write `t^2*t`"),
+    ("1+12^2t", 6, "`t`: write `12^2*t`"),
     ("(t+1)^2(t-1)", 7, "`(`: write `)^2*(`"),
     ("(t-2)(t+1)", 5, "`(`: write `)*(`"),
     ("3(t+1)", 1, "`(`: write `3*(`"),
@@ -109,16 +110,11 @@ fn characters_of_other_widths() {
         ("t×\tx", "`×` (U+00D7): write `*`", "t×\\tx", " ^"),
         (
             "t\u{A0}-2",
-            "`\u{A0}` (U+00A0): there are no blanks in a formula: leave it out",
+            "U+00A0: there are no blanks in a formula: leave it out",
             "t\\u{a0}-2",
             " ^~~~~~",
         ),
-        (
-            "t\u{200B}-2",
-            "`\u{200B}` (U+200B): leave it out: it is not even seen",
-            "t\\u{200b}-2",
-            " ^~~~~~~~",
-        ),
+        ("t\u{200B}-2", "U+200B: leave it out: it is not even seen", "t\\u{200b}-2", " ^~~~~~~~"),
         (
             "２*t",
             "`２` (U+FF12): a formula has digits, `t` and `+-*^()` alone",
@@ -147,7 +143,7 @@ fn words_that_are_missing() {
         assert_eq!(said(line), format!("line 1: {why}{form}"));
     }
     assert!(said("formula 1,5 t-2").starts_with("line 1: `1,5`: no number: `,`: a decimal"));
-    assert!(said("formula 0x3FF t-2").starts_with("line 1: `0x3FF`: no bits of a double"));
+    assert!(said("formula 0X3FF t-2").starts_with("line 1: `0X3FF`: no bits of a double"));
     assert!(said("formulas 1 t").starts_with("line 1: `formulas`: no kind of record: a line"));
 }
 

@@ -40,10 +40,10 @@ pub fn hint(text: &[u8], at: usize) -> String {
     match text.get(at) {
         None => missing(before),
         Some(c) if b"t0123456789+-*^()".contains(c) => misplaced(before, char::from(*c)),
-        Some(_) => match text[at..].utf8_chunks().next().and_then(|c| c.valid().chars().next()) {
-            Some(c) if c.is_ascii() => foreign(before, c),
-            Some(c) => format!("{}: {}", named(c), foreign(before, c)),
-            None => LETTERS.to_string(),
+        Some(_) => match text[at..].utf8_chunks().next().map(|rest| rest.valid().chars().next()) {
+            Some(Some(c)) if c.is_ascii() => foreign(before, c),
+            Some(Some(c)) => format!("{}: {}", named(c), foreign(before, c)),
+            _ => LETTERS.to_string(),
         },
     }
 }
@@ -137,10 +137,9 @@ fn open(before: &[u8]) -> Option<usize> {
     open.pop()
 }
 
-/// The end of the factor with which a text ends: a number, `t`, `)`, or a power of these.
+/// The end of the factor with which a text ends: a number, `t` or `)`, and its power.
 fn factor(before: &[u8]) -> String {
-    let digits = before.iter().rev().take_while(|c| c.is_ascii_digit()).count();
-    let power = if let [.., b'^', _] = before { 2 } else { 0 };
-    let start = before.len() - digits.max(1) - power;
-    String::from_utf8_lossy(&before[start..]).into_owned()
+    let base = if let [base @ .., b'^', _] = before { base } else { before };
+    let digits = base.iter().rev().take_while(|c| c.is_ascii_digit()).count();
+    String::from_utf8_lossy(&before[base.len() - digits.max(1)..]).into_owned()
 }

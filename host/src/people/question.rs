@@ -108,6 +108,10 @@ mod tests {
             ),
             ("crank 1 0 0 1 0 0", "confusion 1", "cos t = 0"),
             ("crank 1 0 0 0 0 1", "confusion 1", "1 = 0"),
+            ("formula 1 (t-2)^2", "tol 1", "(t-2)^2 = 0"),
+            ("formula 1 t^5", "tol 1", "t^5 = 0"),
+            ("formula 1 0x743D30", "tol 1", "t=0"),
+            ("formula 1 0x74FF", "tol 1", "t\\xff"),
             (
                 "contact 1 4 0 0 -10 2 -1 1 0 5",
                 "confusion 1",
@@ -117,6 +121,13 @@ mod tests {
         for (line, names, text) in known {
             let record = &read(line.as_bytes()).unwrap()[0];
             assert_eq!((tolerances(record), equation(record)), (names.into(), text.into()));
+        }
+        let expanded = |line: &str| expanded(&read(line.as_bytes()).unwrap()[0]);
+        assert_eq!(expanded("formula 1 (t-2)^2*(0-t)"), Some("-t^3 + 4 t^2 - 4 t = 0".into()));
+        assert_eq!(expanded("formula 1 0*t^4*t"), Some("0 = 0".into()));
+        assert_eq!(expanded("formula 1 9^9*t"), Some("387420489 t = 0".into()));
+        for line in ["formula 1 t^5", "formula 1 0x", "list 1 1 1"] {
+            assert_eq!(expanded(line), None, "{line}");
         }
     }
 }

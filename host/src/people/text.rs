@@ -161,25 +161,26 @@ const FORMULA: &str = "formula TOL TEXT, and TOL is usually 2^-30";
 fn formula(line: &str) -> Result<Record, Fault> {
     let (name, rest) = first_word(line);
     let (typed, text) = first_word(rest);
-    if typed.is_empty() {
-        return fault(name, format!("the tolerance is missing behind it: {FORMULA}"));
-    }
-    let tolerance = number(typed).or_else(|why| {
-        let like_text = typed.contains(['t', 'T', 'x', 'X', '(']) && !typed.starts_with("0x");
-        let why =
-            if like_text { format!("the tolerance is missing before it: {FORMULA}") } else { why };
-        fault(typed, why)
-    })?;
-    let text = match text.strip_prefix("0x").or(text.strip_prefix("0X")) {
-        _ if text.is_empty() => {
-            return fault(typed, format!("the text is missing behind it: {FORMULA}"));
-        }
+    let missing = |word, place| fault(word, format!("the {place} it: {FORMULA}"));
+    let tolerance = match number(typed) {
+        _ if typed.is_empty() => missing(name, "tolerance is missing behind"),
+        Err(_) if like_text(typed) => missing(typed, "tolerance is missing before"),
+        Ok(_) if text.is_empty() => missing(typed, "text is missing behind"),
+        tolerance => tolerance.or_else(|why| fault(typed, why)),
+    }?;
+    let bytes = text.strip_prefix("0x").or(text.strip_prefix("0X"));
+    let text = match bytes {
         Some(digits) if digits.bytes().next().is_none_or(|b| b.is_ascii_hexdigit()) => {
             by_bytes(text, digits)?
         }
         _ => sum(text)?,
     };
     Ok(Record::Formula { tolerance, text })
+}
+
+/// Whether a word that is no number looks like a formula.
+fn like_text(word: &str) -> bool {
+    word.contains(['t', 'T', '(']) || word.contains(['x', 'X']) && !word.starts_with('0')
 }
 
 /// A text of any bytes, each of them two digits.
