@@ -2,9 +2,15 @@
 //! the place, and how `hall show` shows them.
 mod run;
 
-use host::people::text;
+use host::inputs::formulas::{self, KINDS};
+use host::inputs::random::Random;
+use host::people::{marked, mistyped, show, table, text};
+use host::port::list_file;
+use host::truth::formula::expanded;
 use host::truth::hall_file::{Record, file};
 use run::{hall, made, text as lines};
+use std::iter::repeat;
+use std::ops::Range;
 
 /// What is said of a line; nothing where it makes a record.
 fn said(line: &str) -> String {
@@ -378,4 +384,63 @@ roots: 2, none of them doubtful
     let joined = lines(&hall(&["show"], &made("formula 1 t*(t-1)\nlist 1 0 -1 1")).stdout);
     let doubts: Vec<&str> = joined.lines().filter(|row| row.starts_with("  doubtful")).collect();
     assert!(doubts.len() == 2 && doubts[0] == doubts[1], "{joined}");
+}
+
+/// What stands over the marks of rows that are else these.
+fn under_marks(plain: &str, rows: &str) -> String {
+    let mut rows = rows.lines().peekable();
+    let mut found = String::new();
+    for line in plain.lines() {
+        assert_eq!(rows.next(), Some(line));
+        let are_marks = |row: &&str| !row.is_empty() && row.chars().all(|c| " ^~".contains(c));
+        let Some(marks) = rows.next_if(are_marks) else { continue };
+        let over =
+            line.chars().chain(repeat(' ')).zip(marks.chars()).filter(|(_, mark)| *mark != ' ');
+        for (c, mark) in over {
+            assert_eq!(mark, if found.is_empty() { '^' } else { '~' }, "{rows:?}");
+            found.push(c);
+        }
+    }
+    assert_eq!(rows.next(), None);
+    found
+}
+
+/// How a part is shown; of a text that is no sum it is a whole character, or the place behind it.
+fn shown_part(text: &[u8], part: Range<usize>) -> String {
+    let rest = text[part.start..].utf8_chunks().next().and_then(|rest| rest.valid().chars().next());
+    match rest.map_or(1, char::len_utf8).max(part.len()) {
+        _ if part.end > text.len() => " ".to_string(),
+        size => marked::row(&text[part.start..part.start + size]),
+    }
+}
+
+/// Whatever a text is, its marks stand under the part at fault and under nothing else, no row is too
+/// long, and it is typed as it is exactly where it is a sum.
+#[test]
+fn any_text() {
+    let (mut r, mut text) = (Random::new(17), Vec::new());
+    let mut found = [0; 16];
+    for n in 0..30_000 {
+        formulas::text(&mut r, n % KINDS.len(), &mut text);
+        let fault = expanded(&text).err();
+        found[fault.as_ref().map_or(0, |fault| usize::from(fault.refusal()))] += 1;
+        if let Some(part) = fault.as_ref().map(mistyped::part) {
+            let rows = marked::rows("1 formula: ", &text, "", Some(part.clone()));
+            // where the mark stands behind the text, a blank takes its column
+            let behind = if part.end > text.len() { " " } else { "" };
+            let plain = marked::rows("1 formula: ", &text, behind, None);
+            assert_eq!(under_marks(&plain, &rows), shown_part(&text, part), "{rows}");
+        }
+        let all = show::shown(&record(0.5, &text), list_file).unwrap();
+        let table = table::table(&all);
+        assert!(table.lines().all(|line| line.chars().count() <= 100), "{table}");
+        let typed = text::read(&[b"formula 1 ", &text[..]].concat());
+        let whole = |text: &str| text.trim() == text && !text.contains('#');
+        if std::str::from_utf8(&text).is_ok_and(whole)
+            && !text.to_ascii_lowercase().starts_with(b"0x")
+        {
+            assert_eq!(typed.is_ok(), mistyped::is_sum(&text), "{table}");
+        }
+    }
+    assert!([0, 13, 14, 15].iter().all(|n| found[*n] > 1000), "{found:?}");
 }
