@@ -345,7 +345,7 @@ mod listings {
     #[test]
     fn made_files() {
         let mut r = Random::new(12);
-        let (mut refused, mut brushes) = ([0u64; 13], 0);
+        let (mut refused, mut brushes) = ([0u64; 16], 0);
         for _ in 0..20_000 {
             let bytes = any_file(&mut r);
             let read = lines(&listing(&bytes, &Reference)).unwrap();
@@ -360,8 +360,8 @@ mod listings {
                 refused[number] += 1;
             }
         }
-        say(&format!("made files: lines by refusal 0 to 12: {refused:?}, {brushes} brushes"));
-        assert!([0, 1, 2, 3, 5, 6, 7, 8, 10, 11, 12].iter().all(|&n| refused[n] > 100));
+        say(&format!("made files: lines by refusal 0 to 15: {refused:?}, {brushes} brushes"));
+        assert!([0, 1, 2, 3, 5, 6, 7, 8, 10, 11, 12, 13, 14, 15].iter().all(|&n| refused[n] > 100));
         assert!(brushes > 100);
     }
 
