@@ -44,9 +44,9 @@ fn one_of<'a>(r: &mut Random, all: &[&'a str]) -> &'a str {
     all[r.below(all.len() as u64) as usize]
 }
 
-/// Every length as often, and short ones once more.
+/// Every length as often, and short ones more.
 fn length(r: &mut Random) -> usize {
-    let most = if one_in(r, 2) { MOST_BYTES } else { 24 };
+    let most = if one_in(r, 4) { MOST_BYTES } else { 24 };
     from_to(r, 1, most)
 }
 
@@ -284,7 +284,7 @@ fn many_digits(r: &mut Random, out: &mut Vec<u8>) {
 fn deep(r: &mut Random, out: &mut Vec<u8>) {
     let inner = one_of(r, &["t", "t-1", "t^2-2", "2", "", "t^5", "-t", "(t)*(t-3)"]);
     let most = (MOST_BYTES - inner.len()) / 2;
-    let open = if one_in(r, 3) { most } else { from_to(r, 1, most) };
+    let open = if one_in(r, 6) { most } else { from_to(r, 1, most) };
     let close = match r.below(8) {
         0 => open - 1,
         1 if 2 * open + inner.len() < MOST_BYTES => open + 1,

@@ -9,33 +9,29 @@ use crate::inputs::random::Random;
 use crate::people::text;
 use crate::port::formulas::{COEFFICIENTS, formula_coefficients, formula_roots};
 use crate::runs::{lists, parts};
-use crate::truth::formula::{self, Fault};
+use crate::truth::formula;
 use crate::truth::hall_file::Record;
 
 /// How many coefficients there are, and five of them, or the number of the refusal.
 pub type Expanded = Result<[f64; COEFFICIENTS], u64>;
 
-/// By the host's own reader.
-fn expanded(coeffs: &Result<Vec<f64>, Fault>) -> Expanded {
-    let coeffs = coeffs.as_ref().map_err(|fault| u64::from(fault.refusal()))?;
+/// From the coefficients, or the refusal.
+pub fn expanded(coeffs: &Result<Vec<f64>, u8>) -> Expanded {
+    let coeffs = coeffs.as_ref().map_err(|number| u64::from(*number))?;
     let mut all = [0.0; COEFFICIENTS];
     all[0] = coeffs.len() as f64;
     all[1..=coeffs.len()].copy_from_slice(coeffs);
     Ok(all)
 }
 
-/// The list of these coefficients by the reference build, or what is refused before.
-fn listed(coeffs: &Result<Vec<f64>, Fault>, tol: f64) -> Answer {
-    match coeffs {
-        Ok(coeffs) => lists::reference(coeffs, tol),
-        Err(fault) => Answer::new(fault.refusal().into(), &[]),
-    }
-}
-
-/// What is answered to a text.
+/// The coefficients by the host's own reader, and their list by the reference build.
 pub fn reference(text: &[u8], tol: f64) -> (Expanded, Answer) {
-    let coeffs = formula::coefficients(text);
-    (expanded(&coeffs), listed(&coeffs, tol))
+    let coeffs = formula::coefficients(text).map_err(|fault| fault.refusal());
+    let list = match &coeffs {
+        Ok(coeffs) => lists::reference(coeffs, tol),
+        Err(number) => Answer::new((*number).into(), &[]),
+    };
+    (expanded(&coeffs), list)
 }
 
 pub const CASES: [&str; 20] = [
@@ -122,13 +118,20 @@ pub fn outcome(each: impl FnOnce(&mut Outcome)) -> Outcome {
     outcome
 }
 
+/// The n-th made text, of the kinds in turn, and a tolerance.
+pub fn made_record(r: &mut Random, n: u64) -> (Vec<u8>, f64) {
+    let mut text = Vec::new();
+    formulas::text(r, (n % KINDS.len() as u64) as usize, &mut text);
+    (text, tolerance(r))
+}
+
 /// `count` made texts, the kinds in turn.
 pub fn made(seed: u64, count: u64) -> Outcome {
-    let (mut r, mut text) = (Random::new(seed), Vec::new());
+    let mut r = Random::new(seed);
     outcome(|all| {
         for n in 0..count {
-            formulas::text(&mut r, (n % KINDS.len() as u64) as usize, &mut text);
-            add(all, &text, tolerance(&mut r));
+            let (text, tol) = made_record(&mut r, n);
+            add(all, &text, tol);
         }
     })
 }
