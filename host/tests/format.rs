@@ -245,6 +245,30 @@ mod listings {
         assert!(listed_text(order).iter().all(|line| line.ends_with("refused 1")));
     }
 
+    /// A formula's line is that of the list of its coefficients; 13 comes first, and goes on reading.
+    #[test]
+    fn lines_of_formulas() {
+        let known = [
+            ("(t-2)^2*(t+1)", "ok 2 BFF0000000000000 1 c 4000000000000000 2 f"),
+            ("0-t^4*1", "ok 1 0000000000000000 4 f"),
+            ("t^2+1", "ok 0"),
+            ("t^5-t^5", "refused 14"),
+            ("(1000*t)^9", "refused 14"),
+            ("(10000*t)^9", "refused 15"),
+            ("0*t^4*t", "refused 2"),
+            ("t^0", "refused 2"),
+            ("0x", "refused 13"),
+            ("0x745E352B3274", "refused 13"),
+            ("0xFF", "refused 13"),
+        ];
+        let text: String =
+            known.iter().map(|(text, _)| format!("formula 2^-30 {text}\n")).collect();
+        let wanted = known.iter().enumerate().map(|(i, (_, line))| format!("{} TX {line}", i + 1));
+        assert_eq!(listed_text(&text), wanted.collect::<Vec<_>>());
+        let as_list = listed_text("list 2^-30 4 0 -3 1")[0].replace("PL", "TX");
+        assert_eq!(listed_text(&text)[0], as_list);
+    }
+
     #[test]
     fn entries() {
         let wanted = "refused 2|refused 2|refused 2|refused 1|refused 1|refused 3\
