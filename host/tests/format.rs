@@ -221,7 +221,7 @@ mod listings {
             "17 PL ok 2 3FF0000000000000 1 c 4000000000000000 1 c",
         ];
         assert_eq!(listed_text(REFUSED), wanted);
-        let known: [(&[u8], &str); 14] = [
+        let known: [(&[u8], &str); 10] = [
             (b"", ""),
             (b"P", "1 -- refused 7\n"),
             (b"PX", "1 -- refused 6\n"),
@@ -232,10 +232,6 @@ mod listings {
             (b"QD", "1 QD refused 7\n"),
             (b"TG\0", "1 TG refused 7\n"),
             (b"PC", "1 PC refused 7\n"),
-            (b"TX", "1 TX refused 7\n"),
-            (b"TX\0", "1 TX refused 7\n"),
-            (b"TX\0\0\0\0\0\0\0\0\0", "1 TX refused 13\n"),
-            (b"TX\xFF\0\0\0\0\0\0\0\0", "1 TX refused 7\n"),
         ];
         for (bytes, lines) in known {
             assert_eq!(listed(bytes), lines, "{bytes:?}");
@@ -267,6 +263,14 @@ mod listings {
         assert_eq!(listed_text(&text), wanted.collect::<Vec<_>>());
         let as_list = listed_text("list 2^-30 4 0 -3 1")[0].replace("PL", "TX");
         assert_eq!(listed_text(&text)[0], as_list);
+        for (bytes, number) in [
+            (&b"TX"[..], 7),
+            (b"TX\0", 7),
+            (b"TX\0\0\0\0\0\0\0\0\0", 13),
+            (b"TX\xFF\0\0\0\0\0\0\0\0", 7),
+        ] {
+            assert_eq!(listed(bytes), format!("1 TX refused {number}\n"));
+        }
     }
 
     #[test]
