@@ -320,7 +320,7 @@ pub const CHAINS: &[Patch] = &[
 ];
 
 /// The host's own reader and lister of hall files.
-pub const OWN: [&str; 4] = ["hall_file.rs", "contact.rs", "kind.rs", "lister.rs"];
+pub const OWN: [&str; 5] = ["hall_file.rs", "contact.rs", "formula.rs", "kind.rs", "lister.rs"];
 
 /// In their copies: what is private is opened, paths lead to the copies, and printing is a function
 /// of its own.
@@ -328,6 +328,9 @@ pub const OWN_OPENED: &[Patch] = &[
     ("hall_file.rs", "\nfn ", "\npub fn ", 5),
     ("hall_file.rs", "use crate::truth::contact::", "use super::contact::", 1),
     ("contact.rs", "\nfn ", "\npub fn ", 1),
+    ("formula.rs", "\nfn ", "\npub fn ", 3),
+    ("formula.rs", "\n    fn ", "\n    pub fn ", 11),
+    ("lister.rs", "use crate::truth::formula;", "use super::formula;", 1),
     ("lister.rs", "use crate::truth::hall_file::", "use super::hall_file::", 1),
     ("lister.rs", "use crate::truth::kind::", "use super::kind::", 1),
     (

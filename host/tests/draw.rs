@@ -238,6 +238,33 @@ fn the_title_is_the_equation() {
     assert_eq!(of_class(&all, "faint")[0].text, "record 1, list, tol 2^-30: 2 roots");
 }
 
+/// A formula is drawn as the list of its coefficients is, in t, below its text.
+#[test]
+fn formulas() {
+    let all = picture("formula 2^-30 (t-2)^2*(t+1)");
+    assert_eq!(labels(&all), ["t = -1", "t = 2, flat, twice"]);
+    assert_eq!(marked(&all), [1, 0, 1]);
+    assert_eq!(of_class(&all, "title")[0].text, "(t-2)^2*(t+1) = 0");
+    assert_eq!(of_class(&all, "faint")[0].text, "record 1, formula, tol 2^-30: 2 roots");
+    let list = picture("list 2^-30 4 0 -3 1");
+    for class in ["curve", "grid", "axis", "crossing", "flat"] {
+        let all = [&all, &list].map(|picture| of_class(picture, class).len());
+        assert!(all[0] == all[1] && all[0] > 0, "{class}");
+    }
+    let path = |all: &[Element]| of_class(all, "curve")[0].has["d"].clone();
+    assert_eq!(path(&all), path(&list));
+    let axes =
+        |all: &[Element]| ["x", "p(x)", "t", "p(t)"].map(|t| all.iter().any(|e| e.text == t));
+    assert_eq!([axes(&all), axes(&list)], [[false, false, true, true], [true, true, false, false]]);
+    let none = picture("formula 2^-30 t^2-4*t+5");
+    assert_eq!(labels(&none), ["nearest to 0 at t = 2: p(t) = 1"]);
+    // three lines of a title
+    let long = format!("t{}", "+t".repeat(127));
+    let all = picture(&format!("formula 1 {long}"));
+    let title: Vec<&str> = of_class(&all, "title").iter().map(|line| &line.text[..]).collect();
+    assert_eq!((title.len(), title.concat()), (3, format!("{long} = 0")));
+}
+
 /// 0 is to the right, and they count anticlockwise.
 #[test]
 fn cranks() {
@@ -353,14 +380,16 @@ fn made_records() {
 #[test]
 fn no_pictures() {
     let path = scratch("drawn.hall");
-    fs::write(&path, [&made("list 1 2 -3 1\nlist 1 5\nlist 1 -1.7e308 1")[..], b"XX"].concat())
-        .unwrap();
+    let lines = "list 1 2 -3 1\nlist 1 5\nlist 1 -1.7e308 1\nformula 1 t^5\nformula 1 0x3274";
+    fs::write(&path, [&made(lines)[..], b"XX"].concat()).unwrap();
     let path = path.to_str().unwrap();
-    let known: [(&[&str], u8, &str); 9] = [
+    let known: [(&[&str], u8, &str); 11] = [
         (&["draw", path, "2"], 1, "record 2 is not drawn: it is refused under 2: no equation"),
         (&["draw", path, "3"], 1, "record 3 is not drawn: its places are too far apart"),
-        (&["draw", path, "4"], 1, "record 4 is not drawn: it is refused under 6: byte"),
-        (&["draw", path, "5"], 2, "no record 5: the file has 4"),
+        (&["draw", path, "4"], 1, "record 4 is not drawn: it is refused under 14: `t^5` comes to"),
+        (&["draw", path, "5"], 1, "record 5 is not drawn: it is refused under 13: no sum: `t`"),
+        (&["draw", path, "6"], 1, "record 6 is not drawn: it is refused under 6: byte"),
+        (&["draw", path, "7"], 2, "no record 7: the file has 6"),
         (&["draw", path, "0"], 2, "no record 0"),
         (&["draw", path, "x"], 2, "`x` is no whole number"),
         (&["draw", path], 2, "a word is missing after `hall draw"),

@@ -11,7 +11,8 @@ fn read(text: &str) -> Result<Vec<u8>, TextError> {
 #[test]
 fn text_to_file() {
     let text = "# lanes 1 to 4\n\nlist 2^-30 2 -3 1 # two roots\n\tquad 0.5 0x0000000000000001 1 -3 2\r\n\
-                crank -inf nan 0 1 -0 7#\nlist 1\ncontact 2 1 2 -3 0.5 -0 inf 1 2 7";
+                crank -inf nan 0 1 -0 7#\nlist 1\ncontact 2 1 2 -3 0.5 -0 inf 1 2 7\n\
+                formula 2 (t-2)^2*(t+1) # as typed\nformula 0.5\t0x32\r\n";
     let mut wanted = Vec::new();
     let mut add = |mark: &[u8], numbers: &[u64]| {
         wanted.extend(mark);
@@ -24,6 +25,9 @@ fn text_to_file() {
     add(b"PL\0", &[one]);
     let path = [one, two, minus_three, 0x3FE0 << 48, 1 << 63, 0x7FF0 << 48];
     add(b"PC", &[&[two], &path[..], &[one, two, 0x401C << 48]].concat());
+    add(b"TX\x0D", &[two]);
+    add(b"(t-2)^2*(t+1)TX\x01", &[0x3FE0 << 48]);
+    add(b"2", &[]);
     assert_eq!(read(text).unwrap(), wanted);
     assert_eq!(read("").unwrap(), b"");
     assert_eq!(read("# nothing\n\n").unwrap(), b"");
@@ -41,7 +45,7 @@ fn file_to_text_and_back() {
 }
 
 /// A text, and the line, the word and the reason of its first fault.
-const FAULTS: [(&str, usize, &str, &str); 31] = [
+const FAULTS: [(&str, usize, &str, &str); 35] = [
     ("lst 1 2", 1, "lst", "no kind of record"),
     ("list 1\n\nPL 1", 3, "PL", "no kind of record"),
     ("list", 1, "list", "the tolerance is missing"),
@@ -73,6 +77,10 @@ const FAULTS: [(&str, usize, &str, &str); 31] = [
     ("slider 1e200 3 3", 1, "slider", "a number of its equation is beyond"),
     ("slider 1e-200 3 1e-200", 1, "slider", "a number of its equation is below"),
     ("slider 1e-200 3 0 1e-200", 1, "slider", "a number of its equation is below"),
+    ("formula", 1, "formula", "the tolerance is missing behind it: formula TOL TEXT"),
+    ("list 1\nformula 1 # t", 2, "1", "the text is missing behind it: formula TOL TEXT"),
+    ("formula t-2", 1, "t-2", "the tolerance is missing before it: formula TOL TEXT"),
+    ("formula 1 0x7", 1, "0x7", "no bytes: behind 0x each has two hexadecimal digits"),
 ];
 
 #[test]
@@ -83,6 +91,11 @@ fn errors_name_line_and_word() {
         assert!(error.why.starts_with(why), "{text}: {error}");
         assert!(error.to_string().starts_with(&format!("line {line}: `{word}`: ")), "{error}");
     }
+    // the text of a formula stands below
+    let error = read("list 1\nformula 1 2*x # x").unwrap_err();
+    let why = "no formula: `x`: the one letter is `t`";
+    assert_eq!((error.line, &error.word[..], &error.why[..]), (2, "2*x", why));
+    assert_eq!(error.to_string(), format!("line 2: {why}\n    2*x\n      ^"));
     let error = text::read(b"list 1\nlist \xFF").unwrap_err();
     assert_eq!((error.line, &error.why[..]), (2, "not UTF-8"));
     for mark in [&b"\xFF\xFE"[..], b"\xFE\xFF"] {
@@ -101,6 +114,8 @@ fn other_ways_to_type() {
         ("Quad 10^-9 1/2 1 -3/2 +Inf", "quad 1e-9 0.5 1 -1.5 inf"),
         ("list 0X3E10000000000000 1", "list 2^-30 1"),
         ("Contact 1/2 0 1E0 0 0 0 0 3 0 +1", "contact 0.5 0 1 0 0 0 0 3 0 1"),
+        ("  FORMULA\t1/2   t-2 ", "formula 0.5 t-2"),
+        ("Formula 1 0X742D32", "formula 1 t-2"),
     ];
     for (typed, plain) in same {
         assert_eq!(read(typed), read(plain), "{typed}");
@@ -141,7 +156,7 @@ fn lists_and_files_too_long() {
 
 #[test]
 fn marks() {
-    assert_eq!(Kind::ALL.map(Kind::mark), ["PL", "QD", "TG", "PC"]);
+    assert_eq!(Kind::ALL.map(Kind::mark), ["PL", "QD", "TG", "PC", "TX"]);
     for mark in [&b"PLX"[..], b"P", b"", b"pl", b"LP"] {
         assert_eq!(Kind::of_mark(mark), None);
     }
@@ -226,6 +241,38 @@ mod listings {
         assert!(listed_text(order).iter().all(|line| line.ends_with("refused 1")));
     }
 
+    /// A formula's line is that of the list of its coefficients; 13 comes first, and goes on reading.
+    #[test]
+    fn lines_of_formulas() {
+        let known = [
+            ("(t-2)^2*(t+1)", "ok 2 BFF0000000000000 1 c 4000000000000000 2 f"),
+            ("0-t^4*1", "ok 1 0000000000000000 4 f"),
+            ("t^2+1", "ok 0"),
+            ("t^5-t^5", "refused 14"),
+            ("(1000*t)^9", "refused 14"),
+            ("(10000*t)^9", "refused 15"),
+            ("0*t^4*t", "refused 2"),
+            ("t^0", "refused 2"),
+            ("0x", "refused 13"),
+            ("0x745E352B3274", "refused 13"),
+            ("0xFF", "refused 13"),
+        ];
+        let text: String =
+            known.iter().map(|(text, _)| format!("formula 2^-30 {text}\n")).collect();
+        let wanted = known.iter().enumerate().map(|(i, (_, line))| format!("{} TX {line}", i + 1));
+        assert_eq!(listed_text(&text), wanted.collect::<Vec<_>>());
+        let as_list = listed_text("list 2^-30 4 0 -3 1")[0].replace("PL", "TX");
+        assert_eq!(listed_text(&text)[0], as_list);
+        for (bytes, number) in [
+            (&b"TX"[..], 7),
+            (b"TX\0", 7),
+            (b"TX\0\0\0\0\0\0\0\0\0", 13),
+            (b"TX\xFF\0\0\0\0\0\0\0\0", 7),
+        ] {
+            assert_eq!(listed(bytes), format!("1 TX refused {number}\n"));
+        }
+    }
+
     #[test]
     fn entries() {
         let wanted = "refused 2|refused 2|refused 2|refused 1|refused 1|refused 3\
@@ -295,6 +342,7 @@ mod listings {
             ("QD", "quad 0 0 1 2 1"),
             ("TG", "crank 0 0 0 1 0 0"),
             ("PC", "contact 0 0 1 0 0 0 0 3 0 1"),
+            ("TX", "formula 0 (t-2)^2"),
         ] {
             let bytes = read(line).unwrap();
             for cut in 1..bytes.len() {
@@ -345,7 +393,7 @@ mod listings {
     #[test]
     fn made_files() {
         let mut r = Random::new(12);
-        let (mut refused, mut brushes) = ([0u64; 13], 0);
+        let (mut refused, mut brushes) = ([0u64; 16], 0);
         for _ in 0..20_000 {
             let bytes = any_file(&mut r);
             let read = lines(&listing(&bytes, &Reference)).unwrap();
@@ -360,8 +408,8 @@ mod listings {
                 refused[number] += 1;
             }
         }
-        say(&format!("made files: lines by refusal 0 to 12: {refused:?}, {brushes} brushes"));
-        assert!([0, 1, 2, 3, 5, 6, 7, 8, 10, 11, 12].iter().all(|&n| refused[n] > 100));
+        say(&format!("made files: lines by refusal 0 to 15: {refused:?}, {brushes} brushes"));
+        assert!([0, 1, 2, 3, 5, 6, 7, 8, 10, 11, 12, 13, 14, 15].iter().all(|&n| refused[n] > 100));
         assert!(brushes > 100);
     }
 

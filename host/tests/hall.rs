@@ -6,7 +6,7 @@ use host::port;
 use run::{hall, said, scratch, text};
 use std::fs;
 
-const COMMANDS: [&str; 22] = [
+const COMMANDS: [&str; 23] = [
     "make",
     "list",
     "show",
@@ -20,6 +20,7 @@ const COMMANDS: [&str; 22] = [
     "inquiries",
     "cranks",
     "contacts",
+    "formulas",
     "quadratics",
     "files",
     "damage",
@@ -100,6 +101,7 @@ fn words_not_known() {
         (&["lists", "five", "1"], "`five` is no number"),
         (&["cranks", "5"], "a word is missing after `hall cranks 5`"),
         (&["contacts", "5"], "a word is missing after `hall contacts 5`"),
+        (&["formulas", "5"], "a word is missing after `hall formulas 5`"),
         (&["files", "5"], "a word is missing after `hall files 5`"),
         (&["damage", "ten", "1"], "`ten` is no number"),
         (&["lanes", "--help"], "unknown word `lanes`"),

@@ -13,7 +13,7 @@ use host::port;
 use host::runs::damage::Hunt;
 use host::runs::files::made;
 use host::stored::files::{DOCUMENT_LISTING, files, of_size};
-use host::truth::hall_file::MOST_BYTES;
+use host::truth::hall_file::{MOST_BYTES, MOST_LISTED};
 use host::truth::lister::{Reference, listing};
 use run::{hallroots, piped};
 use std::process::{Command, Stdio};
@@ -76,13 +76,25 @@ fn lengths() {
     }
 }
 
+/// The longest listing that was found: of five letters each, three roots.
+#[test]
+fn longest_lines() {
+    let bytes = stored("longest_lines");
+    let lines = by_port(&bytes);
+    assert_eq!(bytes.len(), MOST_BYTES);
+    assert_eq!(lines, listing(&bytes, &Reference));
+    assert!(lines.len() > 300_000 && lines.len() <= MOST_LISTED, "{} bytes", lines.len());
+}
+
 /// Into a buffer of every length: the listing as far as it reaches, its whole length as the answer,
 /// and every byte behind it as it was.
 #[test]
 fn short_buffers() {
     let mut r = Random::new(734);
     let mut all: Vec<Vec<u8>> = (0..60).map(|_| any_file(&mut r)).collect();
-    all.extend(["document", "entries", "refused", "empty", "bytes_65537"].map(stored));
+    all.extend(
+        ["document", "entries", "refused", "deep_brackets", "empty", "bytes_65537"].map(stored),
+    );
     let mut lengths = 0;
     for bytes in all {
         let wanted = by_port(&bytes);

@@ -90,7 +90,7 @@ fn tables_of_made_files() {
         let csv = text(&hall(&["show", "--csv"], &bytes).stdout);
         let mut last = (String::new(), 0.0);
         for fields in csv.lines().skip(1).map(fields) {
-            assert_eq!(fields.len(), 18, "{fields:?}");
+            assert_eq!(fields.len(), 19, "{fields:?}");
             let Ok(angle) = fields[12].parse::<f64>() else { continue };
             let radians: f64 = fields[13].parse().unwrap();
             assert!((radians - angle.to_radians()).abs() < 1e-8, "{fields:?}");
@@ -124,13 +124,13 @@ fn a_file_as_csv() {
     let csv = text(&hall(&["show", path, "--csv"], b"").stdout);
     let lines: Vec<&str> = csv.lines().collect();
     let head = "record,byte,kind,tolerances,question,answer,refused,why,place,bits,times,\
-                root kind,degrees,radians,x,y,distance,doubt";
+                root kind,degrees,radians,x,y,distance,doubt,expanded";
     assert_eq!(lines[0], head);
     assert_eq!(lines.len(), 12);
     assert_eq!(fields(lines[4])[9..12], ["3FF0000000000000", "", ""]);
     let crank = "4,88,crank,confusion 2^-30,cos t = 0,\"k 4, 2 roots\",,,-1,BFF0000000000000,1,";
-    assert_eq!(lines[6], format!("{crank}crossing,90,1.570796327,,,,"));
-    assert_eq!(lines[11], "7,223,--,,,,6,byte 223: unknown mark `XX`,,,,,,,,,,");
+    assert_eq!(lines[6], format!("{crank}crossing,90,1.570796327,,,,,"));
+    assert_eq!(lines[11], "7,223,--,,,,6,byte 223: unknown mark `XX`,,,,,,,,,,,");
     assert_eq!(text(&hall(&["show", "--csv", path], b"").stdout), csv);
     assert_eq!(text(&hall(&["show", "--csv"], &bytes).stdout), csv);
 }
@@ -161,9 +161,9 @@ fn contacts() {
     let csv = text(&hall(&["show", "--csv"], &bytes).stdout);
     let ends: Vec<Vec<String>> =
         csv.lines().skip(1).map(|line| fields(line).split_off(11)).collect();
-    assert_eq!(ends[0], ["crossing", "", "", "4", "-4", "0", ""]);
-    assert_eq!(ends[2], ["flat", "", "", "5.25", "0", "0.25", ""]);
-    assert_eq!(ends[3], ["brush", "", "", "5.25", "0", "0.25", ""]);
+    assert_eq!(ends[0], ["crossing", "", "", "4", "-4", "0", "", ""]);
+    assert_eq!(ends[2], ["flat", "", "", "5.25", "0", "0.25", "", ""]);
+    assert_eq!(ends[3], ["brush", "", "", "5.25", "0", "0.25", "", ""]);
     let brush = text(&hall(&["explain", "-", "3"], &bytes).stdout);
     assert!(brush.contains(", 2 times, brush: a contact, D - R is 0.25\n"), "{brush}");
     let why = text(&hall(&["explain", "-", "2"], &bytes).stdout);

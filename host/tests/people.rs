@@ -41,14 +41,39 @@ untouched Rust: 3 equal to the reference build, 1 not
     assert_eq!(lines.lines().count(), 5);
 }
 
+/// A formula departs as the list of its coefficients does.
+#[test]
+fn formulas() {
+    let out = hall(&["compare", "-"], &made("formula 2^-30 (t-3)^2*(t-2)\nformula 2^-30 t^5"));
+    assert_eq!((out.status.code(), &out.stderr[..]), (Some(0), &b""[..]));
+    let shown = "\
+record 1 at byte 0: formula 2^-30 (t-3)^2*(t-2)
+  t^3 - 8 t^2 + 21 t - 18 = 0
+  reference  ok
+    2                         4000000000000000  1 c
+    3.000000000000001         4008000000000002  2 f
+  port       the same
+  untouched  ok  [bits, steps 0 4]
+    2                         4000000000000000  1 c
+    2.999999999999999         4007FFFFFFFFFFFE  2 f
+2 records: 1 answered, 1 refused
+port: 2 equal to the reference build, 0 not
+untouched Rust: 1 equal to the reference build, 1 not
+";
+    assert_eq!(text(&out.stdout), shown);
+}
+
 /// Of all that is told, no line has over 100 columns.
 #[test]
 fn columns() {
     let long =
         "list 2^-30 -1.8e1 21.000000000000004 -7.999999999999999 1.0000000000000002 0 0 0 0 0";
     let bytes = made(&format!("{long} 0 0 0 0 0 0 0 0 0 0 0 0 0 0 0\nlist 2^-30 -18 21 -8 1"));
+    // the same roots, and 0 in many brackets
+    let formula = format!("formula 2^-30 (t-3)^2*(t-2){}", "+(0)".repeat(59));
     let told = [
         hall(&["compare", "-"], &bytes).stdout,
+        hall(&["compare", "-"], &made(&formula)).stdout,
         hall(&["compare", "-"], b"list 1 2").stderr,
         hall(&["make"], b"list 1 2 three").stderr,
         hall(&["lists", "1000", "1"], b"").stdout,
@@ -65,8 +90,10 @@ fn columns() {
 /// Text, junk or nothing: status 2. Behind a whole record it is a refusal like another.
 #[test]
 fn nothing_to_compare() {
-    let known: [(&[u8], &str); 8] = [
+    let known: [(&[u8], &str); 10] = [
         (b"", "the file is empty"),
+        (b"formula 2^-30 t-2", "byte 0: unknown mark `fo`; for lines of text, `hall make`"),
+        (b"TX\x05abc", "byte 0: the file ends inside this formula, 6 bytes of it are there of 16"),
         (b"Slider 1 3 3\n", "byte 0: unknown mark `Sl`; for lines of text, `hall make`"),
         (b"list 2^-30 2 -3 1\n", "byte 0: unknown mark `li`; for lines of text, `hall make`"),
         (b"\x7FELF", "byte 0: unknown mark `\\x7fE`"),

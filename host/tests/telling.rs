@@ -1,10 +1,11 @@
 //! Stored lists by the port against the reference build, under all three closures, and stored
-//! contacts.
+//! contacts and formulas.
 #![cfg(geomcore)]
 use host::compare::outcome::Outcome;
 use host::port;
 use host::port::contacts::pin_contact;
 use host::runs::contacts;
+use host::runs::formulas;
 use host::runs::inquiries::{List, add, cases};
 use host::runs::lists::reference;
 use host::stored::telling::{self, LISTS, Telling};
@@ -28,4 +29,15 @@ fn stored_contacts() {
         let (given, wanted) = (pin_contact(contact.numbers()), contacts::reference(&contact).list);
         assert!(given.same(&wanted), "{name}: port {}, reference {}", given.text(), wanted.text());
     }
+}
+
+#[test]
+fn stored_formulas() {
+    let tol = 1.0 / (1u64 << 30) as f64;
+    let outcome = formulas::outcome(|all| {
+        for (_, text) in telling::FORMULAS {
+            formulas::add(all, text.as_bytes(), tol);
+        }
+    });
+    assert!(outcome.wrong == 0, "{}", outcome.shown.join("\n"));
 }

@@ -8,6 +8,9 @@ mod equations;
 mod evaluation;
 mod factors;
 mod files;
+mod formula_parts;
+mod formula_records;
+mod formulas;
 mod inquiry;
 mod kinds;
 mod listing;
@@ -41,6 +44,9 @@ pub fn all() -> Vec<Variant> {
         files::ALL,
         contacts::ALL,
         contact_records::ALL,
+        formulas::ALL,
+        formula_parts::ALL,
+        formula_records::ALL,
         kinds::ALL,
     ]
     .concat()

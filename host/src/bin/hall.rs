@@ -6,11 +6,12 @@ use std::path::Path;
 use std::process::ExitCode;
 
 /// The long runs, and what their first number says.
-const RUNS: [(&str, &str); 11] = [
+const RUNS: [(&str, &str); 12] = [
     ("lists", "COUNT"),
     ("inquiries", "COUNT"),
     ("cranks", "COUNT"),
     ("contacts", "COUNT"),
+    ("formulas", "COUNT"),
     ("files", "COUNT"),
     ("damage", "MINUTES"),
     ("quadratics", "COUNT"),
@@ -79,6 +80,7 @@ fn long_run(what: &str, count: u64, seed: u64) -> Result<bool, String> {
         "damage" => Ok(host::runs::damage::run(count, seed)),
         "cranks" => Ok(host::runs::cranks::run(count, seed)),
         "contacts" => Ok(host::runs::contacts::run(count, seed)),
+        "formulas" => Ok(host::runs::formulas::run(count, seed)),
         "quadratics" => Ok(host::runs::quadratics::run(count, seed)),
         "doubts" => Ok(host::runs::doubts::run(count, seed)),
         _ => with_feature(what, count, seed),

@@ -1,5 +1,6 @@
 //! Made hall files: records of every kind, edges more often than chance gives, and damage.
 use crate::inputs::contacts;
+use crate::inputs::formulas;
 use crate::inputs::lists::{KINDS, handed_in, tolerance};
 use crate::inputs::quadratics::{crank, quadratic};
 use crate::inputs::random::Random;
@@ -8,7 +9,7 @@ use crate::truth::hall_file::{Item, Kind, MOST_COEFFICIENTS, Record, file, items
 
 /// A record; `n` tells those of one kind apart.
 pub fn record(r: &mut Random, n: u64) -> Record {
-    let record = match r.below(8) {
+    let record = match r.below(9) {
         0..=4 => {
             let mut coeffs = Vec::new();
             let which = r.below(KINDS.len() as u64) as usize;
@@ -26,12 +27,20 @@ pub fn record(r: &mut Random, n: u64) -> Record {
             let terms = crank(r, which);
             Record::Crank { confusion: tolerance(r), terms }
         }
-        _ => {
+        7 => {
             let which = r.below(contacts::KINDS.len() as u64) as usize;
             Record::Contact(contacts::contact(r, which))
         }
+        _ => Record::Formula { tolerance: tolerance(r), text: formula(r) },
     };
     if r.below(12) == 0 { of_edges(r, record.kind()) } else { record }
+}
+
+/// A formula's text.
+fn formula(r: &mut Random) -> Vec<u8> {
+    let (which, mut text) = (r.below(formulas::KINDS.len() as u64) as usize, Vec::new());
+    formulas::text(r, which, &mut text);
+    text
 }
 
 /// A record whose numbers are edges, or next to one.
@@ -51,6 +60,7 @@ fn of_edges(r: &mut Random, kind: Kind) -> Record {
             Record::Crank { confusion: tolerance(r), terms }
         }
         Kind::Contact => Record::Contact(Contact::new(std::array::from_fn(|_| r.edge()))),
+        Kind::Formula => Record::Formula { tolerance: r.edge(), text: formula(r) },
     }
 }
 
@@ -70,9 +80,23 @@ pub fn any_file(r: &mut Random) -> Vec<u8> {
 }
 
 /// Ends of files, of which each is refused.
-const ENDS: [&[u8]; 13] = [
-    b"P", b"Q", b"\0", b"XX", b"PQ", b"pl", b"PL", b"QD", b"TG", b"PC", b"PL\0", b"PL\x21",
+const ENDS: [&[u8]; 16] = [
+    b"P",
+    b"Q",
+    b"\0",
+    b"XX",
+    b"PQ",
+    b"pl",
+    b"PL",
+    b"QD",
+    b"TG",
+    b"PC",
+    b"TX",
+    b"PL\0",
+    b"PL\x21",
     b"PL\xFF",
+    b"TX\0",
+    b"TX\x01\0\0\0\0\0\0\0\0",
 ];
 
 /// Cuts, changes, adds or takes off bytes.
@@ -81,12 +105,13 @@ pub fn damage(r: &mut Random, bytes: &mut Vec<u8>) {
         return bytes.extend(ENDS[r.below(ENDS.len() as u64) as usize]);
     }
     let at = r.below(bytes.len() as u64) as usize;
-    match r.below(6) {
+    match r.below(7) {
         0 => bytes.truncate(at),
         1 => bytes[at] = r.next() as u8,
         2 => bytes.insert(at, r.next() as u8),
         3 => drop(bytes.remove(at)),
         4 => front_of_a_record(r, bytes),
+        5 => text_of_a_formula(r, bytes),
         _ => bytes.extend(ENDS[r.below(ENDS.len() as u64) as usize]),
     }
 }
@@ -99,9 +124,22 @@ fn front_of_a_record(r: &mut Random, bytes: &mut [u8]) {
     };
     if let Some(byte) = bytes.get_mut(at + r.below(3) as usize) {
         *byte = match r.below(2) {
-            0 => b"PLQDTGC\x20\x21"[r.below(9) as usize],
+            0 => b"PLQDTGCX\x20\x21"[r.below(10) as usize],
             _ => byte.wrapping_add(r.below(3) as u8).wrapping_sub(1),
         };
+    }
+}
+
+/// Changes a byte of a formula's text, where there is one, to what may stand in texts.
+fn text_of_a_formula(r: &mut Random, bytes: &mut [u8]) {
+    let text = |item: Item| match item.record {
+        Ok(Record::Formula { text, .. }) if !text.is_empty() => Some((item.at + 11, text.len())),
+        _ => None,
+    };
+    let all: Vec<_> = items(bytes).into_iter().filter_map(text).collect();
+    if let [_, ..] = all[..] {
+        let (at, len) = all[r.below(all.len() as u64) as usize];
+        bytes[at + r.below(len as u64) as usize] = formulas::letter(r);
     }
 }
 

@@ -2,6 +2,8 @@
 #[cfg(geomcore)]
 pub mod clustering;
 pub mod contacts;
+pub mod derived;
+pub mod formulas;
 pub mod hall_files;
 pub mod leaves;
 pub mod lists;

@@ -352,7 +352,7 @@ fn quadratics(_: &mut Random) -> Vec<Row> {
 /// cranks in turn and numbers from -1 to 1, at the tolerance 2^-30: the time for a record.
 #[cfg(geomcore)]
 fn full_files(r: &mut Random) -> Vec<Row> {
-    use crate::truth::hall_file::{MOST_BYTES, Record, file};
+    use crate::truth::hall_file::{MOST_BYTES, MOST_LISTED, Record, file};
     use crate::truth::lister::{Untouched, listing};
     const FILES: usize = 10;
     const TURN: usize = 35 + 43 + 51 + 42 + 50;
@@ -372,7 +372,7 @@ fn full_files(r: &mut Random) -> Vec<Row> {
     let full: Vec<Vec<u8>> =
         (0..FILES).map(|_| file(&(0..records).map(&mut record).collect::<Vec<_>>())).collect();
     let inputs: Vec<&[u8]> = full.iter().map(Vec::as_slice).collect();
-    let port = |bytes| port::list_file(bytes, &mut vec![0; 163_860]) as f64;
+    let port = |bytes| port::list_file(bytes, &mut vec![0; MOST_LISTED]) as f64;
     let rust = |bytes| listing(bytes, &Untouched).len() as f64;
     let names = ("full file, a record", "a plain lister");
     let mut row = row(names, Aim::Times(3.0), &inputs, port, rust);

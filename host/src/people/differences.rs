@@ -4,8 +4,8 @@ use crate::people::number::shortest;
 use crate::people::progress::Progress;
 use crate::people::show::{ListFile, answered};
 use crate::people::table::{quoted, wrapped};
-use crate::people::{As, question, text};
-use crate::truth::hall_file::Item;
+use crate::people::{As, marked, question, text};
+use crate::truth::hall_file::{Item, Kind};
 use crate::truth::lister::{Answer, Listed, Reference, Untouched, line};
 
 /// A record and its three answers.
@@ -94,13 +94,24 @@ impl Compared {
         }
     }
 
+    /// Which record it is.
+    fn head(&self) -> String {
+        let Compared { item, .. } = self;
+        let front = format!("record {} at byte {}: ", item.number, item.at);
+        match item.kind {
+            // it may be one long word
+            Some(Kind::Formula) => marked::rows(&front, self.input().as_bytes(), "", None),
+            _ => wrapped(&(front + &self.input())),
+        }
+    }
+
     /// The lines that show how the three differ.
     pub fn text(&self) -> String {
         let Compared { item, port, reference, untouched } = self;
-        let head = format!("record {} at byte {}: {}", item.number, item.at, self.input());
-        let mut all = wrapped(&head);
+        let mut all = self.head();
         if let Ok(record) = &item.record {
-            all += &wrapped(&format!("  {}", question::equation(record)));
+            let equation = question::expanded(record).unwrap_or_else(|| question::equation(record));
+            all += &wrapped(&format!("  {equation}"));
         }
         all += &format!("  reference  {}\n{}", front(reference), places(reference));
         for (name, answer) in [("port", port), ("untouched", untouched)] {

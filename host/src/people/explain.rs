@@ -103,7 +103,7 @@ const REASONS: [&str; 3] = [
 ];
 
 fn record(shown: &Shown) -> String {
-    let text = wrapped(&front(shown));
+    let text = front(shown);
     if let Some(refused) = refused(shown) {
         return text + &wrapped(&refused);
     }
@@ -115,7 +115,7 @@ fn record(shown: &Shown) -> String {
 fn meant(shown: &Shown) -> String {
     let name = match shown.item.kind {
         Some(Kind::Crank) => "u",
-        Some(Kind::Contact) => "t",
+        Some(Kind::Contact | Kind::Formula) => "t",
         _ => "x",
     };
     let p = polynomial(&shown.coeffs, name);

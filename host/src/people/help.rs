@@ -3,12 +3,14 @@
 /// A line that begins with `hall` starts a command, and one that begins with a capital a topic.
 const HELP: &str = "\
 hall make < TEXT > FILE   write a hall file from lines of text, one record each. An error names line
-                          and word, and then nothing is written
+                          and word, of a formula with a mark under the character, and then nothing
+                          is written
 hall list [FILE]          the listing of a hall file, or of standard input, by the proved lister, as
                           the program hallroots prints it. Status 1 where the file is not read to
                           its end, which is a refusal under 6, 7, 8 or 9
-hall show [FILE] [--csv]  the same for people: each record's equation, places as decimals and bits,
-                          how often each counts and its kind, a crank's roots by their angle t from
+hall show [FILE] [--csv]  the same for people: each record's equation, a formula multiplied out or
+                          with marks under what is wrong in it, places as decimals and bits, how
+                          often each counts and its kind, a crank's roots by their angle t from
                           0 to 360 degrees, and in radians (t is k * 45 degrees + 2 atan u), at a
                           contact the ball's place and its distance from the circle, refusals in
                           words with the byte of their record, and places at which exact arithmetic
@@ -17,10 +19,11 @@ hall explain FILE         why roots are doubtful, with the numbers, and what to 
                           records that have such, or that there are none. FILE may be `-`
 hall explain FILE RECORD  the same of one record, whatever it is
 hall draw FILE RECORD     a picture of one record and its answer, in SVG, on standard output: the
-                          curve of a list or a quad with its roots, the circle of a crank with its
-                          positions, the circle and the path of a contact with its times, each
-                          marked by its kind. FILE may be `-`. Status 1 where the record is refused
-                          or is beyond what a picture can show, 2 where there is no such record
+                          curve of a list, a quad or a formula with its roots, the circle of a
+                          crank with its positions, the circle and the path of a contact with its
+                          times, each marked by its kind. FILE may be `-`. Status 1 where the record
+                          is refused or is beyond what a picture can show, 2 where there is no such
+                          record
 hall text [FILE]          write a hall file back as lines of text, of which `hall make` makes the
                           same file. Status 1 where the file is not read to its end
 hall compare FILE [--csv] each record by port, reference build and untouched Rust; prints those that
@@ -39,6 +42,7 @@ hall lists COUNT SEED     compare COUNT made lists with geomcore's Rust, on two 
 hall inquiries COUNT SEED the same for inquiries: always no, always yes, and by a hash
 hall cranks COUNT SEED    the same for crank equations
 hall contacts COUNT SEED  the same for pin contacts, each question replied by the record
+hall formulas COUNT SEED  the same for formulas, whole and damaged
 hall quadratics COUNT SEED
                           the same for quadratics, their centres, shifted and touching ones
 hall files COUNT SEED     the same for whole hall files, every other one damaged
@@ -69,6 +73,7 @@ Records, as lines of text and as marks in the file
   contact CONFUSION x0 x1 x2 y0 y1 y2 cx cy R
                                  PC   the times t at which a ball at x0 + x1 t + x2 t^2 across
                                       and y0 + y1 t + y2 t^2 along is at the distance R from cx, cy
+  formula TOL TEXT               TX   TEXT = 0, a formula in t of degree 1 to 4: (t-2)^2*(t+1)
   slider R L X                   TG   the crank equation of a slider-crank: a crank of radius R
                                       about the origin, a rod of length L, the slider on the x axis
                                       at X: -2XR cos t + R^2 + X^2 - L^2 = 0. Confusion is 2^-30
@@ -77,7 +82,8 @@ Records, as lines of text and as marks in the file
 A # starts a comment.
 
 Tolerances
-  tol        of a list: two roots within tol * (1 + |x|) of their middle count as one, twice
+  tol        of a list or a formula: two roots within tol * (1 + |x|) of their middle count as one,
+             twice
   confusion  of a quad: the same; where it is linear, |b| up to this is no equation
              of a crank: the same for u = tan((t - k * 45 degrees) / 2), the root that is listed
              of a contact: the same for t; and where the ball comes within confusion of the circle
@@ -100,6 +106,14 @@ Numbers
   is near (1e400, 1e-400), a decimal comma, and a minus sign that is not `-`.
 ";
 
+const FORMULAS: &str = "
+Formulas
+  A sum is terms joined by + or -, a term is factors joined by *, and a factor is a whole number of
+  one to nine digits, the letter t, or a sum in round brackets, each with or without a power: ^ and
+  one digit. So a formula has no blanks, no sign in front (0-t) and no product without its sign
+  (2*t), and at most 255 characters. Bytes behind 0x (0x742D32) need not be a sum.
+";
+
 const STATUSES: &str = "
 Statuses
   0  done; where it is compared, port and reference build are equal
@@ -110,7 +124,7 @@ Statuses
 
 /// All of it.
 pub fn all() -> String {
-    [HELP, RECORDS, KINDS, NUMBERS, STATUSES].concat()
+    [HELP, RECORDS, KINDS, NUMBERS, FORMULAS, STATUSES].concat()
 }
 
 /// The help on one command; nothing where there is no such command.
@@ -130,7 +144,7 @@ pub fn of_command(name: &str) -> String {
 /// The same with the topics that it needs.
 pub fn with_topics(name: &str) -> String {
     let topics: &[&str] = match name {
-        "make" => &[RECORDS, NUMBERS],
+        "make" => &[RECORDS, NUMBERS, FORMULAS],
         "list" | "show" | "explain" | "draw" | "compare" => &[RECORDS, KINDS],
         "text" => &[RECORDS],
         _ => &[],

@@ -8,6 +8,8 @@ pub mod doubt;
 pub mod draw;
 pub mod explain;
 pub mod help;
+pub mod marked;
+pub mod mistyped;
 pub mod number;
 pub mod picture;
 pub mod progress;
@@ -91,7 +93,7 @@ pub fn tell(text: &str) -> ExitCode {
 
 fn ended(outcome: Outcome) -> ExitCode {
     outcome.unwrap_or_else(|Failure(message, status)| {
-        eprint!("{}", table::wrapped(&format!("hall: {message}")));
+        eprintln!("{}", table::in_columns(&format!("hall: {message}")));
         ExitCode::from(status)
     })
 }

@@ -50,10 +50,15 @@ pub fn character(c: char) -> String {
         '*' | '\u{D7}' | '\u{B7}' => ": write 3e-9 for three times 10^-9",
         _ => " stands in no number",
     };
+    named(c) + hint
+}
+
+/// A character; its number too where that is not ASCII, and alone where it is not seen.
+pub fn named(c: char) -> String {
     match c {
-        '\u{21}'..='\u{7E}' => format!("`{c}`{hint}"),
-        c if c.is_control() || c == '\u{FEFF}' => format!("U+{:04X}{hint}", c as u32),
-        c => format!("`{c}` (U+{:04X}){hint}", c as u32),
+        '\u{21}'..='\u{7E}' => format!("`{c}`"),
+        c if c == ' ' || c.escape_debug().len() > 1 => format!("U+{:04X}", c as u32),
+        c => format!("`{c}` (U+{:04X})", c as u32),
     }
 }
 
@@ -218,6 +223,7 @@ mod tests {
             ("5°", "`°` (U+00B0) stands in no number"),
             ("\u{FEFF}1", "U+FEFF: a byte order mark"),
             ("1\0", "U+0000 stands in no number"),
+            ("1\u{200B}", "U+200B stands in no number"),
         ];
         for (word, why) in known {
             let said = number(word).unwrap_err();

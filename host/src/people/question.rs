@@ -1,6 +1,9 @@
 //! The question of a record, as people write it.
+use crate::people::marked;
+use crate::people::mistyped::is_sum;
 use crate::people::number::{shortest, word};
 use crate::truth::contact::Contact;
+use crate::truth::formula;
 use crate::truth::hall_file::Record;
 
 /// The equation, its highest power first.
@@ -13,8 +16,23 @@ pub fn equation(record: &Record) -> String {
             sum(terms.iter().copied().zip(names))
         }
         Record::Contact(contact) => return from_centre(contact),
+        Record::Formula { text, .. } => return marked::row(text) + behind(text),
     };
     format!("{sum} = 0")
+}
+
+/// What stands behind a formula's text; one that is no sum is no side of an equation.
+pub fn behind(text: &[u8]) -> &'static str {
+    if is_sum(text) { " = 0" } else { "" }
+}
+
+/// The equation of a formula, multiplied out; none where it has no polynomial, or is no formula.
+pub fn expanded(record: &Record) -> Option<String> {
+    let Record::Formula { text, .. } = record else {
+        return None;
+    };
+    let coeffs = formula::coefficients(text).ok()?;
+    Some(format!("{} = 0", polynomial(&coeffs, "t")))
 }
 
 /// The ball's distance from the circle's centre is the radius.
@@ -27,7 +45,9 @@ fn from_centre(contact: &Contact) -> String {
 /// The tolerances, each behind its name.
 pub fn tolerances(record: &Record) -> String {
     match record {
-        Record::List { tolerance, .. } => format!("tol {}", word(*tolerance)),
+        Record::List { tolerance, .. } | Record::Formula { tolerance, .. } => {
+            format!("tol {}", word(*tolerance))
+        }
         Record::Quadratic { confusion, angular, .. } => {
             format!("confusion {}, angular {}", word(*confusion), word(*angular))
         }
@@ -88,6 +108,10 @@ mod tests {
             ),
             ("crank 1 0 0 1 0 0", "confusion 1", "cos t = 0"),
             ("crank 1 0 0 0 0 1", "confusion 1", "1 = 0"),
+            ("formula 1 (t-2)^2", "tol 1", "(t-2)^2 = 0"),
+            ("formula 1 t^5", "tol 1", "t^5 = 0"),
+            ("formula 1 0x743D30", "tol 1", "t=0"),
+            ("formula 1 0x74FF", "tol 1", "t\\xff"),
             (
                 "contact 1 4 0 0 -10 2 -1 1 0 5",
                 "confusion 1",
@@ -97,6 +121,13 @@ mod tests {
         for (line, names, text) in known {
             let record = &read(line.as_bytes()).unwrap()[0];
             assert_eq!((tolerances(record), equation(record)), (names.into(), text.into()));
+        }
+        let expanded = |line: &str| expanded(&read(line.as_bytes()).unwrap()[0]);
+        assert_eq!(expanded("formula 1 (t-2)^2*(0-t)"), Some("-t^3 + 4 t^2 - 4 t = 0".into()));
+        assert_eq!(expanded("formula 1 0*t^4*t"), Some("0 = 0".into()));
+        assert_eq!(expanded("formula 1 9^9*t"), Some("387420489 t = 0".into()));
+        for line in ["formula 1 t^5", "formula 1 0x", "list 1 1 1"] {
+            assert_eq!(expanded(line), None, "{line}");
         }
     }
 }

@@ -1,7 +1,8 @@
 //! A listing, with what people want to see beside it.
 use crate::people::doubt::Look;
-use crate::people::question;
-use crate::truth::hall_file::{Item, Kind, Record, items};
+use crate::people::{mistyped, question};
+use crate::truth::formula::{self, Fault};
+use crate::truth::hall_file::{Item, Kind, MOST_LISTED, Record, items};
 use crate::truth::kind;
 use crate::truth::lister::{Answer, Line, Listed, Solution, lines};
 use crate::truth::refusals::in_words;
@@ -13,7 +14,7 @@ pub type ListFile = fn(&[u8], &mut [u8]) -> u64;
 
 /// The whole listing that a lister writes.
 pub fn whole_listing(bytes: &[u8], list_file: ListFile) -> Vec<u8> {
-    let mut out = vec![0; 1 << 18];
+    let mut out = vec![0; MOST_LISTED];
     let len = list_file(bytes, &mut out) as usize;
     if len > out.len() {
         out.resize(len, 0);
@@ -41,6 +42,10 @@ pub struct Shown {
     /// The question, and its tolerances; nothing where there is no whole record.
     pub question: String,
     pub tolerances: String,
+    /// The equation of a formula that is answered, multiplied out.
+    pub expanded: String,
+    /// Where a formula went wrong.
+    pub fault: Option<Fault>,
     /// What the answer is, without its places.
     pub answer: String,
     /// Its number, and the reason in words.
@@ -87,10 +92,15 @@ pub fn shown(bytes: &[u8], list_file: ListFile) -> Result<Vec<Shown>, String> {
 }
 
 fn shown_record(bytes: &[u8], item: Item, line: &Line) -> Shown {
-    let refusal = match line.answer {
-        Answer::Refused(number) => Some((number, in_words(bytes, &item, number))),
+    let fault = match &item.record {
+        Ok(Record::Formula { text, .. }) => formula::expanded(text).err(),
         _ => None,
     };
+    let refusal = match line.answer {
+        Answer::Refused(number) => Some((number, why(bytes, &item, number, &fault))),
+        _ => None,
+    };
+    let expanded = item.record.as_ref().ok().filter(|_| refusal.is_none());
     let text = |of: fn(&Record) -> String| item.record.as_ref().map(of).unwrap_or_default();
     let coeffs = item.record.as_ref().map(|record| equation(record, &line.answer));
     let coeffs = coeffs.unwrap_or_default();
@@ -98,11 +108,24 @@ fn shown_record(bytes: &[u8], item: Item, line: &Line) -> Shown {
         kind: line.kind.map_or("--", Kind::word),
         question: text(question::equation),
         tolerances: text(question::tolerances),
+        expanded: expanded.and_then(question::expanded).unwrap_or_default(),
+        fault,
         answer: heading(line),
         refusal,
         roots: places(&item, &coeffs, &line.answer),
         coeffs,
         item,
+    }
+}
+
+/// A refusal in words, and what to type for a text that is no sum.
+fn why(bytes: &[u8], item: &Item, number: u8, fault: &Option<Fault>) -> String {
+    let words = in_words(bytes, item, number);
+    match (&item.record, fault) {
+        (Ok(Record::Formula { text, .. }), Some(Fault::NotASum { at })) => {
+            format!("{words}: {}", mistyped::hint(text, *at))
+        }
+        _ => words,
     }
 }
 
@@ -174,6 +197,7 @@ fn equation(record: &Record, answer: &Answer) -> Vec<f64> {
         (Record::Crank { terms, .. }, Answer::Crank(k, _)) => quartic(*terms, *k).to_vec(),
         (Record::Crank { .. }, _) => vec![],
         (Record::Contact(contact), _) => contact.coefficients().to_vec(),
+        (Record::Formula { text, .. }, _) => formula::coefficients(text).unwrap_or_default(),
     }
 }
 

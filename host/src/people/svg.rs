@@ -18,7 +18,7 @@ pub fn escaped(text: &str) -> String {
     text.replace('&', "&amp;").replace('<', "&lt;").replace('>', "&gt;")
 }
 
-/// Words in lines of at most so many characters, but for a word that is longer.
+/// Words in lines of at most so many characters; one that is longer goes on in the next line.
 pub fn wrapped(text: &str, most: usize) -> Vec<String> {
     let mut lines = vec![String::new()];
     for word in text.split(' ') {
@@ -29,6 +29,10 @@ pub fn wrapped(text: &str, most: usize) -> Vec<String> {
                 lines[last] += &format!(" {word}")
             }
             false => lines.push(word.to_string()),
+        }
+        while let Some((cut, _)) = lines[lines.len() - 1].char_indices().nth(most) {
+            let rest = lines.last_mut().map(|line| line.split_off(cut));
+            lines.extend(rest);
         }
     }
     lines

@@ -2,6 +2,8 @@
 use crate::compare::bits;
 use crate::people::number::shortest;
 use crate::people::show::{Ball, Place, Shown, nine_decimals};
+use crate::people::{marked, mistyped, question};
+use crate::truth::hall_file::Record;
 
 /// No line is longer, but for a word that is.
 pub const COLUMNS: usize = 100;
@@ -21,6 +23,8 @@ type Cells = [String; HEAD.len()];
 enum Row {
     Cells(Cells),
     Text(String),
+    /// With their ends.
+    Lines(String),
 }
 
 /// For each record its question, and then a row for each root, or one that says why there is none.
@@ -35,20 +39,29 @@ pub fn table(all: &[Shown]) -> String {
     text
 }
 
-/// The record's number and kind, its tolerances and its question.
+/// The record's number and kind, its tolerances and its question, in lines; marks stand under what
+/// is wrong with a formula.
 pub fn front(shown: &Shown) -> String {
-    let Shown { item, kind, question, tolerances, .. } = shown;
-    match question.is_empty() {
-        true => format!("{} {kind}", item.number),
-        false => format!("{} {kind}, {tolerances}: {question}", item.number),
+    let Shown { item, kind, question, tolerances, fault, .. } = shown;
+    let number = item.number;
+    match &item.record {
+        Ok(Record::Formula { text, .. }) => {
+            let front = format!("{number} {kind}, {tolerances}: ");
+            marked::rows(&front, text, question::behind(text), fault.as_ref().map(mistyped::part))
+        }
+        Ok(_) => wrapped(&format!("{number} {kind}, {tolerances}: {question}")),
+        Err(_) => wrapped(&format!("{number} {kind}")),
     }
 }
 
 fn rows(shown: &Shown) -> Vec<Row> {
-    let mut all = vec![Row::Text(front(shown))];
+    let mut all = vec![Row::Lines(front(shown))];
     if let Some(refused) = refused(shown) {
         all.push(Row::Text(refused));
         return all;
+    }
+    if !shown.expanded.is_empty() {
+        all.push(Row::Text(format!("  expanded: {}", shown.expanded)));
     }
     let mut answer = shown.answer.clone();
     // its place in the column is the mark's then
@@ -103,7 +116,7 @@ fn columns(root: &Place) -> [String; 6] {
 fn laid_out(rows: &[Row]) -> String {
     let cells = |row: &Row, i: usize| match row {
         Row::Cells(cells) => cells[i].chars().count(),
-        Row::Text(_) => 0,
+        Row::Text(_) | Row::Lines(_) => 0,
     };
     let widths: [usize; HEAD.len()] =
         std::array::from_fn(|i| match rows.iter().map(|row| cells(row, i)).max().unwrap_or(0) {
@@ -118,6 +131,7 @@ fn laid_out(rows: &[Row]) -> String {
     let text = rows.iter().map(|row| match row {
         Row::Cells(cells) => joined(cells),
         Row::Text(text) => wrapped(text),
+        Row::Lines(lines) => lines.clone(),
     });
     let head = joined(&HEAD.map(str::to_string));
     let head = if widths[0] > 0 { head } else { String::new() };
@@ -145,7 +159,7 @@ pub fn in_columns(text: &str) -> String {
 }
 
 const NAMES: &str = "record,byte,kind,tolerances,question,answer,refused,why,place,bits,times,\
-                     root kind,degrees,radians,x,y,distance,doubt\n";
+                     root kind,degrees,radians,x,y,distance,doubt,expanded\n";
 
 /// The same as comma-separated values: a line for each root, or one for a record without any.
 pub fn csv(all: &[Shown]) -> String {
@@ -153,13 +167,13 @@ pub fn csv(all: &[Shown]) -> String {
 }
 
 fn csv_record(shown: &Shown) -> String {
-    let Shown { item, kind, question, tolerances, answer, refusal, roots, .. } = shown;
+    let Shown { item, kind, question, tolerances, answer, refusal, roots, expanded, .. } = shown;
     let (number, why) = refusal.clone().map(|(n, why)| (n.to_string(), why)).unwrap_or_default();
     let place = [item.number, item.at].map(|n| n.to_string());
     let rest = [kind, &tolerances[..], question, answer, &number, &why].map(str::to_string);
     let front = [&place[..], &rest].concat();
     let line = |root: [String; 10]| {
-        let fields = [&front[..], &root].concat();
+        let fields = [&front[..], &root, &[expanded.clone()]].concat();
         fields.iter().map(|field| quoted(field)).collect::<Vec<_>>().join(",") + "\n"
     };
     match &roots[..] {

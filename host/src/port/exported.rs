@@ -140,6 +140,11 @@ exported! {
     /// doubles as for `real_roots`.
     fn pin_contact(confusion: f64, x0: f64, x1: f64, x2: f64, y0: f64, y1: f64, y2: f64, cx: f64,
         cy: f64, r: f64, out: &mut [u8]) -> u64;
+    /// How many coefficients the polynomial of a formula has once zeros at its end are dropped, and
+    /// five of them, ascending, 6 doubles; 21 where the text has more than 255 bytes.
+    fn formula_coefficients(text: &[u8], out: &mut [u8]) -> u64;
+    /// The list of these coefficients; 13 doubles as for `real_roots`, or the same 21.
+    fn formula_roots(text: &[u8], tol: f64, out: &mut [u8]) -> u64;
     /// What the inquiry about the doubles in `coeffs` shows after these replies, one byte each and 0
     /// for no: 0, or 4 where a reply was refused; 1 and the place where it asks, 0 and 0 where not;
     /// and the list as for `real_roots`; 16 doubles.

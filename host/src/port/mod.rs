@@ -5,6 +5,7 @@ use crate::compare::answer::{Answer, LIST};
 pub mod clustering;
 pub mod contacts;
 pub mod exported;
+pub mod formulas;
 pub mod inquiries;
 pub mod quadratics;
 

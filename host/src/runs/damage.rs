@@ -132,9 +132,8 @@ fn move_a_number(r: &mut Random, bytes: &mut [u8]) {
     }) else {
         return;
     };
-    let count = record.numbers().len();
-    let n = r.below(count as u64) as usize;
-    let start = at + record.size() - 8 * (count - n);
+    let n = r.below(record.numbers().len() as u64) as usize;
+    let start = at + record.before_numbers() + 8 * n;
     let number = record.numbers()[n].to_bits();
     let moved = match r.below(4) {
         0 => r.edge().to_bits(),

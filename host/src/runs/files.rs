@@ -8,16 +8,17 @@ use crate::people::show::ListFile;
 use crate::people::text;
 use crate::port;
 use crate::runs::parts;
-use crate::truth::hall_file::{Item, Kind, MOST_BYTES, file, items};
+use crate::truth::hall_file::{Item, Kind, MOST_BYTES, MOST_LISTED, file, items};
 use crate::truth::lister::{Answer, Line, Reference, line};
 use std::fmt::Write;
 
 /// Of the records of all files.
-pub const CASES: [&str; 16] = [
+pub const CASES: [&str; 20] = [
     "lists",
     "quadratics",
     "cranks",
     "contacts",
+    "formulas",
     "with no whole known mark",
     "refused 1",
     "refused 2",
@@ -30,10 +31,13 @@ pub const CASES: [&str; 16] = [
     "refused 10",
     "refused 11",
     "refused 12",
+    "refused 13",
+    "refused 14",
+    "refused 15",
 ];
 
 /// The numbers of the last of them.
-const REFUSED: [u8; 11] = [1, 2, 3, 5, 6, 7, 8, 9, 10, 11, 12];
+const REFUSED: [u8; 14] = [1, 2, 3, 5, 6, 7, 8, 9, 10, 11, 12, 13, 14, 15];
 
 fn cases(line: &Line) -> [bool; CASES.len()] {
     let kind = |k| line.kind == Some(k);
@@ -47,7 +51,7 @@ fn cases(line: &Line) -> [bool; CASES.len()] {
 const UNTOUCHED: [u8; 16] = [0xA5; 16];
 
 /// Room for the longest listing, and for these behind it.
-const ROOM: usize = 163_860 + UNTOUCHED.len();
+const ROOM: usize = MOST_LISTED + UNTOUCHED.len();
 
 /// What was compared so far, and a buffer for the port's listing.
 pub(super) struct Files {

@@ -10,6 +10,7 @@ pub mod cranks;
 pub mod damage;
 pub mod doubts;
 pub mod files;
+pub mod formulas;
 pub mod inquiries;
 pub mod lists;
 #[cfg(feature = "mutants")]

@@ -5,16 +5,18 @@ use crate::compare::{bits, say};
 use crate::inputs::lists::{KINDS, handed_in, tolerance};
 use crate::inputs::pieces::Pieces;
 use crate::inputs::polynomials;
-use crate::inputs::quadratics::{quadratic, solution};
+use crate::inputs::quadratics::{TOL, quadratic, solution};
 use crate::inputs::random::Random;
 use crate::people::show::whole_listing;
 use crate::port;
 use crate::port::contacts::pin_contact;
+use crate::port::formulas::{formula_coefficients, formula_roots};
 use crate::port::inquiries::Shown;
 use crate::port::quadratics::{self, Solution};
 use crate::runs::contacts;
 use crate::runs::cranks::{self, Crank};
 use crate::runs::files;
+use crate::runs::formulas::{self, Expanded};
 use crate::runs::inquiries::{Inquiry, List, REPLIES, Ran, recorded, same_places};
 use crate::runs::lists::{shown, tolerance_for};
 use crate::runs::trees::{REFERENCE, Tree, tree};
@@ -37,8 +39,8 @@ pub fn chosen() -> usize {
 }
 
 /// The sorts of inputs.
-const SORTS: [&str; 7] =
-    ["lists", "inquiries", "cranks", "quadratics", "functions", "files", "contacts"];
+const SORTS: [&str; 8] =
+    ["lists", "inquiries", "cranks", "quadratics", "functions", "files", "contacts", "formulas"];
 
 enum Input {
     List(Vec<f64>, f64),
@@ -49,6 +51,7 @@ enum Input {
     Pieces(Box<Pieces>),
     File(Vec<u8>),
     Contact(Contact),
+    Formula(Vec<u8>, f64),
 }
 
 /// What port and copies answer to it.
@@ -98,6 +101,12 @@ fn all_runs(run: impl Fn(Touches) -> (u64, Answer)) -> Given {
     Given::Runs(REPLIES.iter().map(|touches| recorded(&run, touches)).collect())
 }
 
+/// The coefficients of a formula, and what is answered to it.
+fn all_of(coeffs: &Expanded, roots: &str) -> Given {
+    let coeffs = coeffs.map(|all| all.map(f64::to_bits));
+    Given::Listing(format!("{coeffs:X?} {roots}").into_bytes())
+}
+
 fn all_bits(solutions: &[Solution], centre: f64) -> Given {
     let each = solutions.iter().flat_map(|(n, [x, y])| [*n as u64, bits(*x), bits(*y)]);
     Given::Bits(each.chain([bits(centre)]).collect())
@@ -117,6 +126,10 @@ impl Input {
         }
         if sort == 6 {
             return Input::Contact(contacts::made_record(r, n));
+        }
+        if sort == 7 {
+            let (text, tol) = formulas::made_record(r, n);
+            return Input::Formula(text, tol);
         }
         if sort == 3 {
             let (abc, tol) = quadratic(r, (n % polynomials::KINDS.len() as u64) as usize);
@@ -148,6 +161,10 @@ impl Input {
             Input::Contact(contact) => {
                 Given::Listing(pin_contact(contact.numbers()).text().into_bytes())
             }
+            Input::Formula(text, tol) => {
+                let (coeffs, roots) = (formula_coefficients(text), formula_roots(text, *tol));
+                all_of(&coeffs, &roots.text())
+            }
         }
     }
 
@@ -175,6 +192,13 @@ impl Input {
                 let answer = own::lister::answer(&record, &own::lister::Reference);
                 Given::Listing(answer.to_string().into_bytes())
             }
+            Input::Formula(text, tol) => {
+                let coeffs = own::formula::coefficients(text).map_err(|fault| fault.refusal());
+                let record =
+                    own::hall_file::Record::Formula { tolerance: *tol, text: text.clone() };
+                let answer = own::lister::answer(&record, &own::lister::Reference);
+                all_of(&formulas::expanded(&coeffs), &answer.to_string())
+            }
         }
     }
 
@@ -191,6 +215,7 @@ impl Input {
                 let [confusion, ref numbers @ ..] = contact.numbers();
                 shown(numbers, confusion)
             }
+            Input::Formula(text, tol) => format!("{:016X}: {}", bits(*tol), text.escape_ascii()),
             Input::File(bytes) => {
                 let front = &bytes[..bytes.len().min(64)];
                 front.iter().map(|b| format!("{b:02X}")).collect()
@@ -219,13 +244,14 @@ impl Mutant {
     }
 
     /// Mistakes in equation.rs are not in lists, others not in quadratics or in cranks, which are
-    /// lists of five, those of the hall file in files and contacts, and those of contacts
-    /// in contacts alone.
+    /// lists of five, those of the hall file in files, contacts and formulas, and those of contacts
+    /// and of formulas in these alone.
     fn asks_for(&self, sort: usize) -> bool {
         match self.file {
             "equation.rs" => [2, 3].contains(&sort),
             "hall_file.rs" | "kind.rs" | "lister.rs" => sort >= 5,
             "contact.rs" => sort == 6,
+            "formula.rs" => sort == 7,
             _ => [0, 1, 4].contains(&sort),
         }
     }
@@ -275,7 +301,11 @@ fn stored() -> impl Iterator<Item = (&'static str, Input)> {
         [(*name, Input::List(a.clone(), tol)), (*name, Input::Inquiry(a, tol))]
     });
     let contacts = telling::contacts().map(|(name, contact)| (name, Input::Contact(contact)));
-    lists.chain(contacts)
+    let formulas = telling::FORMULAS.iter().map(|(name, text)| {
+        let text = text.as_bytes().to_vec();
+        (*name, Input::Formula(text, TOL))
+    });
+    lists.chain(contacts).chain(formulas)
 }
 
 fn try_stored(all: &mut [Mutant]) {

@@ -1,6 +1,7 @@
 //! Stored hall files for the crate `hallcases`, and what it prints for them: of each file its name
 //! behind `== `, then its listing by the host's own lister over the reference build.
 use crate::inputs::hall_files::{damage, records};
+use crate::inputs::quadratics::TOL;
 use crate::inputs::random::Random;
 use crate::people::progress::Progress;
 use crate::people::text;
@@ -222,6 +223,39 @@ fn contacts() -> Vec<u8> {
     [of_text(CONTACTS), file(&telling.collect::<Vec<_>>())].concat()
 }
 
+fn formula(text: impl Into<Vec<u8>>) -> Record {
+    Record::Formula { tolerance: TOL, text: text.into() }
+}
+
+/// Letters that stand in no text, alone and behind a sum.
+const NO_LETTERS: &[u8] = b"\0\t\n\r !#%,./:<=>TXex[]{}~\x7F\x80\xB2\xF4\xFF";
+
+/// Formulas that tell a mistake, with other letters, and as many t as there may be.
+fn formulas() -> Vec<u8> {
+    let telling = telling::FORMULAS.iter().map(|(_, text)| formula(*text));
+    let alone = NO_LETTERS.iter().map(|letter| formula([*letter]));
+    let behind = NO_LETTERS.iter().map(|letter| formula([b't', *letter]));
+    let many = [b'+', b'-', b'*'].map(|join| {
+        let joined = [b't', join].repeat(127);
+        formula([&joined[..], b"t"].concat())
+    });
+    file(&telling.chain(alone).chain(behind).chain(many).collect::<Vec<_>>())
+}
+
+/// Up to the 127 brackets that a text has room for, with one more or less on either side.
+fn deep_brackets() -> Vec<u8> {
+    let within = |open: usize, inner: &str, close: usize| {
+        formula(["(".repeat(open).as_str(), inner, &")".repeat(close)].concat())
+    };
+    let mut all = vec![within(255, "", 0), within(0, "", 255), within(127, "", 127)];
+    for depth in [1, 2, 3, 63, 64, 126, 127] {
+        all.extend([within(depth, "t", depth), within(depth, "", depth)]);
+        all.extend([within(depth, "t", depth - 1), within(depth - 1, "t", depth)]);
+    }
+    all.extend([within(126, "t-9", 126), within(125, "t^5", 125), within(126, "-t", 126)]);
+    file(&all)
+}
+
 /// The bytes of a text's records.
 fn of_text(lines: &str) -> Vec<u8> {
     let records = text::read(lines.as_bytes()).unwrap_or_else(|e| panic!("{e}"));
@@ -249,7 +283,7 @@ pub fn of_size(size: usize) -> Vec<u8> {
     file(&records)
 }
 
-/// Tolerances of every kind on one double root, one pair, one crank and one contact.
+/// Tolerances of every kind on double roots, one pair, one crank and one contact.
 fn tolerances() -> Vec<u8> {
     let mut lines = String::new();
     for tol in
@@ -259,6 +293,7 @@ fn tolerances() -> Vec<u8> {
         lines +=
             &format!("quad {tol} {tol} 1 2 1\nquad {tol} 0 1 -3 2\ncrank {tol} 1 0 0 0 0.9999\n");
         lines += &format!("contact {tol} 0 0.001 0 1.00000005 0 0 3 0 1\n");
+        lines += &format!("formula {tol} (t-3)^2*(t-1)\nformula {tol} (1000*t-1)^2-1\n");
     }
     of_text(&lines)
 }
@@ -302,7 +337,7 @@ fn ends() -> Vec<Named> {
         named("unknown_mark", behind(b"XX")),
         named("unknown_mark_alone", b"\0\0"),
         named("lower_case_mark", behind(b"pl\x01")),
-        named("marks_exchanged", behind(b"LPDQGTCP")),
+        named("marks_exchanged", behind(b"LPDQGTCPXT")),
         named("no_count", behind(b"PL")),
         named("count_0", whole(&[]).bytes()),
         named("count_32", count(32)),
@@ -310,6 +345,13 @@ fn ends() -> Vec<Named> {
         named("count_33_alone", b"PL\x21"),
         named("count_255", count(255)),
         named("short_by_one_coefficient", count(31)),
+        named("no_length", behind(b"TX")),
+        named("length_0", behind(&formula("").bytes())),
+        named("length_0_cut", &formula("").bytes()[..10]),
+        named("length_33", formula("0".repeat(33)).bytes()),
+        named("length_255", behind(&formula("(".repeat(255)).bytes())),
+        named("length_255_cut", behind(&formula("(".repeat(255)).bytes()[..265])),
+        named("longest_lines", file(&vec![formula("t^3-t"); 4096])),
         named("bytes_65535", of_size(65_535)),
         named("bytes_65535_cut", &of_size(MOST_BYTES)[..65_535]),
         named("bytes_65536", of_size(MOST_BYTES)),
@@ -326,6 +368,7 @@ fn cuts() -> Vec<Named> {
         "quad 2^-30 2^-30 1 -3 2",
         "crank 2^-30 0 0 1 0 0",
         "contact 2^-30 0 1 0 0 0 0 3 0 1",
+        "formula 2^-30 (t-2)^2*(t+1)",
     ];
     let cut = |line: &&str| {
         let (first, bytes) = (first.clone(), of_text(line));
@@ -361,6 +404,8 @@ pub fn files() -> Vec<Named> {
         named("kept", of_text(KEPT)),
         named("refused", of_text(REFUSED)),
         named("contacts", contacts()),
+        named("formulas", formulas()),
+        named("deep_brackets", deep_brackets()),
         named("kinds", of_text(KINDS)),
         named("tolerances", tolerances()),
         named("long_lists", long_lists()),

@@ -1,4 +1,4 @@
-//! Stored lists and contacts that tell mistakes which made ones seldom or never show.
+//! Stored lists, contacts and formulas that tell mistakes which made ones seldom or never show.
 use crate::people::text;
 use crate::truth::contact::Contact;
 use crate::truth::hall_file::Record;
@@ -107,3 +107,62 @@ pub fn contacts() -> impl Iterator<Item = (&'static str, Contact)> {
         other => panic!("{name}: {other:?}"),
     })
 }
+
+/// What a formula shows, and its text.
+pub const FORMULAS: &[(&str, &str)] = &[
+    ("as mechanics write it", "(t-2)^2*(t+1)"),
+    ("written out", "t^3-3*t^2+4"),
+    ("products before sums", "7+t*2-3*t^2"),
+    ("sums from the left", "9-5-3-t"),
+    ("products from the left", "0*t^4*t"),
+    ("powers before products", "2*t^2-9*3^2"),
+    ("the power 0", "(t-t)^0+(t-1)^0*t"),
+    ("the power 9", "2^9-t"),
+    ("the power 0 of what is refused", "(t^5)^0+t"),
+    ("0 times what is refused", "0*t^5+t"),
+    ("less what is refused", "t^5-t^5+t"),
+    ("zero terms are dropped", "(t^4-t^4+t)*(t^3-1)"),
+    ("the degree 5 of a product", "1+t^4*t"),
+    ("14 and 15 in one product", "(999999999*t^3)*(999999999*t^2)"),
+    ("14 at the fifth product", "(1000*t)^9"),
+    ("15 at the fourth", "(10000*t)^9"),
+    ("15 on the left", "99999999^2+t^5"),
+    ("14 on the left", "t^5+99999999^2"),
+    ("2^53", "90071992*100000000+54740992-t"),
+    ("2^53 + 1", "90071992*100000000+54740993-t"),
+    ("2^53 + 1 for a while", "90071992*100000000+54740993-1-t"),
+    ("-2^53", "t-90071992*100000000-54740992"),
+    ("-2^53 - 1", "t-90071992*100000000-54740993"),
+    ("2^53 as a product", "t-67108864*134217728"),
+    ("2^53 in the middle", "(67108864*t-67108864)^2"),
+    ("2^53 + 1 in the middle", "(90071992*t+1)*(100000000+54740993*t)"),
+    ("2^53 + 1 at the end", "t*90071992*100000000+t*54740993"),
+    ("nine digits", "999999999-t*000000001"),
+    ("ten digits", "t-1000000000"),
+    ("ten digits with zeros", "t-0000000001"),
+    ("zeros in front", "t-0010"),
+    ("two digits of a power", "t^12"),
+    ("a power of a power", "t^2^2"),
+    ("no digit of a power", "t^"),
+    ("a leading minus", "-t"),
+    ("a leading plus", "+t"),
+    ("a minus in a bracket", "(-t)"),
+    ("a minus behind a star", "2*-t"),
+    ("a blank", "t -1"),
+    ("a blank at the end", "t-1 "),
+    ("a line end", "t-1\n"),
+    ("a byte 0", "t-1\0"),
+    ("a capital letter", "T-1"),
+    ("another letter", "x-1"),
+    ("no star", "2t"),
+    ("two stars", "2**t"),
+    ("a star at the end", "2*t*"),
+    ("brackets side by side", "(t)(t-1)"),
+    ("an empty bracket", "()+t"),
+    ("a bracket is missing", "(t-1"),
+    ("a bracket too many", "t-1)"),
+    ("a square bracket", "(t-1]"),
+    ("13 behind what is refused", "t^5)"),
+    ("no letters", ""),
+    ("a constant", "7"),
+];

@@ -7,6 +7,9 @@ use crate::truth::refusals;
 /// A longer file is refused whole.
 pub const MOST_BYTES: usize = 65_536;
 
+/// No listing has more bytes.
+pub const MOST_LISTED: usize = 7 * MOST_BYTES + 20;
+
 /// A record with a higher count ends the reading.
 pub const MOST_COEFFICIENTS: usize = 32;
 
@@ -17,10 +20,12 @@ pub enum Kind {
     Quadratic,
     Crank,
     Contact,
+    Formula,
 }
 
 impl Kind {
-    pub const ALL: [Kind; 4] = [Kind::List, Kind::Quadratic, Kind::Crank, Kind::Contact];
+    pub const ALL: [Kind; 5] =
+        [Kind::List, Kind::Quadratic, Kind::Crank, Kind::Contact, Kind::Formula];
 
     /// The two bytes before each record.
     pub fn mark(self) -> &'static str {
@@ -29,6 +34,7 @@ impl Kind {
             Kind::Quadratic => "QD",
             Kind::Crank => "TG",
             Kind::Contact => "PC",
+            Kind::Formula => "TX",
         }
     }
 
@@ -39,6 +45,7 @@ impl Kind {
             Kind::Quadratic => "quad",
             Kind::Crank => "crank",
             Kind::Contact => "contact",
+            Kind::Formula => "formula",
         }
     }
 
@@ -55,6 +62,7 @@ pub enum Record {
     Quadratic { confusion: f64, angular: f64, abc: [f64; 3] },
     Crank { confusion: f64, terms: [f64; 5] },
     Contact(Contact),
+    Formula { tolerance: f64, text: Vec<u8> },
 }
 
 impl Record {
@@ -64,6 +72,7 @@ impl Record {
             Record::Quadratic { .. } => Kind::Quadratic,
             Record::Crank { .. } => Kind::Crank,
             Record::Contact(_) => Kind::Contact,
+            Record::Formula { .. } => Kind::Formula,
         }
     }
 
@@ -76,23 +85,41 @@ impl Record {
             }
             Record::Crank { confusion, terms } => [&[*confusion], &terms[..]].concat(),
             Record::Contact(contact) => contact.numbers().to_vec(),
+            Record::Formula { tolerance, .. } => vec![*tolerance],
         }
+    }
+
+    /// What the byte behind its mark counts, where there is one.
+    fn count(&self) -> Option<usize> {
+        match self {
+            Record::List { coeffs, .. } => Some(coeffs.len()),
+            Record::Formula { text, .. } => Some(text.len()),
+            _ => None,
+        }
+    }
+
+    /// What stands behind its numbers.
+    fn text(&self) -> &[u8] {
+        if let Record::Formula { text, .. } = self { text } else { &[] }
+    }
+
+    /// How many bytes stand before its numbers.
+    pub fn before_numbers(&self) -> usize {
+        2 + usize::from(self.count().is_some())
     }
 
     /// How many bytes it has in a file.
     pub fn size(&self) -> usize {
-        let count = matches!(self, Record::List { .. }) as usize;
-        2 + count + 8 * self.numbers().len()
+        self.before_numbers() + 8 * self.numbers().len() + self.text().len()
     }
 
     /// Its bytes in a file. A list may have up to 255 coefficients here: more than 32 make a file
     /// that is refused, which tests want.
     pub fn bytes(&self) -> Vec<u8> {
         let mut all = self.kind().mark().as_bytes().to_vec();
-        if let Record::List { coeffs, .. } = self {
-            all.push(u8::try_from(coeffs.len()).expect("a count of one byte"));
-        }
+        all.extend(self.count().map(|n| u8::try_from(n).expect("a count of one byte")));
         all.extend(self.numbers().iter().flat_map(|x| x.to_le_bytes()));
+        all.extend(self.text());
         all
     }
 }
@@ -160,6 +187,12 @@ fn behind_mark(kind: Kind, bytes: &[u8]) -> Result<Record, u8> {
             Ok(Record::Crank { confusion, terms: [a2, b2, c1, d1, e] })
         }
         Kind::Contact => Ok(Record::Contact(Contact::new(array(bytes)?))),
+        Kind::Formula => {
+            let (&length, rest) = bytes.split_first().ok_or(refusals::CUT)?;
+            let (tolerance, rest) = double(rest)?;
+            let text = rest.get(..length.into()).ok_or(refusals::CUT)?;
+            Ok(Record::Formula { tolerance, text: text.to_vec() })
+        }
     }
 }
 
@@ -193,13 +226,14 @@ mod tests {
             Record::Quadratic { confusion: 0.25, angular: -0.0, abc: [1.0, -3.0, f64::NAN] },
             Record::Crank { confusion: f64::INFINITY, terms: [0.0, 0.0, 1.0, 0.0, 7.0] },
             Record::Contact(Contact::new(std::array::from_fn(|i| i as f64 - 4.0))),
+            Record::Formula { tolerance: -0.5, text: b"(t-2)^2*(t+1)".to_vec() },
         ]
     }
 
     #[test]
     fn sizes() {
         let sizes = one_of_each().iter().map(Record::size).collect::<Vec<_>>();
-        assert_eq!(sizes, [35, 42, 50, 82]);
+        assert_eq!(sizes, [35, 42, 50, 82, 24]);
         for record in one_of_each() {
             assert_eq!(record.size(), record.bytes().len());
         }
@@ -209,7 +243,7 @@ mod tests {
     fn back_from_bytes() {
         let bytes = file(&one_of_each());
         let items = items(&bytes);
-        assert_eq!(items.iter().map(|i| i.at).collect::<Vec<_>>(), [0, 35, 77, 127]);
+        assert_eq!(items.iter().map(|i| i.at).collect::<Vec<_>>(), [0, 35, 77, 127, 209]);
         let back: Vec<Record> = items.into_iter().map(|i| i.record.unwrap()).collect();
         assert_eq!(file(&back), bytes);
     }
@@ -219,5 +253,30 @@ mod tests {
         let record =
             Record::List { tolerance: f64::from_bits(0x0102_0304_0506_0708), coeffs: vec![] };
         assert_eq!(record.bytes(), *b"PL\0\x08\x07\x06\x05\x04\x03\x02\x01");
+        let record = Record::Formula {
+            tolerance: f64::from_bits(0x0102_0304_0506_0708),
+            text: b"t^2".to_vec(),
+        };
+        assert_eq!(record.bytes(), *b"TX\x03\x08\x07\x06\x05\x04\x03\x02\x01t^2");
+    }
+
+    #[test]
+    fn formulas_are_cut_and_never_too_long() {
+        for text in [&b""[..], b"t-1", &[b'('; 255], &[0xFF; 33]] {
+            let record = Record::Formula { tolerance: 0.5, text: text.to_vec() };
+            let bytes = record.bytes();
+            assert_eq!((bytes.len(), record.size()), (11 + text.len(), 11 + text.len()));
+            for n in 2..bytes.len() {
+                let items = items(&bytes[..n]);
+                let (kind, refusal) = (items[0].kind, items[0].record.as_ref().err());
+                assert_eq!((items.len(), kind, refusal), (1, Some(Kind::Formula), Some(&7)));
+            }
+            let behind = items(&[&bytes[..], b"X"].concat());
+            let [Item { record: Ok(back), .. }, Item { at, record: Err(7), .. }] = &behind[..]
+            else {
+                panic!("{behind:?}");
+            };
+            assert_eq!((back.bytes(), *at), (bytes, 11 + text.len()));
+        }
     }
 }

@@ -1,6 +1,7 @@
 //! The host's own lister: the bytes of a hall file to the bytes of its listing, as document 01 says,
 //! over any solver. Nothing here calls the port.
 use crate::compare::bits;
+use crate::truth::formula;
 use crate::truth::hall_file::{Item, Kind, Record, items};
 use crate::truth::kind::{self, Root};
 use crate::truth::refusals;
@@ -135,10 +136,7 @@ pub fn line(item: &Item, solver: &impl Solver) -> Line {
 /// The answer to a whole record, with the operation's own refusals.
 pub fn answer(record: &Record, solver: &impl Solver) -> Answer {
     match record {
-        Record::List { tolerance, coeffs } => match refusal(coeffs) {
-            0 => Answer::List(solver.list(coeffs, *tolerance)),
-            number => Answer::Refused(number),
-        },
+        Record::List { tolerance, coeffs } => listed(coeffs, *tolerance, solver),
         Record::Quadratic { confusion, angular, abc } => {
             if !finite(abc) {
                 return Answer::Refused(refusals::NOT_FINITE);
@@ -168,6 +166,18 @@ pub fn answer(record: &Record, solver: &impl Solver) -> Answer {
             }
             number => Answer::Refused(number),
         },
+        Record::Formula { tolerance, text } => match formula::coefficients(text) {
+            Ok(coeffs) => listed(&coeffs, *tolerance, solver),
+            Err(fault) => Answer::Refused(fault.refusal()),
+        },
+    }
+}
+
+/// A list's answer.
+fn listed(coeffs: &[f64], tolerance: f64, solver: &impl Solver) -> Answer {
+    match refusal(coeffs) {
+        0 => Answer::List(solver.list(coeffs, tolerance)),
+        number => Answer::Refused(number),
     }
 }
 
@@ -215,7 +225,7 @@ fn read_line(text: &str) -> Option<Line> {
 fn read_answer(kind: Option<Kind>, words: &[&str]) -> Option<Answer> {
     match (kind, words) {
         (_, ["refused", n]) => Some(Answer::Refused(n.parse().ok()?)),
-        (Some(Kind::List | Kind::Contact), ["ok", _, roots @ ..]) => {
+        (Some(Kind::List | Kind::Contact | Kind::Formula), ["ok", _, roots @ ..]) => {
             Some(Answer::List(read_roots(roots)?))
         }
         (Some(Kind::Crank), ["ok", k, _, roots @ ..]) => {
@@ -309,7 +319,8 @@ mod tests {
                     3 QD two 3FF0000000000000 4000000000000000\n4 QD degenerate\n\
                     5 TG ok 4 2 BFF0000000000000 1 c 3FF0000000000000 1 c\n6 TG ok 7 0\n\
                     7 PC ok 2 BFF0000000000000 2 b 3FF0000000000000 2 f\n8 PC refused 11\n\
-                    9 -- refused 6\n";
+                    9 TX ok 1 4000000000000000 2 f\n10 TX refused 13\n11 TX ok 0\n\
+                    12 -- refused 6\n";
         let read = lines(text.as_bytes()).unwrap();
         assert_eq!(read.iter().map(|line| format!("{line}\n")).collect::<String>(), text);
         assert_eq!(lines(b""), Ok(vec![]));
@@ -338,6 +349,8 @@ mod tests {
             "1 -- ok 0\n",
             "1 TG ok 0\n",
             "1 PC ok 4 0\n",
+            "1 TX ok 4 0\n",
+            "1 TX 13\n",
             "1 PL refused 300\n",
             "1 QD three\n",
         ];

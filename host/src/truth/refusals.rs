@@ -2,6 +2,7 @@
 use crate::people::number::shortest;
 use crate::people::slider;
 use crate::truth::contact;
+use crate::truth::formula::{self, Fault};
 use crate::truth::hall_file::{Item, Kind, Record};
 
 /// 'some coefficient not finite, wherever it stands'; 'one of a, b, c'; 'one of the five'.
@@ -40,6 +41,15 @@ pub const NO_RADIUS: u8 = 11;
 /// 'a coefficient made is not finite'.
 pub const MADE_NOT_FINITE: u8 = 12;
 
+/// 'the text is not a sum', of a formula by document 02.
+pub const NOT_A_SUM: u8 = 13;
+
+/// 'some part of it has degree above 4 after zero terms are dropped'.
+pub const DEGREE_TOO_HIGH: u8 = 14;
+
+/// 'some coefficient of a part is above 2^53 in size'.
+pub const COEFFICIENT_TOO_LARGE: u8 = 15;
+
 /// A refusal in words; of a 6, 7 or 8 with the byte at which its record starts.
 pub fn in_words(bytes: &[u8], item: &Item, number: u8) -> String {
     let at = item.at;
@@ -52,6 +62,7 @@ pub fn in_words(bytes: &[u8], item: &Item, number: u8) -> String {
         (TOO_FEW, Some(Kind::Contact)) => {
             "no equation: the ball stands still, or moves too little to tell".to_string()
         }
+        (TOO_FEW, Some(Kind::Formula)) => of_formula(item),
         (TOO_FEW, _) => {
             "no equation: once trailing zeros are dropped, a constant at most is left".to_string()
         }
@@ -77,6 +88,7 @@ pub fn in_words(bytes: &[u8], item: &Item, number: u8) -> String {
         }
         (FILE_TOO_LONG, _) => format!("the file has {} bytes, more than 65,536", bytes.len()),
         (RECORD_NOT_FINITE..=MADE_NOT_FINITE, _) => of_contact(item, number),
+        (NOT_A_SUM..=COEFFICIENT_TOO_LARGE, _) => of_formula(item),
         (n, _) => format!("no refusal has the number {n}"),
     }
 }
@@ -93,6 +105,59 @@ fn of_contact(item: &Item, number: u8) -> String {
             let which = not_finite(&["c0", "c1", "c2", "c3", "c4"], &contact.coefficients());
             format!("of its equation c0 + c1 t + .. + c4 t^4 = 0, {which}")
         }
+    }
+}
+
+/// What is wrong with the text of a formula.
+fn of_formula(item: &Item) -> String {
+    let Ok(Record::Formula { text, .. }) = &item.record else {
+        return "no formula".to_string();
+    };
+    match formula::expanded(text) {
+        Ok(coeffs) => {
+            let constant = coeffs.first().copied().unwrap_or(0);
+            format!("no equation: the formula comes to {constant}, whatever t is")
+        }
+        Err(fault) => at_fault(text, &fault),
+    }
+}
+
+/// Where a text went wrong, and why.
+fn at_fault(text: &[u8], fault: &Fault) -> String {
+    match fault {
+        Fault::NotASum { .. } if text.is_empty() => "no sum: the text is empty".to_string(),
+        Fault::NotASum { at } => match text.get(*at) {
+            Some(byte) => format!("no sum: {} cannot be character {}", named(*byte), at + 1),
+            None => format!("no sum: it ends too early, behind character {at}"),
+        },
+        Fault::Degree { part, degree } => {
+            format!(
+                "{} comes to degree {degree}, and a part has at most 4",
+                quoted(&text[part.clone()])
+            )
+        }
+        Fault::Size { part, coefficient, power } => format!(
+            "{} comes to {coefficient} t^{power}, and a coefficient is at most 2^53 in size",
+            quoted(&text[part.clone()])
+        ),
+    }
+}
+
+/// A byte of a text.
+fn named(byte: u8) -> String {
+    match byte {
+        b' ' => "a blank".to_string(),
+        0x21..=0x7E => format!("`{}`", byte as char),
+        _ => format!("the byte {byte}"),
+    }
+}
+
+/// A part of a text; of a long one both ends.
+fn quoted(part: &[u8]) -> String {
+    let part = part.escape_ascii().to_string();
+    match part.len() {
+        0..=40 => format!("`{part}`"),
+        n => format!("`{} .. {}`", &part[..18], &part[n - 18..]),
     }
 }
 
@@ -123,6 +188,7 @@ fn needed(kind: Kind, rest: &[u8]) -> Option<usize> {
         Kind::Quadratic => Some(42),
         Kind::Crank => Some(50),
         Kind::Contact => Some(82),
+        Kind::Formula => rest.get(2).map(|length| 11 + usize::from(*length)),
     }
 }
 
@@ -166,6 +232,14 @@ mod tests {
             with(b"PCabc"),
             ["byte 11: the file ends inside this contact, 5 bytes of it are there of 82"]
         );
+        assert_eq!(
+            with(b"TX\x0Dabc"),
+            ["byte 11: the file ends inside this formula, 6 bytes of it are there of 24"]
+        );
+        assert_eq!(
+            with(b"TX"),
+            ["byte 11: the file ends inside this formula, 2 bytes of it are there"]
+        );
         assert_eq!(with(b"PL\x21"), ["byte 11: a list with count 33, and at most 32 is allowed"]);
         assert_eq!(said(&[0; 65_537]), ["the file has 65537 bytes, more than 65,536"]);
     }
@@ -194,5 +268,37 @@ mod tests {
             let told = in_words(&bytes, item, number);
             assert_eq!((contact.refusal(), told.starts_with(words)), (number, true), "{told}");
         }
+    }
+
+    #[test]
+    fn refusals_of_formulas() {
+        let long = [&b"t"[..], &b"+t"[..].repeat(30), b"*t^4"].concat();
+        let most = "and a coefficient is at most 2^53 in size";
+        for (text, number, words) in [
+            (&b""[..], 13, "no sum: the text is empty"),
+            (b"t^12", 13, "no sum: `2` cannot be character 4"),
+            (b"t - 1", 13, "no sum: a blank cannot be character 2"),
+            (b"t\xC2\xB2", 13, "no sum: the byte 194 cannot be character 2"),
+            (b"(t-2", 13, "no sum: it ends too early, behind character 4"),
+            (b"1+t^4*t", 14, "`t^4*t` comes to degree 5, and a part has at most 4"),
+            (&long, 14, "`t*t^4` comes to degree 5, and a part has at most 4"),
+            (
+                b"2+(10000*t)^9",
+                15,
+                &format!("`(10000*t)^9` comes to 10000000000000000 t^4, {most}"),
+            ),
+            (
+                b"90071992*100000000+54740993+1",
+                15,
+                &format!("`90071992*100000000+54740993` comes to 9007199254740993 t^0, {most}"),
+            ),
+            (b"(t-t)*t", 2, "no equation: the formula comes to 0, whatever t is"),
+            (b"2-9", 2, "no equation: the formula comes to -7, whatever t is"),
+        ] {
+            let bytes = file(&[Record::Formula { tolerance: 0.5, text: text.to_vec() }]);
+            assert_eq!(in_words(&bytes, &items(&bytes)[0], number), words);
+        }
+        let part = [&b"(t"[..], &b"+t".repeat(20)[..], b")^5"].concat();
+        assert_eq!(quoted(&part), "`(t+t+t+t+t+t+t+t+t .. t+t+t+t+t+t+t+t)^5`");
     }
 }

@@ -148,8 +148,14 @@ fn cut(points: &[[f64; 2]], [lo, hi]: [f64; 2]) -> Vec<Vec<[f64; 2]>> {
     pieces
 }
 
-/// The curve of the polynomial with these coefficients, ascending, and its roots.
-pub fn draw(canvas: &mut Canvas, coeffs: &[f64], roots: &[Mark]) -> Result<(), String> {
+/// The curve of the polynomial with these coefficients, ascending, in the variable of this name, and
+/// its roots.
+pub fn draw(
+    canvas: &mut Canvas,
+    coeffs: &[f64],
+    variable: &str,
+    roots: &[Mark],
+) -> Result<(), String> {
     let p = &coeffs[..trimmed(coeffs)];
     let part = Part::new(p, roots);
     let ends = part.ends().ok_or("its places are too far apart, or too near, for a picture")?;
@@ -162,16 +168,19 @@ pub fn draw(canvas: &mut Canvas, coeffs: &[f64], roots: &[Mark]) -> Result<(), S
     shares.sort_by(f64::total_cmp);
     let heights = curve.heights(&shares);
     grid(canvas, &curve, &part, ends, heights);
+    let Area { left, top, right, bottom } = seen;
+    canvas.text([right - 4.0, bottom + 34.0], "faint", variable);
+    canvas.text([left, top - 5.0], "faint", &format!("p({variable})"));
     for piece in cut(&curve.samples().collect::<Vec<_>>(), heights) {
         let points: Vec<Point> = piece.into_iter().map(|at| curve.point(at, heights)).collect();
         canvas.line("curve", &points);
     }
     for (root, name) in roots.iter().zip(figures(&places(roots))) {
         let at = curve.point([part.share(root.place), 0.0], heights);
-        canvas.mark(at, root, [0.0, -1.0], &format!("x = {name}"));
+        canvas.mark(at, root, [0.0, -1.0], &format!("{variable} = {name}"));
     }
     if roots.is_empty() {
-        no_root(canvas, &curve, &part, heights);
+        no_root(canvas, &curve, &part, heights, variable);
     }
     Ok(())
 }
@@ -200,20 +209,18 @@ fn grid(canvas: &mut Canvas, curve: &Curve, part: &Part, ends: [f64; 2], heights
     canvas.line("grid", &[[left, top], [right, top], [right, bottom], [left, bottom], [left, top]]);
     let [zero, one] = [-1.0, 1.0].map(|s| curve.point([s, 0.0], heights));
     canvas.line("axis", &[zero, one]);
-    canvas.text([right - 4.0, bottom + 34.0], "faint", "x");
-    canvas.text([left, top - 5.0], "faint", "p(x)");
 }
 
 /// How near the curve comes to the axis.
-fn no_root(canvas: &mut Canvas, curve: &Curve, part: &Part, heights: [f64; 2]) {
+fn no_root(canvas: &mut Canvas, curve: &Curve, part: &Part, heights: [f64; 2], variable: &str) {
     let low = value(&curve.q, 0.0);
     let [axis, at] = [0.0, low].map(|y| curve.point([0.0, y], heights));
     canvas.line("dashed", &[axis, at]);
     let x = figures(&[part.middle]).concat();
     let y = low * curve.unit.exp2();
     let text = match y.is_finite() {
-        true => format!("nearest to 0 at x = {x}: p(x) = {}", rough(y)),
-        false => format!("nearest to 0 at x = {x}"),
+        true => format!("nearest to 0 at {variable} = {x}: p({variable}) = {}", rough(y)),
+        false => format!("nearest to 0 at {variable} = {x}"),
     };
     canvas.label(at, [0.0, if low < 0.0 { -1.0 } else { 1.0 }], text);
 }

@@ -84,8 +84,9 @@ pub fn drawn(shown: &Shown) -> Result<String, String> {
     canvas.legend(&marks);
     match record {
         Record::List { .. } | Record::Quadratic { .. } => {
-            curve::draw(&mut canvas, &shown.coeffs, &marks)?
+            curve::draw(&mut canvas, &shown.coeffs, "x", &marks)?
         }
+        Record::Formula { .. } => curve::draw(&mut canvas, &shown.coeffs, "t", &marks)?,
         Record::Crank { .. } => crank::draw(&mut canvas, &marks),
         Record::Contact(contact) => contact::draw(&mut canvas, contact, &marks)?,
     }
