@@ -1,5 +1,5 @@
-/* A lane controller's use of Pongewaru: the roots of a list, an inquiry answered in a loop, a pin contact, a crank, a quadratic, a hall file, and what is
- * refused. In the repository's folder
+/* A lane controller's use of Pongewaru: the roots of a list, an inquiry answered in a loop, a pin contact, a crank, a quadratic, a formula, a hall
+ * file, and what is refused. In the repository's folder
  *
  *     rt staticlib pongewaru
  *     gcc -Wall -Werror -Iinclude examples/lane.c target/staticlib/libpongewaru.a -lm -o target/lane && target/lane
@@ -25,7 +25,11 @@ static const char *why(uint64_t said)
     case PONGEWARU_RECORD_NOT_FINITE: return "a number is not finite";
     case PONGEWARU_NO_RADIUS: return "the radius is not above 0";
     case PONGEWARU_MADE_NOT_FINITE: return "a coefficient made is not finite";
+    case PONGEWARU_NOT_A_SUM: return "the text is not a sum";
+    case PONGEWARU_DEGREE_TOO_HIGH: return "a part's degree is above 4";
+    case PONGEWARU_COEFFICIENT_TOO_LARGE: return "a part's coefficient is above 2^53";
     case PONGEWARU_CUT_DOUBLE: return "the bytes are no whole doubles";
+    case PONGEWARU_TEXT_TOO_LONG: return "the text has more than 255 bytes";
     default: return "?";
     }
 }
@@ -129,6 +133,24 @@ static void quadratic(void)
         printf("two places: %.17g, %.17g\n", s.first, s.second);
 }
 
+/* ---- A formula as it was typed: its coefficients, the lowest power first, and its roots */
+
+static void formula(const char *text)
+{
+    struct pongewaru_coefficients made;
+    struct pongewaru_list list;
+    uint64_t said = pongewaru_formula_coefficients(text, strlen(text), &made, sizeof made);
+    if (said == sizeof made) {
+        for (int i = 0; i < (int)made.count; i++)
+            printf("%.17g%s", made.c[i], i + 1 < (int)made.count ? ", " : ": ");
+        said = pongewaru_formula_roots(text, strlen(text), TOL, &list, sizeof list);
+    }
+    if (said == sizeof list)
+        print_list(&list);
+    else
+        printf("refused %d: %s\n", (int)said, why(said));
+}
+
 /* ---- A hall file: one record of five numbers, and one that is cut off */
 
 static void file(void)
@@ -172,6 +194,9 @@ int main(void)
     pin(NAN);
     crank();
     quadratic();
+    formula("(t-2)^2*(t+1)");
+    formula("2t-1");
+    formula("(t^5)^0");
     file();
     refusals();
     return 0;

@@ -1,4 +1,4 @@
-/* Pongewaru for C and C++: real roots of polynomials up to degree 4, quadratics, crank equations, pin contacts and hall files, as proved. docs/CONTRACTS.md
+/* Pongewaru for C and C++: real roots of polynomials up to degree 4, quadratics, crank equations, pin contacts, formulas and hall files, as proved. docs/CONTRACTS.md
  * says what is proved of each function, and docs/HALL-FILE.md what a hall file is.
  *
  * Linking: `rt staticlib pongewaru` makes target/staticlib/libpongewaru.a, which holds all functions of the first part; it needs the C library alone.
@@ -52,8 +52,16 @@ extern "C" {
 #define PONGEWARU_NO_RADIUS 11
 #define PONGEWARU_MADE_NOT_FINITE 12
 
+/* Of a formula: the text is not a sum; a part of it has a degree above 4; a coefficient of a part is above 2^53 in size. */
+#define PONGEWARU_NOT_A_SUM 13
+#define PONGEWARU_DEGREE_TOO_HIGH 14
+#define PONGEWARU_COEFFICIENT_TOO_LARGE 15
+
 /* `coeffs_len` is no multiple of 8: the bytes are no whole doubles. */
 #define PONGEWARU_CUT_DOUBLE 20
+
+/* `text_len` is above 255: no record holds such a text. */
+#define PONGEWARU_TEXT_TOO_LONG 21
 
 /* ---- Answers, made of doubles alone: counts and numbers are whole */
 
@@ -105,6 +113,12 @@ struct pongewaru_quartic {
     double q[5];
 };
 
+/* 48 bytes: `count` coefficients, 0 to 5, the lowest power first, the last of them not 0; zeros behind it. */
+struct pongewaru_coefficients {
+    double count;
+    double c[5];
+};
+
 /* No listing is longer. */
 #define PONGEWARU_LISTING_MOST 524308
 
@@ -129,6 +143,13 @@ uint64_t pongewaru_crank_front(double a2, double b2, double c1, double d1, doubl
  * `confusion`. Stores pongewaru_list; refuses 10, 11, 12, 2. */
 uint64_t pongewaru_pin_contact(double confusion, double x0, double x1, double x2, double y0, double y1, double y2, double cx, double cy, double r, void *out,
     size_t out_len);
+
+/* The real roots of a formula in t such as "(t-2)^2*(t+1)": sums of products of whole numbers, of t and of sums in round brackets, each to a power of one
+ * digit. A NaN or negative `tol` counts as 0. Stores pongewaru_list; refuses 21, 13, 14, 15, 2. */
+uint64_t pongewaru_formula_roots(const void *text, size_t text_len, double tol, void *out, size_t out_len);
+
+/* The polynomial that is solved for it, exactly. Stores pongewaru_coefficients; refuses 21, 13, 14, 15. */
+uint64_t pongewaru_formula_coefficients(const void *text, size_t text_len, void *out, size_t out_len);
 
 /* a*t^2 + b*t + c = 0. Stores pongewaru_solution; refuses 1, 5. */
 uint64_t pongewaru_quadratic(double a, double b, double c, double confusion, double angular, void *out, size_t out_len);
