@@ -1,4 +1,4 @@
--- What some texts expand to, by computation: one fact about all rows.
+-- What some texts expand to, by computation: one fact about all rows. And the parts of a text in their order.
 use mathlib.Core.Path.{_≡_, refl}
 use mathlib.Core.List.{List, [], _∷_, map}
 use Prim.Native.Nat.{ℕ}
@@ -7,7 +7,9 @@ use Prim.Native.String as text
 use Prim.Native.String.{String}
 use lib.IntN.{pos, negsuc}
 use Rattle.parts.specs.Value.{Value, exact, refused}
+use Rattle.formula.specs.Reading.{ifSome, readingOf}
 use Rattle.formula.specs.Formula.{formulaOf}
+use Rattle.formula.specs.Parts.{sumParts}
 
 ascii : String → List ℕ
 ascii text.[] = []
@@ -55,3 +57,10 @@ rows =
 every : map (λ (r : Row). formulaOf (ascii (r .formula))) rows ≡ map (λ (r : Row). r .value) rows
 unfolding formulaOf ascii
 every = refl
+
+-- the parts of a formula, in the order in which they are met: 2, t, 1, their sum, the bracket, its first and second power, and the difference
+parts : ifSome (readingOf (ascii "2-(t+1)^2")) [] sumParts
+    ≡ (pos 2 ∷ []) ∷ (pos 0 ∷ pos 1 ∷ []) ∷ (pos 1 ∷ []) ∷ (pos 1 ∷ pos 1 ∷ []) ∷ (pos 1 ∷ pos 1 ∷ []) ∷ (pos 1 ∷ pos 1 ∷ []) ∷ (pos 1 ∷ pos 2 ∷ pos 1 ∷ [])
+    ∷ (pos 1 ∷ negsuc 1 ∷ negsuc 0 ∷ []) ∷ []
+unfolding readingOf ascii
+parts = refl
