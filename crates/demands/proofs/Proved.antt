@@ -183,6 +183,7 @@ typed-formulas = record {
       answered-by (λ (a : Answer). NeverBrush (listOf (a .roots))) s tol (λ n h k l. absurd (omega (arith, l))) (λ cs h. kinds .list cs tol);
   line = formula-line;
   cut = formula-cut;
+  order = refl;
   rows = refl;
 }
 

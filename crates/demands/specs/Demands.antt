@@ -56,6 +56,8 @@ use Rattle.contact.specs.declared.Path.{Path}
 use Rattle.contact.specs.declared.Circle.{Circle}
 use Rattle.contact.specs.Contact.{madeOf, pinContactOf}
 use Rattle.contact.specs.Claims.{repliesOf, Contacts}
+use Rattle.formula.specs.Reading.{ifSome, readingOf}
+use Rattle.formula.specs.Parts.{sumParts}
 use Rattle.formula.specs.Formula.{formulaOf}
 use Rattle.formula_roots.specs.FormulaRoots.{handedOn, formulaRootsOf}
 use Rattle.formula_roots.specs.Claims.{Formulas}
@@ -68,7 +70,7 @@ use Rattle.demands.specs.Loops.{runsFrom, chainsFrom}
 use Rattle.demands.specs.Formed.{Formed, timesOf, unasked, chainsFormed, rootsFormed, replyIn, SomeYes, unformed}
 use Rattle.demands.specs.Table.{Row, table, rowAnswerOf}
 use Rattle.demands.specs.Example.{ascii, exampleFile, exampleListing}
-use Rattle.demands.specs.Texts.{TextRow, texts}
+use Rattle.demands.specs.Texts.{TextRow, texts, partsInOrder}
 
 -- ---- words
 
@@ -419,7 +421,7 @@ pub record Kinds : Type 0 where
 -- and no other number. 'Expansion is exact over whole numbers'; 'The result, zero being +0, goes to the list operation'; demand 1. So demand 3 covers these
 -- roots through the list, and so do the kinds of request Two: none is a brush, since nothing is asked. 'A record TX holds a length byte 0 to 255, a tolerance
 -- and that much ASCII', 'whose answer or refusal prints like PL': the line of a file of one such record, and of one whose length byte or later bytes are
--- missing, '7, fewer bytes than the record needs'. `rows`: what some texts come to.
+-- missing, '7, fewer bytes than the record needs'. `rows` and `order`: what some texts come to, and the parts of one.
 pub record TypedFormulas : Type 0 where
   pub every : (s : List ℕ) (tol : Float) → Formulas s tol
   pub polished : (s : List ℕ) (tol : Float) → formulaRootsOf s tol .number ≡ 0 → NotWorsened (handedOn (formulaOf s)) tol
@@ -428,6 +430,7 @@ pub record TypedFormulas : Type 0 where
       → let file = ascii "TX" ++ (length text ∷ tolerance ++ text) in
       listing file ≡ ascii "1 TX " ++ (polynomialText (formulaRootsOf text (f64At file 3)) ++ ascii "\n")
   pub cut : (s : List ℕ) → getD s 0 0 ≤ 255 → length s < 9 + getD s 0 0 → listing (ascii "TX" ++ s) ≡ ascii "1 TX refused 7\n"
+  pub order : ifSome (readingOf (ascii "2-(t+1)^2")) [] sumParts ≡ partsInOrder
   pub rows : map (λ (r : TextRow). formulaOf (ascii (r .text))) texts ≡ map (λ (r : TextRow). r .value) texts
 
 -- ---- all of them

@@ -1,7 +1,7 @@
 -- Texts of formulas, and what each comes to. Definitions only.
 use mathlib.Core.List.{List, [], _∷_}
 use Prim.Native.String.{String}
-use lib.IntN.{pos, negsuc}
+use lib.IntN.{ℤ, pos, negsuc}
 use Rattle.parts.specs.Value.{Value, exact, refused}
 
 -- a text, and its polynomial, the coefficient of t^0 first, or its refusal
@@ -52,4 +52,17 @@ texts =
     ∷ row "t^5+94906266*94906266" (refused 14)
     ∷ row "94906266*94906266+t^5" (refused 15)
     ∷ row "94906266*t^4*(94906266*t)" (refused 14)
+    ∷ []
+
+-- the parts of `2-(t+1)^2` in their order: 2, t, 1, their sum, the bracket, its first and second power, and the difference
+abbrev pub partsInOrder : List (List ℤ)
+partsInOrder =
+    (pos 2 ∷ [])
+    ∷ (pos 0 ∷ pos 1 ∷ [])
+    ∷ (pos 1 ∷ [])
+    ∷ (pos 1 ∷ pos 1 ∷ [])
+    ∷ (pos 1 ∷ pos 1 ∷ [])
+    ∷ (pos 1 ∷ pos 1 ∷ [])
+    ∷ (pos 1 ∷ pos 2 ∷ pos 1 ∷ [])
+    ∷ (pos 1 ∷ negsuc 1 ∷ negsuc 0 ∷ [])
     ∷ []

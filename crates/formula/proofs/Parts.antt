@@ -76,13 +76,13 @@ limited-judged : (p : List ℤ) → Judged (p ∷ []) p (limited p)
 limited-judged p = limited-ways (Judged (p ∷ []) p) p high large meets
   where
     high : (k : ℕ) → 5 ≤ k → (coefficientOf p k ≡ pos 0 → ⊥) → Judged (p ∷ []) p (refused 14)
-    high k l f = inl (refl, first-alone High p (k, l, f))
+    high k l f = inl (refl, first-alone High p (k, omega arith, f))
 
     large : ((k : ℕ) → 5 ≤ k → coefficientOf p k ≡ pos 0) → (k : ℕ) → 2 ^ 53 < natAbs (coefficientOf p k) → Judged (p ∷ []) p (refused 15)
-    large z k l = inr (refl, first-alone OnlyLarge p ((k, l), λ w. w .2 (z (w .0) (w .1))))
+    large z k l = inr (refl, first-alone OnlyLarge p ((k, omega arith), λ w. absurd (w .2 (z (w .0) (omega (arith, w .1))))))
 
     meets : ((k : ℕ) → 5 ≤ k → coefficientOf p k ≡ pos 0) → ((k : ℕ) → natAbs (coefficientOf p k) ≤ 2 ^ 53) → Judged (p ∷ []) p (exact (trimmed p))
-    meets z s = let m : Meets p = (λ w. w .2 (z (w .0) (w .1)), λ w. omega (arith, w .1, s (w .0))) in (alone p m, m, refl)
+    meets z s = let m : Meets p = (λ w. w .2 (z (w .0) (omega (arith, w .1))), λ w. omega (arith, w .1, s (w .0))) in (alone p m, m, refl)
 
 -- ---- joins
 module _ (op : Operator) (xs : List (List ℤ)) (p q : List ℤ) where
