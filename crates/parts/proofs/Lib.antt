@@ -3,5 +3,6 @@ pub mod Limits
 pub mod Values
 pub mod Words
 pub mod Entries
+pub mod Degrees
 pub mod Sums
 pub mod Joins
