@@ -13,7 +13,7 @@ use host::port;
 use host::runs::damage::Hunt;
 use host::runs::files::made;
 use host::stored::files::{DOCUMENT_LISTING, files, of_size};
-use host::truth::hall_file::{MOST_BYTES, MOST_LISTED};
+use host::truth::hall_file::{MOST_BYTES, MOST_LISTED, Record, file};
 use host::truth::lister::{Reference, listing};
 use run::{hallroots, piped};
 use std::process::{Command, Stdio};
@@ -79,7 +79,8 @@ fn lengths() {
 /// The longest listing that was found: of five letters each, three roots.
 #[test]
 fn longest_lines() {
-    let bytes = stored("longest_lines");
+    let formula = Record::Formula { tolerance: 0.0, text: b"t^3-t".to_vec() };
+    let bytes = file(&vec![formula; 4096]);
     let lines = by_port(&bytes);
     assert_eq!(bytes.len(), MOST_BYTES);
     assert_eq!(lines, listing(&bytes, &Reference));

@@ -351,7 +351,6 @@ fn ends() -> Vec<Named> {
         named("length_33", formula("0".repeat(33)).bytes()),
         named("length_255", behind(&formula("(".repeat(255)).bytes())),
         named("length_255_cut", behind(&formula("(".repeat(255)).bytes()[..265])),
-        named("longest_lines", file(&vec![formula("t^3-t"); 4096])),
         named("bytes_65535", of_size(65_535)),
         named("bytes_65535_cut", &of_size(MOST_BYTES)[..65_535]),
         named("bytes_65536", of_size(MOST_BYTES)),
