@@ -210,6 +210,8 @@ fn limits() {
     let last = 90071992.0 * 54740992.0;
     expands(b"(90071992*t+1)*(100000000+54740992*t)", &[100000000.0, LARGEST, last]);
     refused(b"(90071992*t+1)*(100000000+54740993*t)", 15);
+    // and 321 * 28059810762433 - 1, of which the product alone is 2^53 + 1
+    expands(b"((280598*100000000+10762433)*t+1)*(321-t)", &[321.0, LARGEST, -28059810762433.0]);
     // in every coefficient
     for power in 0..=4 {
         let mut coeffs = vec![0.0; power + 1];
@@ -296,7 +298,7 @@ fn each_byte_in_each_place() {
             }
         }
         for (_, text) in telling::FORMULAS {
-            add(all, text.as_bytes(), TOL);
+            add(all, text, TOL);
         }
     });
     all_equal("each byte in each place", &outcome);

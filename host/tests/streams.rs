@@ -1,5 +1,5 @@
-//! What the programs do where their output cannot be written: `hall`, which has statuses, and
-//! `hallroots`, whose status is 0.
+//! What the programs do where their output cannot be written, `hall`, which has statuses, and
+//! `hallroots`, whose status is 0; and where the stack is small.
 #![cfg(target_os = "linux")]
 mod run;
 
@@ -126,4 +126,24 @@ fn nonblocking_pipe() {
         let line = "writing the listing: Resource temporarily unavailable";
         assert!(said(&out).starts_with(line), "{}", said(&out));
     }
+}
+
+/// A stack of 1 MB is enough for the longest file and the deepest brackets: 255 that are opened.
+#[test]
+fn small_stack() {
+    let Some(program) = hallroots() else { return };
+    let path = scratch("brackets.hall");
+    let text = |text: &str| [b"TX", &[text.len() as u8][..], &[0; 8], text.as_bytes()].concat();
+    let closed = format!("{}t{}", "(".repeat(127), ")".repeat(127));
+    let mut bytes = [text(&"(".repeat(255)), text(&closed)].concat();
+    let lists = made("list 2^-30 2 -3 1\n").repeat((65_536 - bytes.len()) / 35);
+    bytes.extend(lists);
+    std::fs::write(&path, bytes).unwrap();
+    let mut shell = Command::new("sh");
+    shell.args(["-c", "ulimit -s 1024; exec \"$0\" < \"$1\""]).arg(program).arg(&path);
+    let out = shell.output().unwrap();
+    assert_eq!((out.status.code(), said(&out)), (Some(0), String::new()));
+    let lines = String::from_utf8(out.stdout).unwrap();
+    let first = "1 TX refused 13\n2 TX ok 1 0000000000000000 1 c\n3 PL ok 2 ";
+    assert!(lines.starts_with(first) && lines.lines().count() > 1800, "{lines:.200}");
 }

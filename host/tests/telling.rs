@@ -36,7 +36,7 @@ fn stored_formulas() {
     let tol = 1.0 / (1u64 << 30) as f64;
     let outcome = formulas::outcome(|all| {
         for (_, text) in telling::FORMULAS {
-            formulas::add(all, text.as_bytes(), tol);
+            formulas::add(all, text, tol);
         }
     });
     assert!(outcome.wrong == 0, "{}", outcome.shown.join("\n"));

@@ -1,14 +1,13 @@
 -- The answer: how many coefficients there are, and the coefficients as doubles.
-use mathlib.Core.Path.{_≡_, refl, sym, ap, subst, _∙_}
+use mathlib.Core.Path.{_≡_, refl, sym, ap, _∙_}
 use mathlib.Core.Bool.{Bool, true, false, cond}
 use mathlib.Core.List.{List, [], _∷_, _++_, map}
 use mathlib.Core.Logic.{⊎-elim}
 use Prim.Native.Nat.{ℕ, zero, suc, _+_, _-_, _≤_, _<_}
-use native.Mathlib.Nat.{eq-or-lt-of-le}
 use native.Mathlib.Omega.{arith}
 use lib.Dec.{T, eqb}
 use lib.ListN.{length, replicate, length-append, length-replicate}
-use lib.IntN.{ℤ, pos, natAbs, _-ℤ_, +ℤ-invr}
+use lib.IntN.{ℤ, pos, natAbs, _-ℤ_}
 use lib.Ieee.{Float, binary64, ofInt, ofBits, minus}
 use borrow.Author.Tests.{le-leb, lt-leb, le-ltb, lt-ltb}
 use Rattle.algebra.specs.NatOrder.{le-or-lt}
@@ -18,13 +17,11 @@ use Rattle.parts.specs.declared.Part.{Part}
 use Rattle.parts.specs.declared.Coefficient.{Coefficient}
 use Rattle.parts.specs.Polynomial.{led, trimmed}
 use Rattle.parts.specs.Value.{exact, refused}
-use Rattle.parts.specs.Part.{entryOf, differenceOf, coefficientIn, valueIn, Five}
-use Rattle.parts.proofs.Coefficients.{zero-is, trimmed-short, trimmed-long}
-use Rattle.parts.proofs.Entries.{value-refused, value-exact, five-at, coefficient-none}
-use Rattle.parts.proofs.Joins.{level}
+use Rattle.parts.specs.Part.{coefficientIn, valueIn, lengthIn, entryOf}
+use Rattle.parts.proofs.Coefficients.{zero-is}
+use Rattle.parts.proofs.Entries.{value-refused, value-exact, entry-worth}
 use Rattle.formula.specs.declared.Expanded.{Expanded}
 use Rattle.formula.specs.Formula.{floatsOf, answeredOf}
-use Rattle.formula.specs.Readers.{lengthIn}
 
 -- ---- a coefficient as a double
 minus-is : (p q : ℕ) → minus p q ≡ pos p -ℤ pos q
@@ -34,33 +31,8 @@ minus-is p zero = rw (le-leb 0 p (omega arith)) (ap pos same)
     same = omega arith
 minus-is p (suc q) = ⊎-elim (λ (h : suc q ≤ p). rw (le-leb (suc q) p h, le-ltb p (suc q) h)) (λ (h : p < suc q). rw (lt-leb (suc q) p h, lt-ltb p (suc q) h)) (le-or-lt (suc q) p)
 
-pub float-is : (x : Float) (c d : Coefficient) → x ≡ ofInt binary64 (minus (c .up) (c .down)) → c ≡ d → x ≡ ofInt binary64 (differenceOf d)
-float-is x c d e f = e ∙ ap (ofInt binary64) (minus-is (c .up) (c .down)) ∙ ap (λ (y : Coefficient). ofInt binary64 (differenceOf y)) f
-
--- ---- how many coefficients
-level-zero : (c d : Coefficient) → c ≡ d → c .up ≡ c .down → differenceOf d ≡ pos 0
-level-zero c d e h = ap differenceOf (sym e) ∙ ap (λ (x : ℕ). pos x -ℤ pos (c .down)) h ∙ +ℤ-invr (pos (c .down))
-
-module _ (a : Part) (room : Five a) where
-  abbrev five : List ℤ
-  five = fromFn 5 (coefficientIn a)
-
-  pub none-left : (k : ℕ) → 5 ≤ k → coefficientIn a k ≡ pos 0
-  none-left k h = coefficient-none a room k h
-
-  pub one-less : (n : ℕ) (c : Coefficient) → 0 < n → c ≡ entryOf a (n - 1) → c .up ≡ c .down → ((k : ℕ) → n ≤ k → coefficientIn a k ≡ pos 0) → (k : ℕ) → n - 1 ≤ k → coefficientIn a k ≡ pos 0
-  one-less n c h e f z k g =
-      ⊎-elim (λ (q : n - 1 ≡ k). subst (λ (j : ℕ). coefficientIn a j ≡ pos 0) q (level-zero c (entryOf a (n - 1)) e f)) (λ (q : n - 1 < k). z k (omega arith)) (eq-or-lt-of-le g)
-
-  pub length-is : (n : ℕ) (c : Coefficient) → 0 < n → c ≡ entryOf a (n - 1) → (c .up ≡ c .down → ⊥) → ((k : ℕ) → n ≤ k → coefficientIn a k ≡ pos 0) → n ≡ lengthIn a
-  length-is n c h e f z =
-      let most : length (trimmed five) ≤ n = trimmed-short n five (λ k g. five-at a room k ∙ z k g) in
-      ⊎-elim (λ (q : length (trimmed five) ≤ n - 1). absurd (f (level (c .up) (c .down) (ap differenceOf e ∙ sym (five-at a room (n - 1)) ∙ trimmed-long (n - 1) five q (n - 1) (omega arith)))))
-      (λ (q : n - 1 < length (trimmed five)). omega arith)
-      (le-or-lt (length (trimmed five)) (n - 1))
-
-  pub length-none : ((k : ℕ) → 0 ≤ k → coefficientIn a k ≡ pos 0) → 0 ≡ lengthIn a
-  length-none z = let most : length (trimmed five) ≤ 0 = trimmed-short 0 five (λ k g. five-at a room k ∙ z k g) in omega arith
+pub float-is : (a : Part) (k : ℕ) (c : Coefficient) (x : Float) → c ≡ entryOf a k → x ≡ ofInt binary64 (minus (c .up) (c .down)) → x ≡ ofInt binary64 (coefficientIn a k)
+float-is a k c x d e = e ∙ ap (ofInt binary64) (minus-is (c .up) (c .down) ∙ entry-worth a k c d)
 
 -- ---- the coefficients
 led-padded : (a : ℤ) (t : List ℤ) (n : ℕ) → a ∷ (t ++ replicate n (pos 0)) ≡ led a t ++ replicate (suc (length t + n) - length (led a t)) (pos 0)

@@ -6,14 +6,11 @@ use mathlib.Core.Logic.{_⊎_}
 use Prim.Native.Nat.{ℕ, _+_, _-_, _*_, _≤_}
 use lib.Dec.{eqb, ltb}
 use lib.ListN.{length, getD, drop}
-use Rattle.facts.specs.Arrays.{fromFn}
-use Rattle.parts.specs.declared.Part.{Part}
 use Rattle.parts.specs.declared.Operator.{Operator}
 use Rattle.parts.specs.declared.Operator.the-variants.{Sum, Difference}
-use Rattle.parts.specs.Polynomial.{trimmed}
 use Rattle.parts.specs.Value.{Value, joined}
 use Rattle.parts.specs.Products.{operatorOf}
-use Rattle.parts.specs.Part.{coefficientIn, valueIn, Sound}
+use Rattle.parts.specs.Part.{valueIn, Sound}
 use Rattle.formula.specs.declared.Cursor.{Cursor}
 use Rattle.formula.specs.Grammar as Grammar
 use Rattle.formula.specs.Grammar.{isDigit, Power, Factor}
@@ -70,7 +67,3 @@ pub record Joined (op : Operator) (a b c : Cursor) : Type 0 where
   pub next : c .next ≡ b .next
   pub value : c .read ≡ true → valueIn (c .part) ≡ joined (operatorOf op) (valueIn (a .part)) (valueIn (b .part))
   pub sound : Sound (c .part)
-
--- how many coefficients there are up to the last that is no zero
-abbrev pub lengthIn : Part → ℕ
-lengthIn a = length (trimmed (fromFn 5 (coefficientIn a)))

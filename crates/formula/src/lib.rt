@@ -10,7 +10,7 @@ ghost use Rattle.parts.specs.Part.{coefficientIn, valueIn, Sound};
 ghost use Rattle.formula.specs.Expansion.{sumOf, termOf, factorOf};
 ghost use Rattle.formula.specs.Reading.{readSum, readTerm, readFactor, readUnit, readNumber};
 ghost use Rattle.formula.specs.Formula.{answeredOf, expandOf};
-ghost use Rattle.formula.specs.Readers.{isAt, signAt, digitAt, operatorAt, Ahead, Reads, Based, Closed, Powered, Joined, lengthIn};
+ghost use Rattle.formula.specs.Readers.{isAt, signAt, digitAt, operatorAt, Ahead, Reads, Based, Closed, Powered, Joined};
 use parts::Operator;
 use parts::Part;
 
@@ -243,37 +243,24 @@ fn factor(s: &[u8], at: usize) -> Cursor
     requires { ⌜ at ≤ length (now s) ⌝ }
     ensures { λ r. ⌜ Reads readFactor factorOf 1 (now (s .entry)) at r ⌝ }
 {
-    if is_at(s, at, b'(') {
+    let base = if is_at(s, at, b'(') {
         let inner = sum(s, at + 1);
-        return powered(s, closed(s, inner));
-    }
-    powered(s, unit(s, at))
+        closed(s, inner)
+    } else {
+        unit(s, at)
+    };
+    powered(s, base)
 }
 
 // ---- the answer
 
-// Exactly, since neither side is above 2^53.
+// Exactly, since no coefficient is above 2^53 in size.
 fn float_at(a: Part, k: usize) -> f64
     requires { ⌜ Sound a ⌝ }
     ensures { λ r. ⌜ r ≡ ofInt binary64 (coefficientIn a k) ⌝ }
 {
     let c = parts::entry(a, k);
     float::difference(c.up, c.down)
-}
-
-// How many coefficients there are up to the last that is no zero.
-fn len(a: Part) -> usize
-    ensures { λ r. ⌜ r ≡ lengthIn a ⌝ }
-{
-    let mut n = 5;
-    while 0 < n {
-        let c = parts::entry(a, n - 1);
-        if c.up != c.down {
-            return n;
-        }
-        n -= 1;
-    }
-    0
 }
 
 fn refused(number: u32) -> Expanded
@@ -295,7 +282,7 @@ fn answered(a: Part) -> Expanded
     }
     Expanded {
         number: 0,
-        len: len(a),
+        len: parts::len(a),
         coeffs: [
             float_at(a, 0),
             float_at(a, 1),

@@ -4,5 +4,6 @@ pub mod Trimmed
 pub mod Values
 pub mod Words
 pub mod Entries
+pub mod Degrees
 pub mod Sums
 pub mod Joins

@@ -1,82 +1,108 @@
--- The coefficients of a sum, a difference and a product, as code adds them up.
-use mathlib.Core.Path.{_≡_, refl, sym, ap, ap₂, subst, _∙_}
-use Prim.Native.Nat.{ℕ, suc, _+_, _-_, _*_, _≤_, _<_}
+-- What is kept of a sum, of a difference and of a product, as code makes it.
+use mathlib.Core.Path.{_≡_, sym, ap, ap₂, subst, _∙_}
+use mathlib.Core.List.{List}
+use mathlib.Core.Logic.{inl, inr, ⊎-elim}
+use Prim.Native.Nat.{ℕ, _+_, _-_, _*_, _^_, _≤_, _<_}
 use native.Mathlib.Nat.{zero-add}
 use native.Mathlib.Numerals.{add-one}
 use native.Mathlib.Omega.{arith}
-use lib.Dec.{lit≤}
-use lib.IntN.{ℤ, pos, negℤ, _+ℤ_, _-ℤ_, _*ℤ_}
+use lib.ListN.{getD}
+use lib.IntN.{ℤ, pos, negℤ, natAbs, _+ℤ_, _-ℤ_, _*ℤ_, +ℤ-idl}
+use Rattle.algebra.specs.NatOrder.{le-or-lt, dist}
+use Rattle.algebra.specs.IntOrder.{natAbs-pos-sub}
 use Rattle.algebra.specs.RingInt.{ringℤ, :neg, _:+_, _:-_, _:*_, _:=_}
 use Rattle.wide.specs.declared.Double.{Double}
-use Rattle.parts.specs.declared.Part.{Part}
-use Rattle.parts.specs.declared.Coefficient.{Coefficient}
-use Rattle.parts.specs.declared.Wide.{Wide}
-use Rattle.parts.specs.Products.{productsTo}
-use Rattle.parts.specs.Part.{entryOf, differenceOf, coefficientIn, Small, Sound, wordsOf, Within, Sums}
-use Rattle.parts.proofs.Words.{within-word, within-turn, within-more}
+use Rattle.parts.specs.declared.Operator.the-variants.{Sum, Difference, Product}
+use Rattle.parts.specs.Products.{productsTo, madeOf}
+use Rattle.parts.specs.Part.{raisedAt, coefficientAt, Ends, wordsOf, Within, Excess, Raises}
+use Rattle.parts.proofs.Words.{within-turn}
+use Rattle.parts.proofs.Entries.{kept-at}
+use Rattle.parts.proofs.Degrees.{products-before, products-behind}
 
--- a coefficient that was read
-pub small-entry : (a : Part) (k : ℕ) (x : Coefficient) → x ≡ entryOf a k → Sound a → Small x
-small-entry a k x e s = subst Small (sym e) (s k)
+-- ---- a difference of what is kept
+module _ (a b : ℕ) (z : ℤ) (e : pos a -ℤ pos b ≡ z +ℤ pos (2 ^ 53)) where
+  apart : pos a -ℤ pos (b + 2 ^ 53) ≡ z
+  apart =
+      ringℤ 3 (λ a b c. a :- (b :+ c) := (a :- b) :- c) tt (pos a) (pos b) (pos (2 ^ 53)) ∙ ap (λ (x : ℤ). x -ℤ pos (2 ^ 53)) e
+      ∙ ringℤ 2 (λ z c. (z :+ c) :- c := z) tt z (pos (2 ^ 53))
 
--- ---- one word
-abbrev oneWord : ℕ → ℕ → Wide
-oneWord m n = record { up = record { hi = 0; lo = m }; down = record { hi = 0; lo = n } }
+  size : natAbs z ≡ dist a (b + 2 ^ 53)
+  size = ap natAbs (sym apart) ∙ natAbs-pos-sub a (b + 2 ^ 53)
 
-one-word : (m n : ℕ) → pos (wordsOf (record { hi = 0; lo = m })) -ℤ pos (wordsOf (record { hi = 0; lo = n })) ≡ pos m -ℤ pos n
-unfolding wordsOf
-one-word m n = ap₂ (λ (x y : ℕ). pos x -ℤ pos y) (zero-add m) (zero-add n)
+  pub raised-by : (r : ℕ) → Excess a b r → Raises z r
+  raised-by r (inl h) = ⊎-elim (λ (l : r ≤ 2 ^ 54). inl (l, same)) (λ (l : 2 ^ 54 < r). inr (l, omega (arith, size, h))) (le-or-lt r (2 ^ 54))
+    where
+      same : pos r -ℤ pos (2 ^ 53) ≡ z
+      same = ringℤ 3 (λ r b c. r :- c := (b :+ r) :- (b :+ c)) tt (pos r) (pos b) (pos (2 ^ 53)) ∙ ap (λ (n : ℕ). pos n -ℤ pos (b + 2 ^ 53)) h ∙ apart
+  raised-by r (inr (l, inl h)) = inr (l, omega (arith, size, h))
+  raised-by r (inr (l, inr h)) = inr (l, omega (arith, size, h))
 
-pub sum-made : (x y u v : Coefficient) → x ≡ u → y ≡ v → Small u → Small v → Sums (oneWord (x .up + y .up) (x .down + y .down)) (differenceOf u +ℤ differenceOf v) 9
-sum-made x y u v d e s t =
-    let h : Small x = subst Small (sym d) s in
-    let g : Small y = subst Small (sym e) t in
-    record {
-      same = one-word (x .up + y .up) (x .down + y .down)
-          ∙ ringℤ 4 (λ a b c d. (a :+ c) :- (b :+ d) := (a :- b) :+ (c :- d)) tt (pos (x .up)) (pos (x .down)) (pos (y .up)) (pos (y .down))
-          ∙ ap₂ (λ (a b : Coefficient). differenceOf a +ℤ differenceOf b) d e;
-      up = within-word (x .up) (y .up) (h .up) (g .up);
-      down = within-word (x .down) (y .down) (h .down) (g .down);
-    }
+-- ---- coefficients that are read
+module _ (l : List ℕ) (m k : ℕ) (e : Ends l m) (h : k < 5) where
+  read-is : getD l k 0 ≡ raisedAt l k
+  read-is = kept-at l k (omega (arith, e .five))
 
-pub difference-made : (x y u v : Coefficient) → x ≡ u → y ≡ v → Small u → Small v → Sums (oneWord (x .up + y .down) (x .down + y .up)) (differenceOf u +ℤ negℤ (differenceOf v)) 9
-difference-made x y u v d e s t =
-    let h : Small x = subst Small (sym d) s in
-    let g : Small y = subst Small (sym e) t in
-    record {
-      same = one-word (x .up + y .down) (x .down + y .up)
-          ∙ ringℤ 4 (λ a b c d. (a :+ d) :- (b :+ c) := (a :- b) :+ :neg (c :- d)) tt (pos (x .up)) (pos (x .down)) (pos (y .up)) (pos (y .down))
-          ∙ ap₂ (λ (a b : Coefficient). differenceOf a +ℤ negℤ (differenceOf b)) d e;
-      up = within-word (x .up) (y .down) (h .up) (g .down);
-      down = within-word (x .down) (y .up) (h .down) (g .up);
-    }
+  pub read-small : getD l k 0 ≤ 2 ^ 54
+  read-small = rw read-is (e .small k)
 
--- ---- sums of products
--- (`same` is stated on numbers, for the ring tools)
-turn-same : (u d a b c e : ℕ) → pos (u + a * c + b * e) -ℤ pos (d + a * e + b * c) ≡ (pos u -ℤ pos d) +ℤ (pos a -ℤ pos b) *ℤ (pos c -ℤ pos e)
-turn-same u d a b c e =
-    ringℤ 6 (λ u d a b c e. (u :+ a :* c :+ b :* e) :- (d :+ a :* e :+ b :* c) := (u :- d) :+ (a :- b) :* (c :- e)) tt (pos u) (pos d) (pos a) (pos b) (pos c) (pos e)
+-- ---- sums and differences
+-- (numbers of one word)
+one-word : (x y r : ℕ) → Excess (0 * 2 ^ 64 + x) (0 * 2 ^ 64 + y) r → Excess x y r
+one-word x y r h = subst (λ (u : ℕ). Excess u y r) (zero-add x) (subst (λ (v : ℕ). Excess (0 + x) v r) (zero-add y) h)
 
-pub products-none-yet : (a b : ℕ → ℤ) (k : ℕ) → Sums (record { up = record { hi = 0; lo = 0 }; down = record { hi = 0; lo = 0 } }) (productsTo a b k 0) 0
-unfolding Within wordsOf
-products-none-yet a b k = record { same = refl; up = lit≤ tt; down = lit≤ tt }
+module _ (a b : List ℕ) (m n k : ℕ) (A : Ends a m) (B : Ends b n) (h : k < 5) (r : ℕ) where
+  pub sum-raised : Excess (0 * 2 ^ 64 + (getD a k 0 + getD b k 0)) (0 * 2 ^ 64 + 2 ^ 53) r → Raises (madeOf Sum (coefficientAt a) (coefficientAt b) k) r
+  sum-raised e =
+      let x = getD a k 0 in
+      let y = getD b k 0 in
+      raised-by (x + y) (2 ^ 53) _ (ringℤ 3 (λ x y c. (x :+ y) :- c := ((x :- c) :+ (y :- c)) :+ c) tt (pos x) (pos y) (pos (2 ^ 53))
+      ∙ ap₂ (λ (u v : ℕ). ((pos u -ℤ pos (2 ^ 53)) +ℤ (pos v -ℤ pos (2 ^ 53))) +ℤ pos (2 ^ 53)) (read-is a m k A h) (read-is b n k B h)) r (one-word (x + y) (2 ^ 53) r e)
 
-module _ (a b : Part) (k i : ℕ) (up down : Double) (x y : Coefficient) (d : x ≡ entryOf a i) (e : y ≡ entryOf b (k - i)) (s : Sound a) (t : Sound b)
-    (held : Sums (record { up = up; down = down }) (productsTo (coefficientIn a) (coefficientIn b) k i) i) where
-  pub products-turn : (u v : Double) → wordsOf u ≡ wordsOf up + x .up * y .up + x .down * y .down → wordsOf v ≡ wordsOf down + x .up * y .down + x .down * y .up
-      → Sums (record { up = u; down = v }) (productsTo (coefficientIn a) (coefficientIn b) k (i + 1)) (i + 1)
-  products-turn u v p q =
-      let g : Small x = small-entry a i x d s in
-      let h : Small y = small-entry b (k - i) y e t in
+  pub difference-raised : Excess (0 * 2 ^ 64 + (getD a k 0 + 2 ^ 53)) (0 * 2 ^ 64 + getD b k 0) r → Raises (madeOf Difference (coefficientAt a) (coefficientAt b) k) r
+  difference-raised e =
+      let x = getD a k 0 in
+      let y = getD b k 0 in
+      raised-by (x + 2 ^ 53) y _ (ringℤ 3 (λ x y c. (x :+ c) :- y := ((x :- c) :+ :neg (y :- c)) :+ c) tt (pos x) (pos y) (pos (2 ^ 53))
+      ∙ ap₂ (λ (u v : ℕ). ((pos u -ℤ pos (2 ^ 53)) +ℤ negℤ (pos v -ℤ pos (2 ^ 53))) +ℤ pos (2 ^ 53)) (read-is a m k A h) (read-is b n k B h)) r (one-word (x + 2 ^ 53) y r e)
+
+-- ---- products
+-- those before the i-th are added up, 2^53 more; `sum` is that of all coefficients that were multiplied
+pub record Added (a b : List ℕ) (k i : ℕ) (up : Double) (sum : ℕ) : Type 0 where
+  pub same : pos (wordsOf up) -ℤ pos (2 ^ 53 * sum) ≡ productsTo (coefficientAt a) (coefficientAt b) k i +ℤ pos (2 ^ 53)
+  pub up-small : Within (i + 1) (wordsOf up)
+  pub sum-small : sum ≤ i * 2 ^ 55
+
+-- (x - c) (y - c)
+turn-same : (u s x y c : ℕ) → pos (u + x * y + c * c) -ℤ pos (c * (s + (x + y))) ≡ (pos u -ℤ pos (c * s)) +ℤ (pos x -ℤ pos c) *ℤ (pos y -ℤ pos c)
+turn-same u s x y c = ringℤ 5 (λ u s x y c. (u :+ x :* y :+ c :* c) :- c :* (s :+ (x :+ y)) := (u :- c :* s) :+ (x :- c) :* (y :- c)) tt (pos u) (pos s) (pos x) (pos y) (pos c)
+
+module _ (a b : List ℕ) (m n k : ℕ) (A : Ends a m) (B : Ends b n) where
+  pub added-none : (i : ℕ) → i ≡ k + 1 - n → Added a b k i (record { hi = 0; lo = 2 ^ 53 }) 0
+  unfolding wordsOf Within
+  added-none i e = record {
+    same = sym (+ℤ-idl (pos (2 ^ 53))) ∙ ap (λ (z : ℤ). z +ℤ pos (2 ^ 53)) (sym (products-before (coefficientAt a) (coefficientAt b) m n (A .zeros) (B .zeros) k i e));
+    up-small = omega arith;
+    sum-small = omega arith;
+  }
+
+  pub added-turn : (i s : ℕ) (up w : Double) → i ≤ k → k < 5 → Added a b k i up s → let x = getD a i 0 in let y = getD b (k - i) 0 in wordsOf w ≡ wordsOf up + x * y + 2 ^ 106
+      → Added a b k (i + 1) w (s + (x + y))
+  added-turn i s up w l f h g =
+      let x = getD a i 0 in
+      let y = getD b (k - i) 0 in
+      let d = read-is a m i A (omega arith) in
+      let e = read-is b n (k - i) B (omega arith) in
+      let p = productsTo (coefficientAt a) (coefficientAt b) k i in
       record {
-        same = ap₂ (λ (m n : ℕ). pos m -ℤ pos n) p q ∙ turn-same (wordsOf up) (wordsOf down) (x .up) (x .down) (y .up) (y .down)
-            ∙ ap₂ _+ℤ_ (held .same) (ap₂ (λ (m n : Coefficient). differenceOf m *ℤ differenceOf n) d e)
-            ∙ ap (λ (n : ℕ). productsTo (coefficientIn a) (coefficientIn b) k n) (sym (add-one i));
-        up = within-turn (wordsOf u) (wordsOf up) i (x .up) (y .up) (x .down) (y .down) p (held .up) (g .up) (h .up) (g .down) (h .down);
-        down = within-turn (wordsOf v) (wordsOf down) i (x .up) (y .down) (x .down) (y .up) q (held .down) (g .up) (h .down) (g .down) (h .up);
+        same = ap (λ (v : ℕ). pos v -ℤ pos (2 ^ 53 * (s + (x + y)))) g ∙ turn-same (wordsOf up) s x y (2 ^ 53)
+            ∙ ap₂ _+ℤ_ (h .same) (ap₂ (λ (u v : ℕ). (pos u -ℤ pos (2 ^ 53)) *ℤ (pos v -ℤ pos (2 ^ 53))) d e)
+            ∙ ringℤ 3 (λ p c q. (p :+ c) :+ q := (p :+ q) :+ c) tt p (pos (2 ^ 53)) (coefficientAt a i *ℤ coefficientAt b (k - i))
+            ∙ ap (λ (j : ℕ). productsTo (coefficientAt a) (coefficientAt b) k j +ℤ pos (2 ^ 53)) (sym (add-one i));
+        up-small = within-turn i (wordsOf up) x y (wordsOf w) (h .up-small) (read-small a m i A (omega arith)) (read-small b n (k - i) B (omega arith)) g;
+        sum-small = omega (arith, h .sum-small, read-small a m i A (omega arith), read-small b n (k - i) B (omega arith));
       }
 
-pub products-all : (a b : ℕ → ℤ) (k i : ℕ) (s : Wide) → k < i → i ≤ k + 1 → k < 9 → Sums s (productsTo a b k i) i → Sums s (productsTo a b k (suc k)) 9
-products-all a b k i s h l m held =
-    let e : i ≡ suc k = omega arith in
-    record { same = held .same ∙ ap (λ (n : ℕ). productsTo a b k n) e; up = within-more i 9 (wordsOf (s .up)) (omega arith) (held .up); down = within-more i 9 (wordsOf (s .down)) (omega arith) (held .down) }
+  pub product-raised : (i s down : ℕ) (up : Double) → i ≤ k + 1 → (i < k + 1 → m ≤ i) → Added a b k i up s → down ≡ 2 ^ 53 * s → (r : ℕ) → Excess (wordsOf up) down r
+      → Raises (madeOf Product (coefficientAt a) (coefficientAt b) k) r
+  product-raised i s down up h g w d = raised-by (wordsOf up) down _ (ap (λ (n : ℕ). pos (wordsOf up) -ℤ pos n) d ∙ w .same ∙ ap (λ (z : ℤ). z +ℤ pos (2 ^ 53))
+      (sym (products-behind (coefficientAt a) (coefficientAt b) m n (A .zeros) (B .zeros) k i h g)))

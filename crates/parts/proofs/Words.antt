@@ -1,75 +1,58 @@
--- Numbers of two words, on plain numbers: a difference that is cut off at 2^53 + 1, and what is learnt from it.
+-- Numbers of two words: one less another, and a product more.
 use mathlib.Core.Path.{_≡_}
-use Prim.Native.Nat.{ℕ, _+_, _-_, _*_, _^_, _≤_, _<_, min}
-use native.Mathlib.Nat.{le-trans, mul-le-mul, mul-le-mul-right}
+use mathlib.Core.Logic.{inl, inr, ⊎-elim}
+use Prim.Native.Nat.{ℕ, _+_, _-_, _*_, _^_, _≤_, _<_}
+use native.Mathlib.Nat.{le-trans, lt-of-le-of-lt, mul-le-mul, mul-le-mul-right}
 use native.Mathlib.Omega.{arith}
-use mir.Syntax.{w64}
-use mir.Val.{Fits}
+use lib.Dec.{lit≤}
+use Rattle.algebra.specs.NatOrder.{le-or-lt}
 use Rattle.wide.specs.declared.Double.{Double}
-use Rattle.parts.specs.Part.{wordsOf, Within}
+use Rattle.parts.specs.Part.{wordsOf, Within, Excess}
 
--- ---- cut off at 2^53 + 1
-cut-large : (x : ℕ) → 2 ^ 53 < x → 2 ^ 53 + 1 ≡ min x (2 ^ 53 + 1)
-cut-large x h = omega arith
-
-cut-none : (x y : ℕ) → x ≤ y → 0 ≡ min (x - y) (2 ^ 53 + 1)
-cut-none x y h = omega arith
-
-pub capped-upper : (hi lo : ℕ) → 0 < hi → 2 ^ 53 + 1 ≡ min (hi * 2 ^ 64 + lo) (2 ^ 53 + 1)
-capped-upper hi lo h = cut-large (hi * 2 ^ 64 + lo) (omega arith)
-
-pub capped-lower : (hi lo : ℕ) → 2 ^ 53 < lo → 2 ^ 53 + 1 ≡ min (hi * 2 ^ 64 + lo) (2 ^ 53 + 1)
-capped-lower hi lo h = cut-large (hi * 2 ^ 64 + lo) (omega arith)
-
-pub capped-plain : (hi lo : ℕ) → hi ≤ 0 → lo ≤ 2 ^ 53 → lo ≡ min (hi * 2 ^ 64 + lo) (2 ^ 53 + 1)
-capped-plain hi lo h l = let e : hi ≡ 0 = omega arith in rw e (omega arith)
-
--- ---- the difference of two words each
+-- ---- a difference
 module _ (h l g k : ℕ) (L : l < 2 ^ 64) (K : k < 2 ^ 64) where
-  pub excess-under : h < g → 0 ≡ min ((h * 2 ^ 64 + l) - (g * 2 ^ 64 + k)) (2 ^ 53 + 1)
-  excess-under e = cut-none (h * 2 ^ 64 + l) (g * 2 ^ 64 + k) (omega arith)
+  pub excess-plain : k ≤ l → h ≡ g → Excess (h * 2 ^ 64 + l) (g * 2 ^ 64 + k) (l - k)
+  excess-plain m e = inl (omega arith)
 
-  pub excess-level : h - g ≡ 0 → l < k → 0 ≡ min ((h * 2 ^ 64 + l) - (g * 2 ^ 64 + k)) (2 ^ 53 + 1)
-  excess-level e m = cut-none (h * 2 ^ 64 + l) (g * 2 ^ 64 + k) (omega arith)
+  pub excess-apart : k ≤ l → (h ≡ g → ⊥) → Excess (h * 2 ^ 64 + l) (g * 2 ^ 64 + k) (2 ^ 54 + 1)
+  excess-apart m e = inr (lit≤ tt, ⊎-elim (λ (d : h ≤ g). inl (omega arith)) (λ (d : g < h). inr (omega arith)) (le-or-lt h g))
 
-  pub excess-plain : g ≤ h → k ≤ l → (h - g) * 2 ^ 64 + (l - k) ≡ (h * 2 ^ 64 + l) - (g * 2 ^ 64 + k)
-  excess-plain e m = omega arith
+  pub excess-borrow : l < k → h ≡ g + 1 → Excess (h * 2 ^ 64 + l) (g * 2 ^ 64 + k) (18446744073709551615 - k + l + 1)
+  excess-borrow m e = inl (omega arith)
 
-  pub excess-borrow : g < h → l < k → (h - g - 1) * 2 ^ 64 + (18446744073709551615 - k + l + 1) ≡ (h * 2 ^ 64 + l) - (g * 2 ^ 64 + k)
-  excess-borrow e m = omega arith
+  pub excess-far : l < k → (h ≡ g + 1 → ⊥) → Excess (h * 2 ^ 64 + l) (g * 2 ^ 64 + k) (2 ^ 54 + 1)
+  excess-far m e = inr (lit≤ tt, ⊎-elim (λ (d : h ≤ g). inl (omega arith)) (λ (d : g < h). inr (omega arith)) (le-or-lt h g))
 
--- ---- products
-pub product-small : (u v : ℕ) → u ≤ 2 ^ 53 → v ≤ 2 ^ 53 → u * v ≤ 2 ^ 106
-product-small u v h g = mul-le-mul h g
+-- ---- a product
+product-small : (x y : ℕ) → x ≤ 2 ^ 54 → y ≤ 2 ^ 54 → x * y ≤ 2 ^ 108
+product-small x y h g = mul-le-mul h g
 
-upper-small : (h l : ℕ) → h * 2 ^ 64 + l ≤ 16 * 2 ^ 107 → h ≤ 2 ^ 48
+upper-small : (h l : ℕ) → h * 2 ^ 64 + l ≤ 2 ^ 112 → h ≤ 2 ^ 48
 upper-small h l e = omega arith
 
-pub upper-sum : (s p : Double) (u v : ℕ) → Within 16 (wordsOf s) → wordsOf p ≡ u * v → u ≤ 2 ^ 53 → v ≤ 2 ^ 53 → s .hi + p .hi < 2 ^ 50
-unfolding Within wordsOf
-upper-sum s p u v w e a b =
+pub upper-sum : (s p : Double) (x y : ℕ) → Within 8 (wordsOf s) → wordsOf p ≡ x * y → x ≤ 2 ^ 54 → y ≤ 2 ^ 54 → s .hi + p .hi < 2 ^ 50
+unfolding wordsOf Within
+upper-sum s p x y w e a b =
     let first : s .hi ≤ 2 ^ 48 = upper-small (s .hi) (s .lo) w in
-    let second : p .hi ≤ 2 ^ 48 = upper-small (p .hi) (p .lo) (omega (arith, product-small u v a b)) in
+    let second : p .hi ≤ 2 ^ 48 = upper-small (p .hi) (p .lo) (omega (arith, product-small x y a b)) in
     omega arith
 
-pub words-sum : (h l g k r v : ℕ) → r ≡ (h + g) * 2 ^ 64 + l + k → g * 2 ^ 64 + k ≡ v → r ≡ h * 2 ^ 64 + l + v
+pub words-sum : (h l g k r v : ℕ) → r ≡ (h + g + 4398046511104) * 2 ^ 64 + l + k → g * 2 ^ 64 + k ≡ v → r ≡ h * 2 ^ 64 + l + v + 2 ^ 106
 words-sum h l g k r v e f = omega arith
-
-pub within-product : (w s b c : ℕ) → w ≡ s + b * c → Within 9 s → b ≤ 2 ^ 53 → c ≤ 2 ^ 53 → Within 16 w
-unfolding Within
-within-product w s b c e h i j = omega (arith, product-small b c i j)
 
 pub within-more : (m n w : ℕ) → m ≤ n → Within m w → Within n w
 unfolding Within
-within-more m n w h l = le-trans l (mul-le-mul-right (2 ^ 107) h)
+within-more m n w h l = le-trans l (mul-le-mul-right (2 ^ 109) h)
 
-pub within-turn : (w s i a b c d : ℕ) → w ≡ s + a * b + c * d → Within i s → a ≤ 2 ^ 53 → b ≤ 2 ^ 53 → c ≤ 2 ^ 53 → d ≤ 2 ^ 53 → Within (i + 1) w
+pub within-turn : (i u x y w : ℕ) → Within (i + 1) u → x ≤ 2 ^ 54 → y ≤ 2 ^ 54 → w ≡ u + x * y + 2 ^ 106 → Within (i + 1 + 1) w
 unfolding Within
-within-turn w s i a b c d e h k l m n = omega (arith, product-small a b k l, product-small c d m n)
+within-turn i u x y w l h g e = omega (arith, product-small x y h g)
 
-pub within-word : (x y : ℕ) → x ≤ 2 ^ 53 → y ≤ 2 ^ 53 → Within 9 (wordsOf (record { hi = 0; lo = x + y }))
-unfolding Within wordsOf
-within-word x y h g = omega arith
+upper-few : (h l s : ℕ) → h * 2 ^ 64 + l ≡ 2 ^ 53 * s → s ≤ 5 * 2 ^ 55 → h ≤ 2 ^ 48
+upper-few h l s e g = upper-small h l (omega arith)
 
-pub both-fit : (x y : ℕ) → x ≤ 2 ^ 53 → y ≤ 2 ^ 53 → Fits w64 (x + y)
-both-fit x y h g = omega arith
+pub upper-product : (h l s i : ℕ) → h * 2 ^ 64 + l ≡ 2 ^ 53 * s → s ≤ i * 2 ^ 55 → i ≤ 5 → h < 2 ^ 63
+upper-product h l s i e g k = over (upper-few h l s e (omega arith))
+  where
+    over : h ≤ 2 ^ 48 → h < 2 ^ 63
+    over f = lt-of-le-of-lt f (lit≤ tt)

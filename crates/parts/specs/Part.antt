@@ -1,71 +1,75 @@
 -- What a part stands for, as code has it. Definitions only.
 use mathlib.Core.Path.{_≡_}
-use mathlib.Core.Bool.{Bool, true, false, cond}
-use Prim.Native.Nat.{ℕ, _+_, _-_, _*_, _^_, _≤_, min}
+use mathlib.Core.Bool.{cond}
+use mathlib.Core.List.{List}
+use mathlib.Core.Logic.{_⊎_}
+use Prim.Native.Nat.{ℕ, _+_, _-_, _*_, _^_, _≤_, _<_}
 use lib.Dec.{eqb}
 use lib.ListN.{length, getD}
-use lib.IntN.{ℤ, pos, _-ℤ_}
+use lib.IntN.{ℤ, pos, natAbs, _-ℤ_}
 use Rattle.facts.specs.Arrays.{fromFn}
 use Rattle.wide.specs.declared.Double.{Double}
 use Rattle.parts.specs.declared.Part.{Part}
 use Rattle.parts.specs.declared.Coefficient.{Coefficient}
-use Rattle.parts.specs.declared.Wide.{Wide}
-use Rattle.parts.specs.declared.Operator.{Operator}
 use Rattle.parts.specs.Polynomial.{trimmed}
-use Rattle.parts.specs.Products.{madeOf}
 use Rattle.parts.specs.Value.{Value, exact, refused}
 
--- the coefficient of t^k, zero beyond t^4
-abbrev pub entryOf : Part → ℕ → Coefficient
-entryOf a k = record { up = getD (a .up) k 0; down = getD (a .down) k 0 }
+-- ---- coefficients, each kept as 2^53 more than it is
 
-abbrev pub differenceOf : Coefficient → ℤ
-differenceOf c = pos (c .up) -ℤ pos (c .down)
+-- what is kept of that of t^k, which is zero beyond t^4
+abbrev pub raisedAt : List ℕ → ℕ → ℕ
+raisedAt l k = getD l k (2 ^ 53)
+
+abbrev pub coefficientAt : List ℕ → ℕ → ℤ
+coefficientAt l k = pos (raisedAt l k) -ℤ pos (2 ^ 53)
+
+-- none is above 2^53 in size
+abbrev pub Small : List ℕ → Type 0
+Small l = (k : ℕ) → raisedAt l k ≤ 2 ^ 54
+
+abbrev pub polynomialOf : List ℕ → List ℤ
+polynomialOf l = trimmed (fromFn 5 (coefficientAt l))
+
+-- ---- parts
 
 abbrev pub coefficientIn : Part → ℕ → ℤ
-coefficientIn a k = differenceOf (entryOf a k)
+coefficientIn a k = coefficientAt (a .raised) k
+
+abbrev pub Sound : Part → Type 0
+Sound a = Small (a .raised)
 
 -- the polynomial, or the refusal
 unfoldable pub valueIn : Part → Value
-valueIn a = cond (eqb (a .number) 0) (exact (trimmed (fromFn 5 (coefficientIn a)))) (refused (a .number))
+valueIn a = cond (eqb (a .number) 0) (exact (polynomialOf (a .raised))) (refused (a .number))
 
--- neither side is above 2^53
-pub record Small (c : Coefficient) : Type 0 where
-  pub up : c .up ≤ 2 ^ 53
-  pub down : c .down ≤ 2 ^ 53
+-- how many coefficients there are up to the last that is no zero
+abbrev pub lengthIn : Part → ℕ
+lengthIn a = length (polynomialOf (a .raised))
 
-abbrev pub Sound : Part → Type 0
-Sound a = (k : ℕ) → Small (entryOf a k)
+-- the coefficient of t^k as a difference, one side of which is 0
+abbrev pub entryOf : Part → ℕ → Coefficient
+entryOf a k = record { up = raisedAt (a .raised) k - 2 ^ 53; down = 2 ^ 53 - raisedAt (a .raised) k }
 
--- (the arrays have five places)
-pub record Five (a : Part) : Type 0 where
-  pub up : length (a .up) ≡ 5
-  pub down : length (a .down) ≡ 5
+-- ---- what is made of two
 
--- ---- numbers of two words
+-- there are no coefficients but zeros from t^m on
+pub record Ends (l : List ℕ) (m : ℕ) : Type 0 where
+  pub five : length l ≡ 5
+  pub few : m ≤ 5
+  pub small : Small l
+  pub zeros : (k : ℕ) → m ≤ k → coefficientAt l k ≡ pos 0
 
 unfoldable pub wordsOf : Double → ℕ
 wordsOf d = d .hi * 2 ^ 64 + d .lo
 
--- a - b, and 2^53 + 1 where it is more
-abbrev pub excessOf : Double → Double → ℕ
-excessOf a b = min (wordsOf a - wordsOf b) (2 ^ 53 + 1)
-
--- with one side 0
-abbrev pub settledOf : Wide → Coefficient
-settledOf s = record { up = excessOf (s .up) (s .down); down = excessOf (s .down) (s .up) }
-
--- w is at most n products of two numbers up to 2^53, twice
+-- w is at most n times 2^109
 unfoldable pub Within : ℕ → ℕ → Type 0
-Within n w = w ≤ n * 2 ^ 107
+Within n w = w ≤ n * 2 ^ 109
 
--- s is the number z, and neither side is above n * 2^107
-pub record Sums (s : Wide) (z : ℤ) (n : ℕ) : Type 0 where
-  pub same : pos (wordsOf (s .up)) -ℤ pos (wordsOf (s .down)) ≡ z
-  pub up : Within n (wordsOf (s .up))
-  pub down : Within n (wordsOf (s .down))
+-- r is a - b, but above 2^54 where that is below 0 or above 2^54
+abbrev pub Excess : ℕ → ℕ → ℕ → Type 0
+Excess a b r = (b + r ≡ a) ⊎ ((2 ^ 54 < r) × ((a < b) ⊎ (b + 2 ^ 54 < a)))
 
--- whether what is made has a term beyond t^4
-abbrev pub Beyond : Operator → Part → Part → Bool → Type 0
-Beyond op a b true = (k : ℕ) × (5 ≤ k) × (madeOf op (coefficientIn a) (coefficientIn b) k ≡ pos 0 → ⊥)
-Beyond op a b false = (k : ℕ) → 5 ≤ k → madeOf op (coefficientIn a) (coefficientIn b) k ≡ pos 0
+-- r is what is kept of z, but above 2^54 where z is above 2^53 in size
+abbrev pub Raises : ℤ → ℕ → Type 0
+Raises z r = ((r ≤ 2 ^ 54) × (pos r -ℤ pos (2 ^ 53) ≡ z)) ⊎ ((2 ^ 54 < r) × (2 ^ 53 < natAbs z))

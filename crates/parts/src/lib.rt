@@ -1,25 +1,26 @@
 // The parts of a formula: polynomials up to degree 4 over the whole numbers, exactly, and what is refused of them under 14 and 15.
 // It rests on `refusals` and `wide`; the readers of formulas rest on it.
 ghost use mathlib.Core.Path.{_≡_};
-ghost use mathlib.Core.Bool.{false, _&&_};
 ghost use mathlib.Core.List.{[], _∷_};
-ghost use Prim.Native.Nat.{suc, _+_, _-_, _*_, _^_, _≤_, _<_, min};
-ghost use lib.Dec.{leb};
-ghost use lib.IntN.{pos, negℤ, _+ℤ_};
-ghost use Rattle.parts.specs.declared.Operator.the-variants.{Sum, Product};
+ghost use Prim.Native.Nat.{_+_, _-_, _*_, _^_, _≤_, _<_, min, max};
+ghost use lib.IntN.{pos};
+ghost use Rattle.parts.specs.declared.Operator.the-variants.{Product};
 ghost use Rattle.parts.specs.Value.{exact, refused as refusedAs, limited, joined, powerOf};
-ghost use Rattle.parts.specs.Products.{productsTo, madeOf, operatorOf};
-ghost use Rattle.parts.specs.Part.{entryOf, coefficientIn, valueIn, Sound, wordsOf, settledOf, Within, Sums, Beyond};
+ghost use Rattle.parts.specs.Products.{madeOf, madeLength, operatorOf};
+ghost use Rattle.parts.specs.Part.{coefficientAt, polynomialOf, valueIn, Sound, lengthIn, entryOf, Ends, wordsOf, Within, Excess, Raises};
 use wide::Double;
 
 // 2^53, the largest size of a coefficient.
 const MOST: u64 = 0x20_0000_0000_0000;
 
-// Coefficients up[k] - down[k] of t^k; or nothing but the number under which it is refused, where that is not 0.
+// Twice that.
+const TWICE: u64 = 0x40_0000_0000_0000;
+
+// Coefficients of t^0 to t^4, each kept as 2^53 more than it is, so that none is below 0; or nothing but the number under which the part is refused,
+// where that is not 0.
 pub struct Part {
     pub number: u32,
-    pub up: [u64; 5],
-    pub down: [u64; 5],
+    pub raised: [u64; 5],
 }
 
 pub enum Operator {
@@ -34,12 +35,6 @@ pub struct Coefficient {
     pub down: u64,
 }
 
-// up - down, of two words each.
-struct Wide {
-    up: Double,
-    down: Double,
-}
-
 // ---- the smallest parts
 
 fn refused(number: u32) -> Part
@@ -48,8 +43,7 @@ fn refused(number: u32) -> Part
 {
     Part {
         number,
-        up: [0; 5],
-        down: [0; 5],
+        raised: [MOST; 5],
     }
 }
 
@@ -59,8 +53,7 @@ pub fn number(n: u64) -> Part
 {
     Part {
         number: 0,
-        up: [n, 0, 0, 0, 0],
-        down: [0; 5],
+        raised: [MOST + n, MOST, MOST, MOST, MOST],
     }
 }
 
@@ -69,177 +62,176 @@ pub fn letter() -> Part
 {
     Part {
         number: 0,
-        up: [0, 1, 0, 0, 0],
-        down: [0; 5],
+        raised: [MOST, MOST + 1, MOST, MOST, MOST],
     }
 }
 
-// ---- a coefficient
+// ---- coefficients
 
 // That of t^k, zero beyond t^4.
 pub fn entry(a: Part, k: usize) -> Coefficient
     ensures { λ r. ⌜ r ≡ entryOf a k ⌝ }
 {
-    if k < 5 {
+    if 5 <= k {
+        return Coefficient { up: 0, down: 0 };
+    }
+    let x = a.raised[k];
+    if x < MOST {
         return Coefficient {
-            up: a.up[k],
-            down: a.down[k],
+            up: 0,
+            down: MOST - x,
         };
     }
-    Coefficient { up: 0, down: 0 }
-}
-
-// hi * 2^64 + lo, or 2^53 + 1 where it is more.
-fn capped(hi: u64, lo: u64) -> u64
-    ensures { λ r. ⌜ r ≡ min (hi * 2 ^ 64 + lo) (2 ^ 53 + 1) ⌝ }
-{
-    if 0 < hi {
-        return MOST + 1;
-    }
-    if MOST < lo {
-        return MOST + 1;
-    }
-    lo
-}
-
-// A number of two words less another, 0 where that is more, and 2^53 + 1 where the difference is more.
-fn excess(a_hi: u64, a_lo: u64, b_hi: u64, b_lo: u64) -> u64
-    ensures { λ r. ⌜ r ≡ min ((«a_hi» * 2 ^ 64 + «a_lo») - («b_hi» * 2 ^ 64 + «b_lo»)) (2 ^ 53 + 1) ⌝ }
-{
-    if a_hi < b_hi {
-        return 0;
-    }
-    let hi = a_hi - b_hi;
-    if b_lo <= a_lo {
-        return capped(hi, a_lo - b_lo);
-    }
-    if hi == 0 {
-        return 0;
-    }
-    capped(hi - 1, 0xffff_ffff_ffff_ffff - b_lo + a_lo + 1)
-}
-
-fn settled(s: Wide) -> Coefficient
-    ensures { λ r. ⌜ r ≡ settledOf s ⌝ }
-{
-    let up = s.up;
-    let down = s.down;
     Coefficient {
-        up: excess(up.hi, up.lo, down.hi, down.lo),
-        down: excess(down.hi, down.lo, up.hi, up.lo),
+        up: x - MOST,
+        down: 0,
     }
 }
 
-fn fits(c: Coefficient) -> bool
-    ensures { λ r. ⌜ r ≡ (leb (c .up) (2 ^ 53) && leb (c .down) (2 ^ 53)) ⌝ }
+// How many there are up to the last that is no zero.
+pub fn len(a: Part) -> usize
+    requires { ⌜ Sound a ⌝ }
+    ensures { λ r. ⌜ r ≡ lengthIn a ⌝ ∗ ⌜ Ends (a .raised) r ⌝ }
 {
-    if MOST < c.up {
-        return false;
+    let mut n = 5;
+    while 0 < n {
+        if a.raised[n - 1] != MOST {
+            return n;
+        }
+        n -= 1;
     }
-    c.down <= MOST
+    0
 }
 
-// ---- sums of products
+// ---- what is made of two coefficients
 
-// s + u * v.
-fn with_product(s: Double, u: u64, v: u64) -> Double
-    requires { ⌜ Within 16 (wordsOf s) ⌝ ∗ ⌜ (u ≤ 2 ^ 53) × (v ≤ 2 ^ 53) ⌝ }
-    ensures { λ r. ⌜ wordsOf r ≡ wordsOf s + u * v ⌝ }
+// A number of two words less another.
+fn excess(a_hi: u64, a_lo: u64, b_hi: u64, b_lo: u64) -> u64
+    requires { ⌜ «b_hi» < 2 ^ 63 ⌝ }
+    ensures { λ r. ⌜ Excess («a_hi» * 2 ^ 64 + «a_lo») («b_hi» * 2 ^ 64 + «b_lo») r ⌝ }
 {
-    let p = wide::mul(u, v);
-    wide::add(s.hi + p.hi, s.lo, p.lo)
+    if b_lo <= a_lo {
+        if a_hi == b_hi {
+            return a_lo - b_lo;
+        }
+        return TWICE + 1;
+    }
+    if a_hi == b_hi + 1 {
+        return 0xffff_ffff_ffff_ffff - b_lo + a_lo + 1;
+    }
+    TWICE + 1
 }
 
-// a + b * c + d * e.
-fn with_products(a: Double, b: u64, c: u64, d: u64, e: u64) -> Double
-    requires { ⌜ Within 9 (wordsOf a) ⌝ ∗ ⌜ (b ≤ 2 ^ 53) × (c ≤ 2 ^ 53) × (d ≤ 2 ^ 53) × (e ≤ 2 ^ 53) ⌝ }
-    ensures { λ r. ⌜ wordsOf r ≡ wordsOf a + b * c + d * e ⌝ }
+// s + x y + 2^106. The product of two coefficients, (x - 2^53) (y - 2^53), is x y + 2^106 less 2^53 (x + y).
+fn with_product(s: Double, x: u64, y: u64) -> Double
+    requires { ⌜ Within 8 (wordsOf s) ⌝ ∗ ⌜ (x ≤ 2 ^ 54) × (y ≤ 2 ^ 54) ⌝ }
+    ensures { λ r. ⌜ wordsOf r ≡ wordsOf s + x * y + 2 ^ 106 ⌝ }
 {
-    with_product(with_product(a, b, c), d, e)
+    let p = wide::mul(x, y);
+    wide::add(s.hi + p.hi + 0x400_0000_0000, s.lo, p.lo)
 }
 
-// The coefficient of t^k of a product.
-fn product_at(a: Part, b: Part, k: usize) -> Wide
-    requires { ⌜ Sound a ⌝ ∗ ⌜ Sound b ⌝ ∗ ⌜ k < 9 ⌝ }
-    ensures { λ r. ⌜ Sums r (productsTo (coefficientIn a) (coefficientIn b) k (suc k)) 9 ⌝ }
+// The products for t^k are those of t^i and t^(k - i): where there are m coefficients and n, from the first i with k - i < n up to the last with i < m.
+fn first(k: usize, n: usize) -> usize
+    requires { ⌜ k < 5 ⌝ }
+    ensures { λ r. ⌜ r ≡ k + 1 - n ⌝ }
 {
-    let mut up = Double { hi: 0, lo: 0 };
-    let mut down = Double { hi: 0, lo: 0 };
-    let mut i = 0;
-    while i <= k {
-        let x = entry(a, i);
-        let y = entry(b, k - i);
-        up = with_products(up, x.up, y.up, x.down, y.down);
-        down = with_products(down, x.up, y.down, x.down, y.up);
+    if k < n {
+        return 0;
+    }
+    k + 1 - n
+}
+
+fn past(k: usize, m: usize) -> usize
+    requires { ⌜ k < 5 ⌝ }
+    ensures { λ r. ⌜ r ≡ min (k + 1) m ⌝ }
+{
+    if k < m {
+        return k + 1;
+    }
+    m
+}
+
+fn product_at(a: &[u64; 5], b: &[u64; 5], m: usize, n: usize, k: usize) -> u64
+    requires { ⌜ Ends (now a) m ⌝ ∗ ⌜ Ends (now b) n ⌝ ∗ ⌜ k < 5 ⌝ }
+    ensures { λ r. ⌜ Raises (madeOf Product (coefficientAt (now (a .entry))) (coefficientAt (now (b .entry))) k) r ⌝ }
+{
+    let mut up = Double { hi: 0, lo: MOST };
+    let mut sum: u64 = 0;
+    let mut i = first(k, n);
+    let end = past(k, m);
+    while i < end {
+        let x = a[i];
+        let y = b[k - i];
+        up = with_product(up, x, y);
+        sum += x + y;
         i += 1;
     }
-    Wide { up, down }
+    let down = wide::mul(MOST, sum);
+    excess(up.hi, up.lo, down.hi, down.lo)
 }
 
-// The coefficient of t^k of a sum, and of a difference.
-fn sum_at(a: Part, b: Part, k: usize) -> Wide
-    requires { ⌜ Sound a ⌝ ∗ ⌜ Sound b ⌝ }
-    ensures { λ r. ⌜ Sums r (coefficientIn a k +ℤ coefficientIn b k) 9 ⌝ }
+fn made_at(op: Operator, a: &[u64; 5], b: &[u64; 5], m: usize, n: usize, k: usize) -> u64
+    requires { ⌜ Ends (now a) m ⌝ ∗ ⌜ Ends (now b) n ⌝ ∗ ⌜ k < 5 ⌝ }
+    ensures { λ r. ⌜ Raises (madeOf op (coefficientAt (now (a .entry))) (coefficientAt (now (b .entry))) k) r ⌝ }
 {
-    let x = entry(a, k);
-    let y = entry(b, k);
-    Wide {
-        up: Double {
-            hi: 0,
-            lo: x.up + y.up,
-        },
-        down: Double {
-            hi: 0,
-            lo: x.down + y.down,
-        },
-    }
-}
-
-fn difference_at(a: Part, b: Part, k: usize) -> Wide
-    requires { ⌜ Sound a ⌝ ∗ ⌜ Sound b ⌝ }
-    ensures { λ r. ⌜ Sums r (coefficientIn a k +ℤ negℤ (coefficientIn b k)) 9 ⌝ }
-{
-    let x = entry(a, k);
-    let y = entry(b, k);
-    Wide {
-        up: Double {
-            hi: 0,
-            lo: x.up + y.down,
-        },
-        down: Double {
-            hi: 0,
-            lo: x.down + y.up,
-        },
+    match op {
+        Operator::Sum => excess(0, a[k] + b[k], 0, MOST),
+        Operator::Difference => excess(0, a[k] + MOST, 0, b[k]),
+        Operator::Product => product_at(a, b, m, n, k),
     }
 }
 
 // ---- joins
 
-fn made_at(op: Operator, a: Part, b: Part, k: usize) -> Wide
-    requires { ⌜ Sound a ⌝ ∗ ⌜ Sound b ⌝ ∗ ⌜ k < 9 ⌝ }
-    ensures { λ r. ⌜ Sums r (madeOf op (coefficientIn a) (coefficientIn b) k) 9 ⌝ }
+fn larger(m: usize, n: usize) -> usize
+    ensures { λ r. ⌜ r ≡ max m n ⌝ }
+{
+    if m < n {
+        return n;
+    }
+    m
+}
+
+fn one_less(n: usize) -> usize
+    ensures { λ r. ⌜ r ≡ n - 1 ⌝ }
+{
+    if n == 0 {
+        return 0;
+    }
+    n - 1
+}
+
+fn made_len(op: Operator, m: usize, n: usize) -> usize
+    requires { ⌜ (m ≤ 5) × (n ≤ 5) ⌝ }
+    ensures { λ r. ⌜ r ≡ madeLength op m n ⌝ }
 {
     match op {
-        Operator::Sum => sum_at(a, b, k),
-        Operator::Difference => difference_at(a, b, k),
-        Operator::Product => product_at(a, b, k),
+        Operator::Sum => larger(m, n),
+        Operator::Difference => larger(m, n),
+        Operator::Product => one_less(m + n),
     }
 }
 
-// Whether there is a term beyond t^4.
-fn beyond(op: Operator, a: Part, b: Part) -> bool
-    requires { ⌜ Sound a ⌝ ∗ ⌜ Sound b ⌝ }
-    ensures { λ r. ⌜ Beyond op a b r ⌝ }
+// What is made where its degree is at most 4.
+fn made(op: Operator, a: &[u64; 5], b: &[u64; 5], m: usize, n: usize, end: usize) -> Part
+    requires { ⌜ Ends (now a) m ⌝ ∗ ⌜ Ends (now b) n ⌝ ∗ ⌜ (end ≡ madeLength op m n) × (end ≤ 5) ⌝ }
+    ensures { λ r. ⌜ valueIn r ≡ limited (operatorOf op (polynomialOf (now (a .entry))) (polynomialOf (now (b .entry)))) ⌝ ∗ ⌜ Sound r ⌝ }
 {
-    let mut k = 5;
-    while k < 9 {
-        let c = settled(made_at(op, a, b, k));
-        if c.up != c.down {
-            return true;
+    let mut r = Part {
+        number: 0,
+        raised: [MOST; 5],
+    };
+    let mut k = 0;
+    while k < end {
+        let c = made_at(op, a, b, m, n, k);
+        if TWICE < c {
+            return refused(refusals::COEFFICIENT_TOO_LARGE);
         }
+        r.raised[k] = c;
         k += 1;
     }
-    false
+    r
 }
 
 // The left operand first, then the right, then their operator.
@@ -253,25 +245,15 @@ pub fn join(op: Operator, a: Part, b: Part) -> Part
     if b.number != 0 {
         return b;
     }
-    if beyond(op, a, b) {
+    let m = len(a);
+    let n = len(b);
+    let end = made_len(op, m, n);
+    if 5 < end {
         return refused(refusals::DEGREE_TOO_HIGH);
     }
-    let mut r = Part {
-        number: 0,
-        up: [0; 5],
-        down: [0; 5],
-    };
-    let mut k = 0;
-    while k < 5 {
-        let c = settled(made_at(op, a, b, k));
-        if !fits(c) {
-            return refused(refusals::COEFFICIENT_TOO_LARGE);
-        }
-        r.up[k] = c.up;
-        r.down[k] = c.down;
-        k += 1;
-    }
-    r
+    let x = a.raised;
+    let y = b.raised;
+    made(op, &x, &y, m, n, end)
 }
 
 // Repeated products from 1.

@@ -162,18 +162,6 @@ pub const ALL: &[Variant] = &[
         &[(T, "while coeffs.last() == Some(&0) {", "if coeffs.last() == Some(&0) {", 1)],
     ),
     (
-        "the degree before zeros are dropped",
-        "by the degrees of both factors",
-        &[(
-            T,
-            "                    Operator::Times => product(&left, &right),\n",
-            "                    Operator::Times if left.len().max(1) + right.len().max(1) > MOST_DEGREE + 2 => {\n                        \
-             vec![1; MOST_DEGREE + 2]\n                    }\n                    \
-             Operator::Times => product(&left, &right),\n",
-            1,
-        )],
-    ),
-    (
         "degree 5 passes",
         "`> MOST_DEGREE + 2`",
         &[(T, "coeffs.len() > MOST_DEGREE + 1", "coeffs.len() > MOST_DEGREE + 2", 1)],

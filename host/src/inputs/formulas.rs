@@ -26,7 +26,7 @@ pub fn text(r: &mut Random, which: usize, out: &mut Vec<u8>) {
     match which {
         0 => derived(r, ANY, out),
         1 => derived(r, LIMITS, out),
-        2 => mechanics(r, out),
+        2 => out.extend(mechanics(r)),
         3 => by_powers(r, out),
         4 => near_limits(r, out),
         5 => about_largest(r, out),
@@ -66,8 +66,8 @@ fn small(r: &mut Random) -> u64 {
 }
 
 /// Products of lines and quadratics, such as (t-2)^2*(t+1), with a number before or behind.
-fn mechanics(r: &mut Random, out: &mut Vec<u8>) {
-    let mut rest = 1 + r.below(4);
+pub fn mechanics(r: &mut Random) -> Vec<u8> {
+    let (mut out, mut rest) = (Vec::new(), 1 + r.below(4));
     if one_in(r, 3) {
         out.extend(format!("{}*", 1 + small(r)).bytes());
     }
@@ -90,6 +90,7 @@ fn mechanics(r: &mut Random, out: &mut Vec<u8>) {
         out.push(plus_or_minus(r));
         out.extend(small(r).to_string().bytes());
     }
+    out
 }
 
 /// Such as 3*t^4-2*t+7, its powers in any order, some twice.
@@ -163,7 +164,7 @@ fn near_limits(r: &mut Random, out: &mut Vec<u8>) {
     out.extend(vec![b')'; open]);
 }
 
-/// 2^53, or a few more or less.
+/// 2^53, or one or two more or less.
 fn largest(r: &mut Random) -> u64 {
     (1 << 53) - 2 + r.below(5)
 }
@@ -176,7 +177,7 @@ fn about_largest(r: &mut Random, out: &mut Vec<u8>) {
     let more = (b + 1) * a - n;
     let power = r.below(5);
     out.extend(
-        match r.below(12) {
+        match r.below(13) {
             0 => format!("{a}*{b}+{c}"),
             1 => format!("{c}+{b}*{a}"),
             2 => format!("0-{a}*{b}-{c}"),
@@ -190,10 +191,21 @@ fn about_largest(r: &mut Random, out: &mut Vec<u8>) {
             // less than it, and more before that
             9 => format!("{a}*{}-{more}", b + 1),
             10 => format!("{a}*{b}+{c}+{}-{}", r.below(3), r.below(3)),
+            11 => less_than_more(r, n),
             _ => of_powers(r),
         }
         .bytes(),
     );
+}
+
+/// The middle coefficient of a product is n, the difference of one that is mostly larger and a few.
+fn less_than_more(r: &mut Random, n: u64) -> String {
+    const PART: u64 = 100_000_000;
+    let (factor, more) = (2 + r.below(998), r.below(1000));
+    let first = (n + more).div_ceil(factor);
+    let (high, low) = (first / PART, first % PART);
+    let less = first * factor - n;
+    format!("(({high}*{PART}+{low})*t+{less})*({factor}-t)")
 }
 
 /// The same as powers, and products of them.
@@ -306,7 +318,7 @@ fn deep(r: &mut Random, out: &mut Vec<u8>) {
 }
 
 /// What stands in texts, these many, and what does not.
-const LETTERS: &[u8] = b"t0123456789()+-*^ T/.,xX\t\n\0";
+const LETTERS: &[u8] = b"t0123456789()+-*^ T[]/.,xX\t\n\0";
 const OF_TEXTS: u64 = 17;
 
 /// One of the others with a byte changed, put in, dropped, doubled, or the end cut off.
@@ -333,11 +345,12 @@ fn damage(r: &mut Random, out: &mut Vec<u8>) {
         return out.push(letter);
     }
     let at = r.below(out.len() as u64) as usize;
-    match r.below(6) {
-        0 | 1 => out[at] = letter,
-        2 => out.insert(at, letter),
-        3 => drop(out.remove(at)),
-        4 => out.insert(at, out[at]),
+    match r.below(8) {
+        0..=2 => out[at] = letter,
+        3 => out[at] ^= 0x80,
+        4 => out.insert(at, letter),
+        5 => drop(out.remove(at)),
+        6 => out.insert(at, out[at]),
         _ => out.truncate(at),
     }
     out.truncate(MOST_BYTES);

@@ -301,6 +301,43 @@ fn contacts(r: &mut Random) -> Vec<Row> {
     vec![row(("contact, on a lane", "geomcore's"), Aim::Open, &inputs, port, rust)]
 }
 
+/// Texts such as (t-2)^2*(t+1), to their coefficients and to their roots at the tolerance 2^-30, by
+/// the host's own reader and the Rust's list.
+#[cfg(geomcore)]
+fn formulas(r: &mut Random) -> Vec<Row> {
+    use crate::compare::answer::LIST;
+    use crate::inputs::formulas::mechanics;
+    use crate::inputs::quadratics::TOL;
+    use crate::port::formulas::{
+        COEFFICIENTS, formula_coefficients_bytes as by_port, formula_roots_bytes,
+    };
+    use crate::truth::formula::coefficients;
+    use reference::untouched::poly::real_roots;
+    let made: Vec<Vec<u8>> = (0..FACTORED).map(|_| mechanics(r)).collect();
+    let inputs: Vec<&[u8]> = made.iter().map(Vec::as_slice).collect();
+    let expanded = |text| sum::<COEFFICIENTS>(|out| by_port(text, out));
+    let plain = |text| coefficients(text).map_or(0.0, |all| all.iter().sum());
+    let port = |text| {
+        let mut out = [0; 8 * LIST];
+        formula_roots_bytes(text, TOL, &mut out);
+        port::double(&out, 1)
+    };
+    let rust = |text| match coefficients(text) {
+        Ok(all) => real_roots(&all, TOL).first().map_or(0.0, |root| root.value),
+        Err(_) => 0.0,
+    };
+    vec![
+        row(("formula, expanded", "a plain reader"), Aim::Open, &inputs, expanded, plain),
+        row(("formula, roots", "and geomcore's"), Aim::Open, &inputs, port, rust),
+    ]
+}
+
+#[cfg(not(geomcore))]
+fn formulas(_: &mut Random) -> Vec<Row> {
+    say(&format!("formulas beside geomcore's: {}", reference::SKIPPED));
+    Vec::new()
+}
+
 #[cfg(not(geomcore))]
 fn contacts(_: &mut Random) -> Vec<Row> {
     say(&format!("contacts beside geomcore's: {}", reference::SKIPPED));
@@ -402,7 +439,7 @@ pub fn run() {
     let mut r = Random::new(1);
     let parts = [
         roots, angles, logarithms, scales, factors, lists, inquiries, quadratics, cranks, contacts,
-        full_files,
+        formulas, full_files,
     ];
     let mut progress = Progress::new("measurements", parts.len());
     let parts = parts.map(|part| {

@@ -301,10 +301,8 @@ fn stored() -> impl Iterator<Item = (&'static str, Input)> {
         [(*name, Input::List(a.clone(), tol)), (*name, Input::Inquiry(a, tol))]
     });
     let contacts = telling::contacts().map(|(name, contact)| (name, Input::Contact(contact)));
-    let formulas = telling::FORMULAS.iter().map(|(name, text)| {
-        let text = text.as_bytes().to_vec();
-        (*name, Input::Formula(text, TOL))
-    });
+    let formulas = telling::FORMULAS.iter();
+    let formulas = formulas.map(|(name, text)| (*name, Input::Formula(text.to_vec(), TOL)));
     lists.chain(contacts).chain(formulas)
 }
 

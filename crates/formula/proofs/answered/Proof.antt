@@ -12,7 +12,7 @@ returns-2 c =
     let the-float-at2 = c .before .before .before .float-at2 in
     let the-float-at = c .before .before .before .before .float-at in
     let the-len = c .before .before .before .before .before .len in
-    answer-is (a .a) _ _ _ _ _ _ (c .before .before .before .before .before .before .if1 .left) (the-len .ensures) (the-float-at .ensures) (the-float-at2 .ensures) (c .before .before .float-at3 .ensures) (c .before .float-at4 .ensures) (c .float-at5 .ensures)
+    answer-is (a .a) _ _ _ _ _ _ (c .before .before .before .before .before .before .if1 .left) (the-len .ensures .0) (the-float-at .ensures) (the-float-at2 .ensures) (c .before .before .float-at3 .ensures) (c .before .float-at4 .ensures) (c .float-at5 .ensures)
 
 pub answered-spec : {M : Type 1} → statement M
 answered-spec =

@@ -1,7 +1,7 @@
--- `parts::power` meets its contract: the loop's invariant: i products are made.
+-- The loop's invariant: i products are made.
 use mathlib.Core.Path.{_≡_, ap, _∙_}
-use native.Mathlib.Omega.{arith}
 use Prim.Native.Nat.{_-_, _≤_}
+use native.Mathlib.Omega.{arith}
 use lib.Dec.{lit≤}
 use Rattle.parts.specs.Value.{powerOf}
 use Rattle.parts.specs.Part.{valueIn, Sound}
@@ -17,29 +17,32 @@ abbrev μ-loop : tie.MeasureT-loop
 μ-loop a d r₀ i₀ r i = d - i
 
 returns : tie.Need-returns Inv-loop μ-loop
-returns c = (power-refused (c .before .before .args .a) (c .before .before .args .d) (c .if1 .taken), c .before .before .pre)
-
-number-requires : tie.Need-number-requires Inv-loop μ-loop
-number-requires c κs = lit≤ tt
+returns c =
+    let start = c .before .before in
+    (power-refused (start .args .a) (start .args .d) (c .if1 .taken), start .pre)
 
 loop-holds : tie.Need-loop-holds Inv-loop μ-loop
-loop-holds c = (omega arith, c .number .ensures .0 ∙ power-none (c .before .before .before .args .a) (c .before .if1 .left), c .number .ensures .1)
+loop-holds c =
+    let exact = c .before in
+    (search needs, c .number .ensures .0 ∙ power-none (exact .before .before .args .a) (exact .if1 .left), c .number .ensures .1)
 
 join-requires : tie.Need-join-requires Inv-loop μ-loop
-join-requires c κs = (c .before .loop .inv .2, c .before .before .before .before .before .pre)
+join-requires c κs =
+    let at = c .before in
+    (at .loop .inv .2, at .before .before .before .before .pre)
 
 loop-again : tie.Need-loop-again Inv-loop μ-loop
 loop-again c =
-    let a = c .before .before .before .before .before .before .args in
-    let l = c .before .before .loop in
-    let the-join = c .join in
-    (omega arith, the-join .ensures .0 ∙ power-next (a .a) (l .i) _ (c .before .before .before .before .if1 .left) (l .inv .1), the-join .ensures .1)
+    let at = c .before .before in
+    let exact = at .before .before in
+    (search needs, c .join .ensures .0 ∙ power-next (exact .before .before .args .a) (at .loop .i) _ (exact .if1 .left) (at .loop .inv .1), c .join .ensures .1)
 
 returns-2 : tie.Need-returns-2 Inv-loop μ-loop
 returns-2 c =
-    let a = c .before .before .before .before .before .args in
-    let l = c .before .loop in
-    (l .inv .1 ∙ ap (powerOf (valueIn (a .a))) (let e : l .i ≡ a .d = omega arith in e), l .inv .2)
+    let at = c .before in
+    let a = at .before .before .before .before .args in
+    let done : at .loop .i ≡ a .d = omega arith in
+    (at .loop .inv .1 ∙ ap (powerOf (valueIn (a .a))) done, at .loop .inv .2)
 
 pub power-spec : {M : Type 1} → statement M
 power-spec =
@@ -48,7 +51,7 @@ power-spec =
     Inv-loop
     μ-loop
     returns
-    number-requires
+    (λ c κs. lit≤ tt)
     loop-holds
     join-requires
     (λ c. search needs)

@@ -1,55 +1,65 @@
--- `parts::product_at` meets its contract: the loop's invariant: the first i products are added up, and each takes its room.
-use native.Mathlib.Omega.{arith}
+-- The loop's invariant: the products before the i-th are added up. Those that the loop leaves out are zeros.
 use Prim.Native.Nat.{_+_, _-_, _≤_}
-use Rattle.parts.proofs.Words.{within-more}
-use Rattle.parts.proofs.Sums.{small-entry, products-none-yet, products-turn, products-all}
-use Rattle.parts.specs.Products.{productsTo}
-use Rattle.parts.specs.Part.{coefficientIn, Sums}
+use native.Mathlib.Omega.{arith}
+use Rattle.parts.specs.Part.{wordsOf}
+use Rattle.parts.proofs.Words.{within-more, upper-product}
+use Rattle.parts.proofs.Sums.{read-small, Added, added-none, added-turn, product-raised}
 use borrow.Author.Needs.{needs}
 use Rattle.parts.proofs.product_at.Statement.{statement}
 use Rattle.parts.proofs.product_at.Tie as tie
 
 abbrev Inv-loop : tie.InvT-loop
-Inv-loop a b k up₀ down₀ i₀ up down i = (i ≤ k + 1) × Sums (record { up = up; down = down }) (productsTo (coefficientIn a) (coefficientIn b) k i) i
+Inv-loop a b m n k up₀ sum₀ i₀ end up sum i = (i ≤ k + 1) × Added a b k i up sum
 
 abbrev μ-loop : tie.MeasureT-loop
-μ-loop a b k up₀ down₀ i₀ up down i = k + 1 - i
+μ-loop a b m n k up₀ sum₀ i₀ end up sum i = end - i
 
 loop-holds : tie.Need-loop-holds Inv-loop μ-loop
-loop-holds c = (omega arith, products-none-yet (coefficientIn (c .args .a)) (coefficientIn (c .args .b)) (c .args .k))
+loop-holds c =
+    let start = c .before .before in
+    let from = c .before .first .ensures in
+    (omega (arith, from), added-none _ _ _ _ _ (start .pre .0) (start .pre .1 .0) _ from)
 
-with-products-requires : tie.Need-with-products-requires Inv-loop μ-loop
-with-products-requires c κs =
-    let a = c .before .before .before .before .args in
-    let p = c .before .before .before .before .pre in
-    let l = c .before .before .before .loop in
-    let x = small-entry (a .a) (l .i) _ (c .before .entry .ensures) (p .0) in
-    let y = small-entry (a .b) (a .k - l .i) _ (c .entry2 .ensures) (p .1 .0) in
-    (within-more (l .i) 9 _ (omega arith) (l .inv .1 .up), (x .up, y .up, x .down, y .down))
+with-product-requires : tie.Need-with-product-requires Inv-loop μ-loop
+with-product-requires c κs =
+    let at = c .before .before .before in
+    let start = at .before .before .before in
+    let x = read-small _ _ (at .loop .i) (start .pre .0) (search needs) in
+    let y = read-small _ _ (start .args .k - at .loop .i) (start .pre .1 .0) (search needs) in
+    (within-more (at .loop .i + 1) 8 _ (omega arith) (at .loop .inv .1 .up-small), (x, y))
 
-with-products-requires-2 : tie.Need-with-products-requires-2 Inv-loop μ-loop
-with-products-requires-2 c κs =
-    let a = c .before .before .before .before .before .args in
-    let p = c .before .before .before .before .before .pre in
-    let l = c .before .before .before .before .loop in
-    let x = small-entry (a .a) (l .i) _ (c .before .before .entry .ensures) (p .0) in
-    let y = small-entry (a .b) (a .k - l .i) _ (c .before .entry2 .ensures) (p .1 .0) in
-    (within-more (l .i) 9 _ (omega arith) (l .inv .1 .down), (x .up, y .down, x .down, y .up))
+add-sum : tie.Need-add-sum Inv-loop μ-loop
+add-sum c =
+    let at = c .before .before .before .before in
+    let start = at .before .before .before in
+    let x = read-small _ _ (at .loop .i) (start .pre .0) (search needs) in
+    let y = read-small _ _ (start .args .k - at .loop .i) (start .pre .1 .0) (search needs) in
+    omega arith
+
+add-sum-2 : tie.Need-add-sum-2 Inv-loop μ-loop
+add-sum-2 c =
+    let at = c .before .before .before .before in
+    let start = at .before .before .before in
+    let x = read-small _ _ (at .loop .i) (start .pre .0) (search needs) in
+    let y = read-small _ _ (start .args .k - at .loop .i) (start .pre .1 .0) (search needs) in
+    omega arith
 
 loop-again : tie.Need-loop-again Inv-loop μ-loop
 loop-again c =
-    let a = c .before .before .before .before .before .before .args in
-    let p = c .before .before .before .before .before .before .pre in
-    let l = c .before .before .before .before .before .loop in
-    let the-entry2 = c .before .before .entry2 in
-    let the-entry = c .before .before .before .entry in
-    (omega arith, products-turn (a .a) (a .b) (a .k) (l .i) (l .up) (l .down) (the-entry .result) (the-entry2 .result) (the-entry .ensures) (the-entry2 .ensures) (p .0) (p .1 .0) (l .inv .1) _ _ (c .before .with-products .ensures) (c .with-products2 .ensures))
+    let at = c .before .before .before .before in
+    let start = at .before .before .before in
+    (search needs, added-turn _ _ _ _ _ (start .pre .0) (start .pre .1 .0) (at .loop .i) _ (at .loop .up) _ (search needs) (start .pre .1 .1) (at .loop .inv .1) (c .with-product .ensures))
+
+excess-requires : tie.Need-excess-requires Inv-loop μ-loop
+excess-requires c κs = upper-product _ _ _ _ (c .mul .ensures .0) (c .before .before .loop .inv .1 .sum-small) (omega arith)
 
 returns : tie.Need-returns Inv-loop μ-loop
+unfolding wordsOf
 returns c =
-    let a = c .before .before .args in
-    let l = c .before .loop in
-    products-all (coefficientIn (a .a)) (coefficientIn (a .b)) (a .k) (l .i) _ (omega arith) (l .inv .0) (c .before .before .pre .1 .1) (l .inv .1)
+    let at = c .before .before .before in
+    let start = at .before .before .before in
+    product-raised _ _ _ _ _ (start .pre .0) (start .pre .1 .0) (at .loop .i) (at .loop .sum) _ (at .loop .up) (at .loop .inv .0) (λ h. omega arith) (at .loop .inv .1)
+    (c .before .mul .ensures .0) _ (c .excess .ensures)
 
 pub product-at-spec : {M : Type 1} → statement M
 product-at-spec =
@@ -57,12 +67,20 @@ product-at-spec =
     (tie.spec
     Inv-loop
     μ-loop
+    (λ c κs. search needs)
+    (λ c κs. search needs)
     loop-holds
-    (λ c κs. search needs)
-    (λ c κs. search needs)
-    with-products-requires
-    with-products-requires-2
+    (λ c. search needs)
+    (λ c. search needs)
+    (λ c. search needs)
+    (λ c. search needs)
+    (λ c. search needs)
+    with-product-requires
+    add-sum
+    add-sum-2
     (λ c. search needs)
     (λ c. search needs)
     loop-again
+    (λ c κs. search needs)
+    excess-requires
     returns)

@@ -1,4 +1,4 @@
--- `parts::refused` meets its contract.
+-- A part of zeros, and its number.
 use Rattle.parts.proofs.Entries.{refused-is}
 use Rattle.parts.proofs.refused.Statement.{statement}
 use Rattle.parts.proofs.refused.Tie as tie
