@@ -14,7 +14,9 @@ returns : tie.Need-returns
 returns c =
     let test = c .before in
     let e = test .before .before .expand in
-    holds _ _ (ap (λ (x : Roots). record { number = e .result .number; roots = x }) (c .none .ensures) ∙ not-solved _ _ (e .result) (e .ensures) (test .if1 .taken))
+    holds _ _
+    (ap (λ (x : Roots). record { number = e .result .number; roots = x }) (c .none .ensures)
+    ∙ not-solved _ _ (e .result) (e .ensures) (test .if1 .taken))
 
 array-share-prefix-coeffs : tie.Need-array-share-prefix-coeffs
 array-share-prefix-coeffs c =
