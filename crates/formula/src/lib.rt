@@ -243,11 +243,13 @@ fn factor(s: &[u8], at: usize) -> Cursor
     requires { ⌜ at ≤ length (now s) ⌝ }
     ensures { λ r. ⌜ Reads readFactor factorOf 1 (now (s .entry)) at r ⌝ }
 {
-    if is_at(s, at, b'(') {
+    let base = if is_at(s, at, b'(') {
         let inner = sum(s, at + 1);
-        return powered(s, closed(s, inner));
-    }
-    powered(s, unit(s, at))
+        closed(s, inner)
+    } else {
+        unit(s, at)
+    };
+    powered(s, base)
 }
 
 // ---- the answer
