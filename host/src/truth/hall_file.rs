@@ -8,7 +8,7 @@ use crate::truth::refusals;
 pub const MOST_BYTES: usize = 65_536;
 
 /// No listing has more bytes.
-pub const MOST_LISTED: usize = 7 * MOST_BYTES + 20;
+pub const MOST_LISTED: usize = 8 * MOST_BYTES + 20;
 
 /// A record with a higher count ends the reading.
 pub const MOST_COEFFICIENTS: usize = 32;
