@@ -346,9 +346,10 @@ fn damage(r: &mut Random, out: &mut Vec<u8>) {
     }
     let at = r.below(out.len() as u64) as usize;
     match r.below(8) {
-        0..=2 => out[at] = letter,
-        3 => out[at] ^= 0x80,
-        4 => out.insert(at, letter),
+        0 | 1 => out[at] = letter,
+        2 => out[at] ^= 0x80,
+        3 => out.insert(at, letter),
+        4 => out.push(letter),
         5 => drop(out.remove(at)),
         6 => out.insert(at, out[at]),
         _ => out.truncate(at),
