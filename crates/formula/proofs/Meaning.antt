@@ -8,22 +8,22 @@ use Rattle.parts.specs.Polynomial.{valueAt}
 use Rattle.parts.proofs.Values.{added-value, subtracted-value, multiplied-value}
 use Rattle.formula.specs.Grammar.{Sign, plus, minus, Power, plain, power, Sum, term, join, Term, factor, times, Factor, number, letter, bracket}
 use Rattle.formula.specs.Expansion.{digitsFrom, signOf}
-use Rattle.formula.specs.Meaning.{signAt, powerAt, sumAt, termAt, factorAt}
-use Rattle.formula.specs.Parts.{variable, raised, powerPolynomial, sumPolynomial, termPolynomial, factorPolynomial}
+use Rattle.formula.specs.Meaning.{signValue, powerAt, sumAt, termAt, factorAt}
+use Rattle.formula.specs.Parts.{variable, repeated, powerPolynomial, sumPolynomial, termPolynomial, factorPolynomial}
 
 module _ (x : ℤ) where
-  sign-value : (g : Sign) (p q : List ℤ) → valueAt (signOf g p q) x ≡ signAt g (valueAt p x) (valueAt q x)
+  sign-value : (g : Sign) (p q : List ℤ) → valueAt (signOf g p q) x ≡ signValue g (valueAt p x) (valueAt q x)
   sign-value plus p q = added-value p q x
   sign-value minus p q = subtracted-value p q x
 
-  raised-value : (p : List ℤ) (k : ℕ) → valueAt (raised p k) x ≡ pow (valueAt p x) k
+  repeated-value : (p : List ℤ) (k : ℕ) → valueAt (repeated p k) x ≡ pow (valueAt p x) k
   unfolding pow one
-  raised-value p zero = ap (λ (y : ℤ). pos 1 +ℤ y) (*ℤ-zero x)
-  raised-value p (suc k) = multiplied-value (raised p k) p x ∙ ap (λ (y : ℤ). y *ℤ valueAt p x) (raised-value p k)
+  repeated-value p zero = ap (λ (y : ℤ). pos 1 +ℤ y) (*ℤ-zero x)
+  repeated-value p (suc k) = multiplied-value (repeated p k) p x ∙ ap (λ (y : ℤ). y *ℤ valueAt p x) (repeated-value p k)
 
   power-value : (a : Power) (p : List ℤ) (z : ℤ) → valueAt p x ≡ z → valueAt (powerPolynomial a p) x ≡ powerAt a z
   power-value plain p z e = e
-  power-value (power d t) p z e = raised-value p (d - 48) ∙ ap (λ (y : ℤ). pow y (d - 48)) e
+  power-value (power d t) p z e = repeated-value p (d - 48) ∙ ap (λ (y : ℤ). pow y (d - 48)) e
 
   constant-value : (z : ℤ) → valueAt (z ∷ []) x ≡ z
   constant-value z = ringℤ 2 (λ z x. z :+ x :* # 0 := z) tt z x
@@ -34,7 +34,7 @@ module _ (x : ℤ) where
   mutual
     pub sum-value : (a : Sum) → valueAt (sumPolynomial a) x ≡ sumAt x a
     sum-value (term a) = term-value a
-    sum-value (join a g b) = sign-value g (sumPolynomial a) (termPolynomial b) ∙ ap₂ (signAt g) (sum-value a) (term-value b)
+    sum-value (join a g b) = sign-value g (sumPolynomial a) (termPolynomial b) ∙ ap₂ (signValue g) (sum-value a) (term-value b)
 
     term-value : (a : Term) → valueAt (termPolynomial a) x ≡ termAt x a
     term-value (factor a) = factor-value a

@@ -17,7 +17,7 @@ use Rattle.parts.specs.Value.{Value, exact, refused, limited, joined, powerOf}
 use Rattle.parts.proofs.Trimmed.{limited-ways, made-trimmed}
 use Rattle.formula.specs.Grammar.{Sign, plus, minus, Power, plain, power, Sum, term, join, Term, factor, times, Factor, number, letter, bracket}
 use Rattle.formula.specs.Expansion.{signOf, poweredOf, sumOf, termOf, factorOf}
-use Rattle.formula.specs.Parts.{constant, variable, raised, powerPolynomial, sumPolynomial, termPolynomial, factorPolynomial}
+use Rattle.formula.specs.Parts.{constant, variable, repeated, powerPolynomial, sumPolynomial, termPolynomial, factorPolynomial}
 use Rattle.formula.specs.Parts.{products, powerParts, sumParts, termParts, factorParts}
 use Rattle.formula.specs.Parts.{High, Large, Meets, OnlyLarge, AllMeet, First, FirstHigh, FirstLarge}
 
@@ -122,17 +122,17 @@ one-meets = (high, large)
     large (zero, l) = omega arith
     large (suc k, l) = omega arith
 
-raised-judged : (xs : List (List ℤ)) (p : List ℤ) (v : Value) (k : ℕ) → Judged xs p v → Judged (xs ++ products p k) (raised p k) (powerOf v k)
+repeated-judged : (xs : List (List ℤ)) (p : List ℤ) (v : Value) (k : ℕ) → Judged xs p v → Judged (xs ++ products p k) (repeated p k) (powerOf v k)
 unfolding powerOf
-raised-judged xs p (refused n) k h = refused-more xs (products p k) p (raised p k) n h
-raised-judged xs p (exact q) zero h = (all-join xs [] (h .0) all-none, one-meets, refl)
-raised-judged xs p (exact q) (suc k) h =
-    subst (λ (ys : List (List ℤ)). Judged ys (raised p (suc k)) (powerOf (exact q) (suc k))) (append-assoc xs (products p k) (raised p (suc k) ∷ []))
-    (join-last Product (xs ++ products p k) (raised p k) p (powerOf (exact q) k) q (raised-judged xs p (exact q) k h) (h .2))
+repeated-judged xs p (refused n) k h = refused-more xs (products p k) p (repeated p k) n h
+repeated-judged xs p (exact q) zero h = (all-join xs [] (h .0) all-none, one-meets, refl)
+repeated-judged xs p (exact q) (suc k) h =
+    subst (λ (ys : List (List ℤ)). Judged ys (repeated p (suc k)) (powerOf (exact q) (suc k))) (append-assoc xs (products p k) (repeated p (suc k) ∷ []))
+    (join-last Product (xs ++ products p k) (repeated p k) p (powerOf (exact q) k) q (repeated-judged xs p (exact q) k h) (h .2))
 
 powered-judged : (a : Power) (xs : List (List ℤ)) (p : List ℤ) (v : Value) → Judged xs p v → Judged (xs ++ powerParts a p) (powerPolynomial a p) (poweredOf a v)
 powered-judged plain xs p v h = subst⁻¹ (λ (ys : List (List ℤ)). Judged ys p v) (append-nil xs) h
-powered-judged (power d t) xs p v h = raised-judged xs p v (d - 48) h
+powered-judged (power d t) xs p v h = repeated-judged xs p v (d - 48) h
 
 -- a bracket is a part, like what is in it
 closed-judged : (xs : List (List ℤ)) (p : List ℤ) (v : Value) → Judged xs p v → Judged (xs ++ p ∷ []) p v

@@ -4,9 +4,9 @@ use lib.IntN.{ℤ, pos, _+ℤ_, _-ℤ_, _*ℤ_, pow}
 use Rattle.formula.specs.Grammar.{Sign, plus, minus, Power, plain, power, Sum, term, join, Term, factor, times, Factor, number, letter, bracket}
 use Rattle.formula.specs.Expansion.{digitsFrom}
 
-abbrev pub signAt : Sign → ℤ → ℤ → ℤ
-signAt plus y z = y +ℤ z
-signAt minus y z = y -ℤ z
+abbrev pub signValue : Sign → ℤ → ℤ → ℤ
+signValue plus y z = y +ℤ z
+signValue minus y z = y -ℤ z
 
 abbrev pub powerAt : Power → ℤ → ℤ
 powerAt plain z = z
@@ -15,7 +15,7 @@ powerAt (power d t) z = pow z (d - 48)
 abbrev mutual
   pub sumAt : ℤ → Sum → ℤ
   sumAt x (term a) = termAt x a
-  sumAt x (join a g b) = signAt g (sumAt x a) (termAt x b)
+  sumAt x (join a g b) = signValue g (sumAt x a) (termAt x b)
 
   pub termAt : ℤ → Term → ℤ
   termAt x (factor a) = factorAt x a

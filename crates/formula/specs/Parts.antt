@@ -18,13 +18,13 @@ abbrev pub variable : List ℤ
 variable = pos 0 ∷ pos 1 ∷ []
 
 -- 'a power as repeated products from 1', 'The power 0 gives 1'
-abbrev pub raised : List ℤ → ℕ → List ℤ
-raised p zero = pos 1 ∷ []
-raised p (suc k) = multiplied (raised p k) p
+abbrev pub repeated : List ℤ → ℕ → List ℤ
+repeated p zero = pos 1 ∷ []
+repeated p (suc k) = multiplied (repeated p k) p
 
 abbrev pub powerPolynomial : Power → List ℤ → List ℤ
 powerPolynomial plain p = p
-powerPolynomial (power d t) p = raised p (d - 48)
+powerPolynomial (power d t) p = repeated p (d - 48)
 
 abbrev mutual
   pub sumPolynomial : Sum → List ℤ
@@ -45,7 +45,7 @@ abbrev mutual
 -- the products of a power: p^1, p^2, .. p^k
 abbrev pub products : List ℤ → ℕ → List (List ℤ)
 products p zero = []
-products p (suc k) = products p k ++ raised p (suc k) ∷ []
+products p (suc k) = products p k ++ repeated p (suc k) ∷ []
 
 abbrev pub powerParts : Power → List ℤ → List (List ℤ)
 powerParts plain p = []
