@@ -11,6 +11,7 @@ use host::port::formulas::{
 use host::runs::formulas::{add, made, outcome, reference};
 use host::stored::telling;
 use host::truth::formula::MOST_BYTES;
+use std::thread;
 
 /// 2^-30
 const TOL: f64 = 1.0 / (1u64 << 30) as f64;
@@ -73,58 +74,61 @@ fn entries() {
     expands(b"t^4-1-t^4+t", &[-1.0, 1.0]);
 }
 
+/// Texts that the grammar does not derive.
+const NO_SUMS: &[&[u8]] = &[
+    b"",
+    b"t^2^2",
+    b"t^12",
+    b"t^",
+    b"t^t",
+    b"t^(2)",
+    b"^2",
+    b"-t",
+    b"(-t)",
+    b"+t",
+    b"t*-1",
+    b"t--1",
+    b"t+",
+    b"*t",
+    b"t*",
+    b"t**2",
+    b"1234567890",
+    b"0000000001",
+    b"t+1234567890",
+    b" t",
+    b"t ",
+    b"t -1",
+    b"T",
+    b"x",
+    b"2t",
+    b"t2",
+    b"tt",
+    b"t(",
+    b"t(t)",
+    b"(t)(t)",
+    b"()",
+    b"(",
+    b")",
+    b"(t",
+    b"t)",
+    b"((t)",
+    b"(t))",
+    b"1.5",
+    b"t/2",
+    b"t\n",
+    b"t\0",
+    b"\0",
+    b"t=0",
+    b"t\xC2\xB2",
+    b"\xEF\xBB\xBFt",
+    b"\x80",
+    b"\xFF",
+    b"\xF4",
+];
+
 #[test]
 fn texts_that_are_no_sums() {
-    for text in [
-        &b""[..],
-        b"t^2^2",
-        b"t^12",
-        b"t^",
-        b"t^t",
-        b"t^(2)",
-        b"^2",
-        b"-t",
-        b"(-t)",
-        b"+t",
-        b"t*-1",
-        b"t--1",
-        b"t+",
-        b"*t",
-        b"t*",
-        b"t**2",
-        b"1234567890",
-        b"0000000001",
-        b"t+1234567890",
-        b" t",
-        b"t ",
-        b"t -1",
-        b"T",
-        b"x",
-        b"2t",
-        b"t2",
-        b"tt",
-        b"t(",
-        b"t(t)",
-        b"(t)(t)",
-        b"()",
-        b"(",
-        b")",
-        b"(t",
-        b"t)",
-        b"((t)",
-        b"(t))",
-        b"1.5",
-        b"t/2",
-        b"t\n",
-        b"t\0",
-        b"\0",
-        b"t=0",
-        b"t\xC2\xB2",
-        b"\xEF\xBB\xBFt",
-        b"\x80",
-        b"\xFF",
-        b"\xF4",
-    ] {
+    for text in NO_SUMS {
         refused(text, 13);
     }
     // each byte alone
@@ -142,56 +146,58 @@ fn texts_that_are_no_sums() {
     refused(b"(10000*t)^9-", 13);
 }
 
-#[test]
-fn refusals_of_parts() {
-    for text in [
-        &b"t^5"[..],
-        b"t^9",
-        b"(t^5)^0",
-        b"0*t^5",
-        b"t^5-t^5",
-        b"t^5*0",
-        b"t^4*t",
-        b"t^4*t*0",
-        b"t*t*t*t*t",
-        b"(t^2)^3",
-        b"(t+1)^5",
-        b"((t^5))",
-        b"1+(2-t^3*t^2)",
-        b"(1000*t)^9",
-        b"(9741*t)^9",
-        // one product meets both
-        b"(999999999*t^3)*(999999999*t^2)",
-        b"(999999999*t^4+1)*(999999999*t^4+1)",
-        // the degree is met first
-        b"t^5+99999999^2",
-        b"t^5*99999999^2",
-        b"t^4*t*99999999*99999999",
-    ] {
-        refused(text, 14);
-    }
-    for text in [
-        &b"(10000*t)^9"[..],
-        b"(9742*t)^9",
-        b"99999999^2",
-        b"99999999^2*0",
-        b"(99999999^2)^0",
-        b"0*99999999^2",
-        b"99999999^2-99999999^2",
-        b"(t+99999)^4",
-        // the size is met first
-        b"99999999^2+t^5",
-        b"99999999^2*t^5",
-        b"(99999999*99999999)*(t^4*t)",
-        b"999999999*t^3*999999999*t^2",
-    ] {
-        refused(text, 15);
-    }
-}
+/// A part has degree 5 or more.
+const DEGREES: &[&[u8]] = &[
+    b"t^5",
+    b"t^9",
+    b"(t^5)^0",
+    b"0*t^5",
+    b"t^5-t^5",
+    b"t^5*0",
+    b"t^4*t",
+    b"t^4*t*0",
+    b"t*t*t*t*t",
+    b"(t^2)^3",
+    b"(t+1)^5",
+    b"((t^5))",
+    b"1+(2-t^3*t^2)",
+    b"(1000*t)^9",
+    b"(9741*t)^9",
+    // one product meets both
+    b"(999999999*t^3)*(999999999*t^2)",
+    b"(999999999*t^4+1)*(999999999*t^4+1)",
+    // the degree is met first
+    b"t^5+99999999^2",
+    b"t^5*99999999^2",
+    b"t^4*t*99999999*99999999",
+];
+
+/// A coefficient of a part is above 2^53 in size.
+const SIZES: &[&[u8]] = &[
+    b"(10000*t)^9",
+    b"(9742*t)^9",
+    b"99999999^2",
+    b"99999999^2*0",
+    b"(99999999^2)^0",
+    b"0*99999999^2",
+    b"99999999^2-99999999^2",
+    b"(t+99999)^4",
+    // the size is met first
+    b"99999999^2+t^5",
+    b"99999999^2*t^5",
+    b"(99999999*99999999)*(t^4*t)",
+    b"999999999*t^3*999999999*t^2",
+];
 
 #[test]
-fn limits() {
-    // 2^53 by sums, differences and products; one more is refused, and one less passes
+fn refusals_of_parts() {
+    DEGREES.iter().for_each(|text| refused(text, 14));
+    SIZES.iter().for_each(|text| refused(text, 15));
+}
+
+/// 2^53 by sums, differences and products; one more is refused, and one less passes.
+#[test]
+fn the_largest() {
     expands(b"90071992*100000000+54740992", &[LARGEST]);
     expands(b"90071992*100000000+54740991", &[LARGEST - 1.0]);
     refused(b"90071992*100000000+54740993", 15);
@@ -212,7 +218,11 @@ fn limits() {
     refused(b"(90071992*t+1)*(100000000+54740993*t)", 15);
     // and 321 * 28059810762433 - 1, of which the product alone is 2^53 + 1
     expands(b"((280598*100000000+10762433)*t+1)*(321-t)", &[321.0, LARGEST, -28059810762433.0]);
-    // in every coefficient
+}
+
+/// In every coefficient, and in numbers of every length.
+#[test]
+fn limits() {
     for power in 0..=4 {
         let mut coeffs = vec![0.0; power + 1];
         coeffs[power] = -LARGEST;
@@ -256,6 +266,20 @@ fn deep_brackets() {
     expands(&[&b"t"[..], &b"*1".repeat(127)].concat(), &[0.0, 1.0]);
     let powers = [&vec![b'('; 63][..], b"t-1", &b")^1".repeat(63)].concat();
     expands(&powers, &[-1.0, 1.0]);
+}
+
+/// Brackets as deep as a text has room for, on a stack of 256 KB.
+#[test]
+fn small_stack() {
+    let texts = [
+        [&[b'('; 127][..], b"t", &[b')'; 127]].concat(),
+        [&[b'('; 126][..], b"t^5", &[b')'; 126]].concat(),
+        vec![b'('; MOST_BYTES],
+        [&b"(t*"[..].repeat(63), &b"0"[..], &[b')'; 63]].concat(),
+    ];
+    let refusals = || texts.map(|text| formula_roots(&text, TOL).refusal);
+    let thread = thread::Builder::new().stack_size(1 << 18).spawn(refusals);
+    assert_eq!(thread.unwrap().join().unwrap(), [0, 14, 13, 2]);
 }
 
 /// A text may have 255 bytes; a longer one is refused before it is read.

@@ -56,16 +56,8 @@ pub fn in_words(bytes: &[u8], item: &Item, number: u8) -> String {
     let rest = bytes.get(at..).unwrap_or_default();
     match (number, item.kind) {
         (NOT_FINITE, _) => "a number is not finite".to_string(),
-        (TOO_FEW, Some(Kind::Crank)) => {
-            "no equation: the quartic in u is a constant at most".to_string()
-        }
-        (TOO_FEW, Some(Kind::Contact)) => {
-            "no equation: the ball stands still, or moves too little to tell".to_string()
-        }
         (TOO_FEW, Some(Kind::Formula)) => of_formula(item),
-        (TOO_FEW, _) => {
-            "no equation: once trailing zeros are dropped, a constant at most is left".to_string()
-        }
+        (TOO_FEW, kind) => format!("no equation: {}", too_few(kind)),
         (TOO_MANY, _) => "the degree is above 4".to_string(),
         (ANSWER_NOT_FINITE, Some(Kind::Crank)) => {
             "a coefficient of the quartic in u is not finite".to_string()
@@ -90,6 +82,14 @@ pub fn in_words(bytes: &[u8], item: &Item, number: u8) -> String {
         (RECORD_NOT_FINITE..=MADE_NOT_FINITE, _) => of_contact(item, number),
         (NOT_A_SUM..=COEFFICIENT_TOO_LARGE, _) => of_formula(item),
         (n, _) => format!("no refusal has the number {n}"),
+    }
+}
+
+fn too_few(kind: Option<Kind>) -> &'static str {
+    match kind {
+        Some(Kind::Crank) => "the quartic in u is a constant at most",
+        Some(Kind::Contact) => "the ball stands still, or moves too little to tell",
+        _ => "once trailing zeros are dropped, a constant at most is left",
     }
 }
 
