@@ -10,8 +10,8 @@ use lib.Dec.{ltb, lit≤}
 use lib.ListN.{length, List·getD-eq-default}
 use lib.IntN.{ℤ, pos, natAbs}
 use borrow.Author.Tests.{lt-ltb, le-ltb, ltb-false}
-use Rattle.parts.specs.Polynomial.{coefficientOf, multiplied, trimmed}
-use Rattle.parts.specs.Value.{Value, exact, refused, tooLarge, limited, joined, powerOf}
+use Rattle.parts.specs.Polynomial.{coefficientOf, trimmed}
+use Rattle.parts.specs.Value.{Value, exact, refused, tooLarge, limited}
 use Rattle.parts.proofs.Coefficients.{trimmed-at, trimmed-same, trimmed-short, trimmed-long}
 
 -- ---- too large
@@ -72,19 +72,3 @@ limited-limits p = go (ltb 5 (length (trimmed p))) (tooLarge (trimmed p)) refl r
     go true c d e = inl refl
     go false true d e = inr refl
     go false false d e = (ltb-false 5 (length (trimmed p)) d, not-large (trimmed p) e, trimmed-same (trimmed p) p (trimmed-at p))
-
-pub joined-limits : (op : List ℤ → List ℤ → List ℤ) (x y : Value) → Limits x → Limits y → Limits (joined op x y)
-unfolding joined
-joined-limits op (refused n) y h g = h
-joined-limits op (exact p) (refused n) h g = g
-joined-limits op (exact p) (exact q) h g = limited-limits (op p q)
-
-pub power-limits : (x : Value) (k : ℕ) → Limits x → Limits (powerOf x k)
-unfolding powerOf
-power-limits (refused n) k h = h
-power-limits (exact p) zero h = (lit≤ tt, one-small, refl)
-  where
-    one-small : (k : ℕ) → natAbs (coefficientOf (pos 1 ∷ []) k) ≤ 2 ^ 53
-    one-small zero = lit≤ tt
-    one-small (suc k) = lit≤ tt
-power-limits (exact p) (suc k) h = joined-limits multiplied (powerOf (exact p) k) (exact p) (power-limits (exact p) k h) h
