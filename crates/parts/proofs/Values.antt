@@ -46,7 +46,7 @@ led-value a [] x = go (eqb (natAbs a) 0) (zero-is a)
     go false z = refl
 led-value a (b ∷ p) x = refl
 
-pub trimmed-value : (p : List ℤ) (x : ℤ) → valueAt (trimmed p) x ≡ valueAt p x
+trimmed-value : (p : List ℤ) (x : ℤ) → valueAt (trimmed p) x ≡ valueAt p x
 trimmed-value [] x = refl
 trimmed-value (a ∷ p) x = led-value a (trimmed p) x ∙ ap (λ (y : ℤ). a +ℤ x *ℤ y) (trimmed-value p x)
 
@@ -75,4 +75,5 @@ pub power-agrees : (x : ℤ) (v : Value) (k : ℕ) (z : ℤ) → Agrees x v z �
 unfolding powerOf pow one
 power-agrees x (refused n) k z h = tt
 power-agrees x (exact p) zero z h = ap (λ (y : ℤ). pos 1 +ℤ y) (*ℤ-zero x)
-power-agrees x (exact p) (suc k) z h = joined-agrees x multiplied _*ℤ_ (λ q r. multiplied-value q r x) (powerOf (exact p) k) (exact p) (pow z k) z (power-agrees x (exact p) k z h) h
+power-agrees x (exact p) (suc k) z h =
+    joined-agrees x multiplied _*ℤ_ (λ q r. multiplied-value q r x) (powerOf (exact p) k) (exact p) (pow z k) z (power-agrees x (exact p) k z h) h
