@@ -1,7 +1,7 @@
 -- The answer: how many coefficients there are, and the coefficients as doubles.
 use mathlib.Core.Path.{_≡_, refl, sym, ap, _∙_}
 use mathlib.Core.Bool.{Bool, true, false, cond}
-use mathlib.Core.List.{List, [], _∷_, _++_, map}
+use mathlib.Core.List.{List, [], _∷_, _++_, map, map-append}
 use mathlib.Core.Logic.{⊎-elim}
 use Prim.Native.Nat.{ℕ, zero, suc, _+_, _-_, _≤_, _<_}
 use native.Mathlib.Omega.{arith}
@@ -29,9 +29,12 @@ minus-is p zero = rw (le-leb 0 p (omega arith)) (ap pos same)
   where
     same : p - 0 ≡ p + 0
     same = omega arith
-minus-is p (suc q) = ⊎-elim (λ (h : suc q ≤ p). rw (le-leb (suc q) p h, le-ltb p (suc q) h)) (λ (h : p < suc q). rw (lt-leb (suc q) p h, lt-ltb p (suc q) h)) (le-or-lt (suc q) p)
+minus-is p (suc q) =
+    ⊎-elim (λ (h : suc q ≤ p). rw (le-leb (suc q) p h, le-ltb p (suc q) h)) (λ (h : p < suc q). rw (lt-leb (suc q) p h, lt-ltb p (suc q) h))
+    (le-or-lt (suc q) p)
 
-pub float-is : (a : Part) (k : ℕ) (c : Coefficient) (x : Float) → c ≡ entryOf a k → x ≡ ofInt binary64 (minus (c .up) (c .down)) → x ≡ ofInt binary64 (coefficientIn a k)
+pub float-is : (a : Part) (k : ℕ) (c : Coefficient) (x : Float) → c ≡ entryOf a k → x ≡ ofInt binary64 (minus (c .up) (c .down))
+    → x ≡ ofInt binary64 (coefficientIn a k)
 float-is a k c x d e = e ∙ ap (ofInt binary64) (minus-is (c .up) (c .down) ∙ entry-worth a k c d)
 
 -- ---- the coefficients
@@ -57,12 +60,9 @@ padded [] = refl
 padded (a ∷ p) =
     let t = trimmed p in
     let n = length p - length t in
-    let e : length p ≡ length t + n = ap length (padded p) ∙ length-append t (replicate n (pos 0)) ∙ ap (λ (k : ℕ). length t + k) (length-replicate n (pos 0)) in
+    let zeros = replicate n (pos 0) in
+    let e : length p ≡ length t + n = ap length (padded p) ∙ length-append t zeros ∙ ap (λ (k : ℕ). length t + k) (length-replicate n (pos 0)) in
     ap (λ (q : List ℤ). a ∷ q) (padded p) ∙ led-padded a t n ∙ ap (λ (k : ℕ). led a t ++ replicate (suc k - length (led a t)) (pos 0)) (sym e)
-
-map-append : {A B : Type 0} (f : A → B) (l m : List A) → map f (l ++ m) ≡ map f l ++ map f m
-map-append f [] m = refl
-map-append f (x ∷ l) m = ap (λ (t : List _). f x ∷ t) (map-append f l m)
 
 map-replicate : {A B : Type 0} (f : A → B) (n : ℕ) (x : A) → map f (replicate n x) ≡ replicate n (f x)
 map-replicate f zero x = refl
@@ -81,13 +81,20 @@ floats-padded p =
 pub answer-refused : (a : Part) (r : Expanded) → (a .number ≡ 0 → ⊥) → r ≡ answeredOf (refused (a .number)) → r ≡ answeredOf (valueIn a)
 answer-refused a r f e = e ∙ ap answeredOf (sym (value-refused a f))
 
-pub answer-is : (a : Part) (n : ℕ) (v w x y z : Float) → a .number ≡ 0 → n ≡ lengthIn a → v ≡ ofInt binary64 (coefficientIn a 0) → w ≡ ofInt binary64 (coefficientIn a 1) → x ≡ ofInt binary64 (coefficientIn a 2)
-    → y ≡ ofInt binary64 (coefficientIn a 3) → z ≡ ofInt binary64 (coefficientIn a 4) → record { number = 0; len = n; coeffs = v ∷ w ∷ x ∷ y ∷ z ∷ [] } ≡ answeredOf (valueIn a)
-unfolding answeredOf
-answer-is a n v w x y z o e f g h i j = made ∙ ap answeredOf (sym (value-exact a o))
-  where
-    list : v ∷ w ∷ x ∷ y ∷ z ∷ [] ≡ floatsOf (fromFn 5 (coefficientIn a))
-    list = λ k. f k ∷ g k ∷ h k ∷ i k ∷ j k ∷ []
+module _ (a : Part) (n : ℕ) (v w x y z : Float) where
+  -- x is the coefficient of t^k
+  abbrev Is : Float → ℕ → Type 0
+  Is x k = x ≡ ofInt binary64 (coefficientIn a k)
 
-    made : record { number = 0; len = n; coeffs = v ∷ w ∷ x ∷ y ∷ z ∷ [] } ≡ answeredOf (exact (trimmed (fromFn 5 (coefficientIn a))))
-    made = λ k. record { number = 0; len = e k; coeffs = (list ∙ floats-padded (fromFn 5 (coefficientIn a))) k }
+  abbrev answer : Expanded
+  answer = record { number = 0; len = n; coeffs = v ∷ w ∷ x ∷ y ∷ z ∷ [] }
+
+  pub answer-is : a .number ≡ 0 → n ≡ lengthIn a → Is v 0 → Is w 1 → Is x 2 → Is y 3 → Is z 4 → answer ≡ answeredOf (valueIn a)
+  unfolding answeredOf
+  answer-is o e f g h i j = made ∙ ap answeredOf (sym (value-exact a o))
+    where
+      list : v ∷ w ∷ x ∷ y ∷ z ∷ [] ≡ floatsOf (fromFn 5 (coefficientIn a))
+      list = λ k. f k ∷ g k ∷ h k ∷ i k ∷ j k ∷ []
+
+      made : answer ≡ answeredOf (exact (trimmed (fromFn 5 (coefficientIn a))))
+      made = λ k. record { number = 0; len = e k; coeffs = (list ∙ floats-padded (fromFn 5 (coefficientIn a))) k }

@@ -39,7 +39,7 @@ pub digit-high : (s : List ℕ) (i : ℕ) → digitAt s i ≡ true → getD s i 
 digit-high s i e = let b = getD s i 0 in leb-true b 57 (second-holds (leb 48 b) (leb b 57) (digit-is s i e))
 
 -- ---- a byte
-pub after-at : (s : List ℕ) (i b : ℕ) → after b (drop i s) ≡ cond (isAt s i b) (some (drop (i + 1) s)) none
+after-at : (s : List ℕ) (i b : ℕ) → after b (drop i s) ≡ cond (isAt s i b) (some (drop (i + 1) s)) none
 unfolding isAt
 after-at s i b = ⊎-elim past within (le-or-lt (length s) i)
   where

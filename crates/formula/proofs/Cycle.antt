@@ -22,8 +22,7 @@ use Rattle.formula.specs.Reading.{Read, fails, reads, andThen, ifSome, r
 use Rattle.formula.specs.Readers.{isAt, signAt, operatorAt, Ahead, Meets, Reads, Based, Closed, Powered, Joined}
 use Rattle.formula.proofs.Bytes.{at-inside, sign-inside, after-true, after-false, sign-true, sign-false, signNext, operator-is}
 use Rattle.formula.proofs.Complete.{factors-end, terms-end}
-use Rattle.formula.proofs.Factors.{unread}
-use Rattle.formula.proofs.Cursors.{ahead-then}
+use Rattle.formula.proofs.Cursors.{unread, ahead-then}
 
 -- ---- factors
 -- all is read but the power
@@ -36,7 +35,8 @@ module _ (s : List ℕ) (at : ℕ) where
   by-first : ℕ → Option (List ℕ) → Read Factor
   by-first f o = ifSome o (readUnit (drop at s)) (λ u. andThen (readSum f u) readClosed)
 
-  pub base-bracket : (inner c : Cursor) → isAt s at 40 ≡ true → Reads readSum sumOf 3 s (at + 1) inner → Ahead s (inner .next) c → Closed s inner c → Base s at c
+  pub base-bracket : (inner c : Cursor) → isAt s at 40 ≡ true → Reads readSum sumOf 3 s (at + 1) inner → Ahead s (inner .next) c → Closed s inner c
+      → Base s at c
   unfolding readFactor by-first
   base-bracket inner c e r h k = record { ahead = record { low = omega (arith, r .ahead .low, h .low); high = h .high; sound = h .sound }; means = means }
     where
@@ -161,9 +161,11 @@ module _ (s : List ℕ) (at : ℕ) (c : Cursor) where
   term-next right d w g r j =
       next readTerm moreFactors termOf readFactor factorOf 1 (lit≤ tt) (lit≤ tt) s at c right d Product (g .inside) (g .read) r j times step (λ a b. refl) 2 w
     where
-      step : (f : ℕ) (a : Term) → moreFactors (suc f) a (drop (c .next) s) ≡ andThen (readFactor f (drop (c .next + 1) s)) (λ b rest. moreFactors f (times a b) rest)
-      step f a = ap (λ (o : Option (List ℕ)). ifSome o (reads a (drop (c .next) s)) (λ u. andThen (readFactor f u) (λ b rest. moreFactors f (times a b) rest)))
-          (after-true s (c .next) 42 (g .next))
+      more : ℕ → Term → List ℕ → Read Term
+      more f a u = andThen (readFactor f u) (λ b rest. moreFactors f (times a b) rest)
+
+      step : (f : ℕ) (a : Term) → moreFactors (suc f) a (drop (c .next) s) ≡ more f a (drop (c .next + 1) s)
+      step f a = ap (λ (o : Option (List ℕ)). ifSome o (reads a (drop (c .next) s)) (more f a)) (after-true s (c .next) 42 (g .next))
 
   pub term-last : (b : Bool) → TermFar s at c → b ≡ (c .read && isAt s (c .next) 42) → b ≡ false → Reads readTerm termOf 2 s at c
   term-last b w e h = last readTerm moreFactors termOf 2 s at c stop w
@@ -192,9 +194,11 @@ module _ (s : List ℕ) (at : ℕ) (c : Cursor) where
       sign : Sign
       sign = signNext s (c .next)
 
-      step : (f : ℕ) (a : Sum) → moreTerms (suc f) a (drop (c .next) s) ≡ andThen (readTerm f (drop (c .next + 1) s)) (λ b rest. moreTerms f (join a sign b) rest)
-      step f a = ap (λ (i : Option (Sign × List ℕ)). ifSome i (reads a (drop (c .next) s)) (λ u. andThen (readTerm f (u .1)) (λ b rest. moreTerms f (join a (u .0) b) rest)))
-          (sign-true s (c .next) (g .next))
+      more : ℕ → Sum → Sign × List ℕ → Read Sum
+      more f a w = andThen (readTerm f (w .1)) (λ b rest. moreTerms f (join a (w .0) b) rest)
+
+      step : (f : ℕ) (a : Sum) → moreTerms (suc f) a (drop (c .next) s) ≡ more f a (sign, drop (c .next + 1) s)
+      step f a = ap (λ (o : Option (Sign × List ℕ)). ifSome o (reads a (drop (c .next) s)) (more f a)) (sign-true s (c .next) (g .next))
 
       worth : (a : Sum) (b : Term) → joined (operatorOf op) (sumOf a) (termOf b) ≡ joined (signOf sign) (sumOf a) (termOf b)
       worth a b = ap (λ (f : List ℤ → List ℤ → List ℤ). joined f (sumOf a) (termOf b)) (ap operatorOf o ∙ operator-is s (c .next))

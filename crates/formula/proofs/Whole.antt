@@ -14,7 +14,7 @@ use Rattle.formula.specs.Expansion.{sumOf}
 use Rattle.formula.specs.Reading.{Read, fails, reads, ifSome, readSum, whole, readingOf}
 use Rattle.formula.specs.Formula.{formulaOf, answeredOf, expandOf}
 use Rattle.formula.specs.Readers.{Meets, Reads}
-use Rattle.formula.proofs.Factors.{unread}
+use Rattle.formula.proofs.Cursors.{unread}
 
 -- what is answered where x was read
 abbrev valueOf : Read Sum → Value

@@ -37,6 +37,12 @@ pub record Ahead (s : List ℕ) (at : ℕ) (c : Cursor) : Type 0 where
   pub high : c .next ≤ length s
   pub sound : Sound (c .part)
 
+-- nothing was read, at the place at
+pub record Failed (at : ℕ) (c : Cursor) : Type 0 where
+  pub read : c .read ≡ false
+  pub next : c .next ≡ at
+  pub sound : Sound (c .part)
+
 -- code has read what the definition reads
 abbrev pub Meets : {A : Type 0} → (A → Value) → List ℕ → Read A → Cursor → Type 0
 Meets value s fails c = c .read ≡ false
@@ -51,7 +57,8 @@ pub record Reads {A : Type 0} (read : ℕ → List ℕ → Read A) (value : A �
 abbrev pub Based : List ℕ → Cursor → Read Factor → Type 0
 Based s c x =
     ((c .read ≡ false) × (x ≡ fails))
-    ⊎ ((c .read ≡ true) × ((make : Power → Factor) × (x ≡ readPower make (drop (c .next) s)) × ((p : Power) → factorOf (make p) ≡ poweredOf p (valueIn (c .part)))))
+    ⊎ ((c .read ≡ true)
+    × ((make : Power → Factor) × (x ≡ readPower make (drop (c .next) s)) × ((p : Power) → factorOf (make p) ≡ poweredOf p (valueIn (c .part)))))
 
 -- c has a sum that was read, and its closing bracket
 abbrev pub Closed : List ℕ → Cursor → Cursor → Type 0

@@ -1,12 +1,13 @@
--- How a text is read as a sum, from the left, looking one byte ahead. `reading-is` and `reading-of` say that this finds the tree of the grammar that has the text, and
--- none where there is none. Definitions only.
+-- How a text is read as a sum, from the left, looking one byte ahead. `reading-is` and `reading-of` say that this finds the tree of the grammar that has
+-- the text, and none where there is none. Definitions only.
 use mathlib.Core.Bool.{Bool, true, false, cond}
 use mathlib.Core.List.{List, [], _∷_}
 use mathlib.Core.Option.{Option, none, some}
 use Prim.Native.Nat.{ℕ, zero, suc, _+_, _*_}
 use lib.Dec.{T, eqb}
 use lib.ListN.{length}
-use Rattle.formula.specs.Grammar.{isDigit, isNumber, Number, Sign, plus, minus, Power, plain, power, Sum, term, join, Term, factor, times, Factor, number, letter, bracket}
+use Rattle.formula.specs.Grammar.{isDigit, isNumber, Number, Sign, plus, minus, Power, plain, power}
+use Rattle.formula.specs.Grammar.{Sum, term, join, Term, factor, times, Factor, number, letter, bracket}
 
 -- a tree, and what is left behind its text
 pub data Read (A : Type 0) : Type 0 where

@@ -1,7 +1,7 @@
 // Formulas as mechanics write them: a text is read as a sum of terms of factors and expanded on the way, exactly, into at most five
 // coefficients. It rests on `parts`; the hall file rests on it.
 ghost use mathlib.Core.Path.{_≡_};
-ghost use mathlib.Core.Bool.{true, false, _&&_};
+ghost use mathlib.Core.Bool.{true, _&&_};
 ghost use Prim.Native.Nat.{_+_, _-_, _≤_, _<_};
 ghost use lib.ListN.{length, getD, drop};
 ghost use lib.Ieee.{binary64, ofInt};
@@ -10,7 +10,7 @@ ghost use Rattle.parts.specs.Part.{coefficientIn, valueIn, Sound};
 ghost use Rattle.formula.specs.Expansion.{sumOf, termOf, factorOf};
 ghost use Rattle.formula.specs.Reading.{readSum, readTerm, readFactor, readUnit, readNumber};
 ghost use Rattle.formula.specs.Formula.{answeredOf, expandOf};
-ghost use Rattle.formula.specs.Readers.{isAt, signAt, digitAt, operatorAt, Ahead, Reads, Based, Closed, Powered, Joined};
+ghost use Rattle.formula.specs.Readers.{isAt, signAt, digitAt, operatorAt, Ahead, Failed, Reads, Based, Closed, Powered, Joined};
 use parts::Operator;
 use parts::Part;
 
@@ -79,7 +79,7 @@ fn operator_at(s: &[u8], i: usize) -> Operator
 // ---- what is not read further
 
 fn failed(at: usize) -> Cursor
-    ensures { λ r. ⌜ (r .read ≡ false) × (r .next ≡ at) ⌝ ∗ ⌜ Sound (r .part) ⌝ }
+    ensures { λ r. ⌜ Failed at r ⌝ }
 {
     Cursor {
         read: false,
@@ -175,6 +175,7 @@ fn powered(s: &[u8], base: Cursor) -> Cursor
 
 // ---- joins
 
+// The result takes the right operand's place, which spares stack.
 fn joined(op: Operator, left: Cursor, right: Cursor) -> Cursor
     requires { ⌜ Sound (left .part) ⌝ ∗ ⌜ Sound (right .part) ⌝ }
     ensures { λ r. ⌜ Joined op left right r ⌝ }
@@ -183,11 +184,12 @@ fn joined(op: Operator, left: Cursor, right: Cursor) -> Cursor
         return right;
     }
     let a = left.part;
-    let b = right.part;
+    let mut part = right.part;
+    part = parts::join(op, a, part);
     Cursor {
         read: true,
         next: right.next,
-        part: parts::join(op, a, b),
+        part,
     }
 }
 

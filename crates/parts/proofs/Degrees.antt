@@ -33,7 +33,8 @@ products-same : (a b : ℕ → ℤ) (k i j : ℕ) → i ≤ j → ((l : ℕ) →
 products-same a b k i zero h z = ap (productsTo a b k) (let e : 0 ≡ i = omega arith in e)
 products-same a b k i (suc j) h z =
     ⊎-elim (λ (q : i ≡ suc j). ap (productsTo a b k) (sym q))
-    (λ (q : i < suc j). ap₂ _+ℤ_ (products-same a b k i j (omega arith) (λ l g t. z l g (omega arith))) (z j (omega arith) (omega arith)) ∙ +ℤ-idr (productsTo a b k i))
+    (λ (q : i < suc j). ap₂ _+ℤ_ (products-same a b k i j (omega arith) (λ l g t. z l g (omega arith))) (z j (omega arith) (omega arith))
+    ∙ +ℤ-idr (productsTo a b k i))
     (eq-or-lt-of-le h)
 
 -- ---- two polynomials of m and n coefficients

@@ -13,12 +13,12 @@ use Rattle.algebra.specs.NatOrder.{le-or-lt, dist}
 use Rattle.algebra.specs.IntOrder.{natAbs-pos-sub}
 use Rattle.algebra.specs.RingInt.{ringℤ, #, _:+_, _:-_, _:=_}
 use Rattle.facts.specs.Arrays.{fromFn}
-use Rattle.facts.specs.Lists.{AllOf, all-at}
+use Rattle.facts.specs.Lists.{all-at}
 use Rattle.parts.specs.declared.Part.{Part}
 use Rattle.parts.specs.declared.Coefficient.{Coefficient}
 use Rattle.parts.specs.Polynomial.{coefficientOf}
 use Rattle.parts.specs.Value.{exact, refused, limited}
-use Rattle.parts.specs.Part.{raisedAt, coefficientAt, Small, polynomialOf, coefficientIn, Sound, valueIn, entryOf, Ends}
+use Rattle.parts.specs.Part.{lowered, raisedAt, coefficientAt, Small, polynomialOf, coefficientIn, Sound, valueIn, entryOf, Ends}
 use Rattle.parts.proofs.Coefficients.{trimmed-at, trimmed-short, trimmed-long}
 use Rattle.parts.proofs.Limits.{limited-exact}
 
@@ -32,13 +32,13 @@ unfolding valueIn
 value-exact a e = rw (eq-eqb (a .number) 0 e)
 
 -- ---- a coefficient
-pub kept-zero : (x : ℕ) → x ≡ 2 ^ 53 → pos x -ℤ pos (2 ^ 53) ≡ pos 0
-kept-zero x e = ap (λ (y : ℕ). pos y -ℤ pos (2 ^ 53)) e
+pub kept-zero : (x : ℕ) → x ≡ 2 ^ 53 → lowered x ≡ pos 0
+kept-zero x e = ap lowered e
 
-zero-kept : (x : ℕ) → pos x -ℤ pos (2 ^ 53) ≡ pos 0 → x ≡ 2 ^ 53
+zero-kept : (x : ℕ) → lowered x ≡ pos 0 → x ≡ 2 ^ 53
 zero-kept x e = let f : dist x (2 ^ 53) ≡ 0 = sym (natAbs-pos-sub x (2 ^ 53)) ∙ ap natAbs e in omega arith
 
-small-size : (x : ℕ) → x ≤ 2 ^ 54 → natAbs (pos x -ℤ pos (2 ^ 53)) ≤ 2 ^ 53
+small-size : (x : ℕ) → x ≤ 2 ^ 54 → natAbs (lowered x) ≤ 2 ^ 53
 small-size x h = omega (arith, natAbs-pos-sub x (2 ^ 53))
 
 -- a read inside the array
@@ -80,7 +80,9 @@ module _ (l : List ℕ) (five : length l ≡ 5) where
   last-no-zero m e z = let h : length (polynomialOf l) ≤ m = short m zeros in omega arith
     where
       zeros : (k : ℕ) → m ≤ k → coefficientAt l k ≡ pos 0
-      zeros k h = ⊎-elim (λ (q : m ≡ k). subst (λ (j : ℕ). coefficientAt l j ≡ pos 0) q z) (λ (q : m < k). zeros-behind (suc m) k (omega arith) (omega arith)) (eq-or-lt-of-le h)
+      zeros k h =
+          ⊎-elim (λ (q : m ≡ k). subst (λ (j : ℕ). coefficientAt l j ≡ pos 0) q z) (λ (q : m < k). zeros-behind (suc m) k (omega arith) (omega arith))
+          (eq-or-lt-of-le h)
 
   -- the coefficients from t^n on are zeros, and that of t^(n - 1) is read
   module _ (n : ℕ) (h : 0 < n) (most : n ≤ 5) (z : (k : ℕ) → n ≤ k → coefficientAt l k ≡ pos 0) where
@@ -144,39 +146,40 @@ module _ (a : Part) (k : ℕ) (c : Coefficient) (e : c ≡ entryOf a k) where
   entry-small s = let h = s k in (rw e (omega arith), rw e (omega arith))
 
 -- ---- a part by its coefficients
-pub part-is : (a : Part) → length (a .raised) ≡ 5 → (p : List ℤ) → a .number ≡ 0 → Sound a → ((k : ℕ) → coefficientOf p k ≡ coefficientIn a k) → valueIn a ≡ limited p
+pub part-is : (a : Part) → length (a .raised) ≡ 5 → (p : List ℤ) → a .number ≡ 0 → Sound a → ((k : ℕ) → coefficientOf p k ≡ coefficientIn a k)
+    → valueIn a ≡ limited p
 part-is a five p z s e =
     value-exact a z ∙ sym (limited-exact p (fromFn 5 (coefficientIn a)) (λ k. e k ∙ sym (five-at (a .raised) five k)) (lit≤ tt)
     (λ k. subst (λ (x : ℤ). natAbs x ≤ 2 ^ 53) (sym (five-at (a .raised) five k)) (small-size (raisedAt (a .raised) k) (s k))))
 
 -- ---- the smallest parts
-abbrev zeros : List ℕ
-zeros = 2 ^ 53 ∷ 2 ^ 53 ∷ 2 ^ 53 ∷ 2 ^ 53 ∷ 2 ^ 53 ∷ []
+-- what is kept of two coefficients and of three zeros
+abbrev pub firstTwo : ℕ → ℕ → List ℕ
+firstTwo x y = x ∷ y ∷ 2 ^ 53 ∷ 2 ^ 53 ∷ 2 ^ 53 ∷ []
 
-small-of : (l : List ℕ) → AllOf (λ (n : ℕ). n ≤ 2 ^ 54) l → Small l
-small-of l h k = all-at (λ (n : ℕ). n ≤ 2 ^ 54) l (2 ^ 53) k (λ g. lit≤ tt) h
+abbrev partOf : ℕ → List ℕ → Part
+partOf n l = record { number = n; raised = l }
 
-pub zero-small : Small zeros
-zero-small = small-of zeros (lit≤ tt, (lit≤ tt, (lit≤ tt, (lit≤ tt, (lit≤ tt, tt)))))
+pub two-small : (x y : ℕ) → x ≤ 2 ^ 54 → y ≤ 2 ^ 54 → Small (firstTwo x y)
+two-small x y h g k = all-at (λ (n : ℕ). n ≤ 2 ^ 54) (firstTwo x y) (2 ^ 53) k (λ e. lit≤ tt) (h, (g, (lit≤ tt, (lit≤ tt, (lit≤ tt, tt)))))
 
-pub refused-is : (n : ℕ) → 0 < n → let a : Part = record { number = n; raised = zeros } in (valueIn a ≡ refused n) × Sound a
-refused-is n h = let a : Part = record { number = n; raised = zeros } in (value-refused a (λ e. absurd (omega arith)), zero-small)
+pub refused-is : (n : ℕ) → 0 < n → let a = partOf n (firstTwo (2 ^ 53) (2 ^ 53)) in (valueIn a ≡ refused n) × Sound a
+refused-is n h = (value-refused (partOf n (firstTwo (2 ^ 53) (2 ^ 53))) (λ e. absurd (omega arith)), two-small (2 ^ 53) (2 ^ 53) (lit≤ tt) (lit≤ tt))
 
-pub letter-is : let a : Part = record { number = 0; raised = 2 ^ 53 ∷ (2 ^ 53 + 1) ∷ 2 ^ 53 ∷ 2 ^ 53 ∷ 2 ^ 53 ∷ [] } in (valueIn a ≡ exact (pos 0 ∷ pos 1 ∷ [])) × Sound a
+pub letter-is : let a = partOf 0 (firstTwo (2 ^ 53) (2 ^ 53 + 1)) in (valueIn a ≡ exact (pos 0 ∷ pos 1 ∷ [])) × Sound a
 unfolding valueIn
-letter-is = (refl, small-of (2 ^ 53 ∷ (2 ^ 53 + 1) ∷ 2 ^ 53 ∷ 2 ^ 53 ∷ 2 ^ 53 ∷ []) (lit≤ tt, (lit≤ tt, (lit≤ tt, (lit≤ tt, (lit≤ tt, tt))))))
+letter-is = (refl, two-small (2 ^ 53) (2 ^ 53 + 1) (lit≤ tt) (lit≤ tt))
 
-pub number-is : (n : ℕ) → n ≤ 2 ^ 53 → let a : Part = record { number = 0; raised = (2 ^ 53 + n) ∷ 2 ^ 53 ∷ 2 ^ 53 ∷ 2 ^ 53 ∷ 2 ^ 53 ∷ [] } in (valueIn a ≡ limited (pos n ∷ [])) × Sound a
+pub number-is : (n : ℕ) → n ≤ 2 ^ 53 → let a = partOf 0 (firstTwo (2 ^ 53 + n) (2 ^ 53)) in (valueIn a ≡ limited (pos n ∷ [])) × Sound a
 number-is n h =
-    let l = (2 ^ 53 + n) ∷ 2 ^ 53 ∷ 2 ^ 53 ∷ 2 ^ 53 ∷ 2 ^ 53 ∷ [] in
-    let a : Part = record { number = 0; raised = l } in
-    let s : Sound a = small-of l (omega arith, (lit≤ tt, (lit≤ tt, (lit≤ tt, (lit≤ tt, tt))))) in
-    (part-is a refl (pos n ∷ []) refl s (at n), s)
+    let a = partOf 0 (firstTwo (2 ^ 53 + n) (2 ^ 53)) in
+    let s : Sound a = two-small (2 ^ 53 + n) (2 ^ 53) (omega arith) (lit≤ tt) in
+    (part-is a refl (pos n ∷ []) refl s at, s)
   where
-    at : (n k : ℕ) → coefficientOf (pos n ∷ []) k ≡ coefficientAt ((2 ^ 53 + n) ∷ 2 ^ 53 ∷ 2 ^ 53 ∷ 2 ^ 53 ∷ 2 ^ 53 ∷ []) k
-    at n zero = ringℤ 2 (λ n b. n := (b :+ n) :- b) tt (pos n) (pos (2 ^ 53))
-    at n (suc zero) = refl
-    at n (suc (suc zero)) = refl
-    at n (suc (suc (suc zero))) = refl
-    at n (suc (suc (suc (suc zero)))) = refl
-    at n (suc (suc (suc (suc (suc k))))) = refl
+    at : (k : ℕ) → coefficientOf (pos n ∷ []) k ≡ coefficientAt (firstTwo (2 ^ 53 + n) (2 ^ 53)) k
+    at zero = ringℤ 2 (λ n b. n := (b :+ n) :- b) tt (pos n) (pos (2 ^ 53))
+    at (suc zero) = refl
+    at (suc (suc zero)) = refl
+    at (suc (suc (suc zero))) = refl
+    at (suc (suc (suc (suc zero)))) = refl
+    at (suc (suc (suc (suc (suc k))))) = refl

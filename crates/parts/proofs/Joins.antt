@@ -6,9 +6,10 @@ use Prim.Native.Nat.{ℕ, zero, suc, _+_, _^_, _≤_, _<_}
 use native.Mathlib.Nat.{eq-or-lt-of-le}
 use native.Mathlib.Numerals.{add-one}
 use native.Mathlib.Omega.{arith}
+use lib.Dec.{lit≤}
 use lib.ListN.{length, set, length-set}
 use lib.Seq.{getD-set-same, getD-set-other}
-use lib.IntN.{ℤ, pos, natAbs, _-ℤ_}
+use lib.IntN.{ℤ, pos, natAbs}
 use Rattle.algebra.specs.NatOrder.{le-or-lt}
 use Rattle.parts.specs.declared.Part.{Part}
 use Rattle.parts.specs.declared.Operator.{Operator}
@@ -16,10 +17,10 @@ use Rattle.parts.specs.declared.Operator.the-variants.{Product}
 use Rattle.parts.specs.Polynomial.{coefficientOf, multiplied}
 use Rattle.parts.specs.Value.{Value, refused, limited, joined, powerOf}
 use Rattle.parts.specs.Products.{madeOf, madeLength, operatorOf}
-use Rattle.parts.specs.Part.{raisedAt, coefficientAt, Small, polynomialOf, coefficientIn, valueIn, Ends, Raises}
+use Rattle.parts.specs.Part.{lowered, raisedAt, coefficientAt, Small, polynomialOf, coefficientIn, valueIn, Ends, Raises}
 use Rattle.parts.proofs.Coefficients.{made-at}
 use Rattle.parts.proofs.Limits.{limited-high, limited-large}
-use Rattle.parts.proofs.Entries.{value-refused, value-exact, kept-zero, polynomial-at, last-no-zero, part-is, zero-small}
+use Rattle.parts.proofs.Entries.{value-refused, value-exact, kept-zero, polynomial-at, last-no-zero, part-is, firstTwo, two-small}
 use Rattle.parts.proofs.Degrees.{made-none, made-high}
 
 -- ---- what is made so far: the coefficients below t^k, and zeros behind them
@@ -30,10 +31,16 @@ pub record Made (op : Operator) (a b : List ℕ) (k : ℕ) (r : Part) : Type 0 w
   pub below : (j : ℕ) → j < k → coefficientIn r j ≡ madeOf op (coefficientAt a) (coefficientAt b) j
   pub behind : (j : ℕ) → k ≤ j → raisedAt (r .raised) j ≡ 2 ^ 53
 
-pub made-none-yet : (op : Operator) (a b : List ℕ) → Made op a b 0 (record { number = 0; raised = 2 ^ 53 ∷ 2 ^ 53 ∷ 2 ^ 53 ∷ 2 ^ 53 ∷ 2 ^ 53 ∷ [] })
-made-none-yet op a b = record { number = refl; five = refl; small = zero-small; below = λ j h. absurd (omega arith); behind = λ j h. zeros j }
+pub made-none-yet : (op : Operator) (a b : List ℕ) → Made op a b 0 (record { number = 0; raised = firstTwo (2 ^ 53) (2 ^ 53) })
+made-none-yet op a b = record {
+  number = refl;
+  five = refl;
+  small = two-small (2 ^ 53) (2 ^ 53) (lit≤ tt) (lit≤ tt);
+  below = λ j h. absurd (omega arith);
+  behind = λ j h. zeros j;
+}
   where
-    zeros : (j : ℕ) → raisedAt (2 ^ 53 ∷ 2 ^ 53 ∷ 2 ^ 53 ∷ 2 ^ 53 ∷ 2 ^ 53 ∷ []) j ≡ 2 ^ 53
+    zeros : (j : ℕ) → raisedAt (firstTwo (2 ^ 53) (2 ^ 53)) j ≡ 2 ^ 53
     zeros zero = refl
     zeros (suc zero) = refl
     zeros (suc (suc zero)) = refl
@@ -42,7 +49,7 @@ made-none-yet op a b = record { number = refl; five = refl; small = zero-small; 
     zeros (suc (suc (suc (suc (suc j))))) = refl
 
 -- what a test of the next one tells
-pub fits : (z : ℤ) (c : ℕ) → Raises z c → c ≤ 2 ^ 54 → pos c -ℤ pos (2 ^ 53) ≡ z
+pub fits : (z : ℤ) (c : ℕ) → Raises z c → c ≤ 2 ^ 54 → lowered c ≡ z
 fits z c (inl w) h = w .1
 fits z c (inr w) h = absurd (omega (arith, w .0))
 
@@ -52,7 +59,8 @@ too-large z c (inr w) h = w .1
 
 same-or-not : (j k : ℕ) → (j ≡ k) ⊎ (j ≡ k → ⊥)
 same-or-not j k =
-    ⊎-elim (λ (h : j ≤ k). ⊎-elim (λ (q : j ≡ k). inl q) (λ (q : j < k). inr (λ e. omega arith)) (eq-or-lt-of-le h)) (λ (h : k < j). inr (λ e. omega arith)) (le-or-lt j k)
+    ⊎-elim (λ (h : j ≤ k). ⊎-elim (λ (q : j ≡ k). inl q) (λ (q : j < k). inr (λ e. omega arith)) (eq-or-lt-of-le h))
+    (λ (h : k < j). inr (λ e. omega arith)) (le-or-lt j k)
 
 module _ (op : Operator) (a b : List ℕ) (k : ℕ) (r : Part) (w : Made op a b k r) (inside : k < 5) (c : ℕ) (h : c ≤ 2 ^ 54)
     (e : Raises (madeOf op (coefficientAt a) (coefficientAt b) k) c) where
@@ -67,13 +75,10 @@ module _ (op : Operator) (a b : List ℕ) (k : ℕ) (r : Part) (w : Made op a b 
     number = w .number;
     five = length-set (r .raised) k c ∙ w .five;
     small = λ j. ⊎-elim (λ (q : j ≡ k). rw (at-k j q) h) (λ (q : j ≡ k → ⊥). rw (at-other j q) (w .small j)) (same-or-not j k);
-    below = λ j g. ⊎-elim (λ (q : j ≡ k). ap kept (at-k j q) ∙ fits _ c e h ∙ ap (madeOf op (coefficientAt a) (coefficientAt b)) (sym q))
-        (λ (q : j ≡ k → ⊥). ap kept (at-other j q) ∙ w .below j (omega arith)) (same-or-not j k);
+    below = λ j g. ⊎-elim (λ (q : j ≡ k). ap lowered (at-k j q) ∙ fits _ c e h ∙ ap (madeOf op (coefficientAt a) (coefficientAt b)) (sym q))
+        (λ (q : j ≡ k → ⊥). ap lowered (at-other j q) ∙ w .below j (omega arith)) (same-or-not j k);
     behind = λ j g. at-other j (λ q. omega arith) ∙ w .behind j (omega arith);
   }
-    where
-      kept : ℕ → ℤ
-      kept x = pos x -ℤ pos (2 ^ 53)
 
 -- ---- all of it
 module _ (op : Operator) (a b : List ℕ) (m n : ℕ) (A : Ends a m) (B : Ends b n) where
@@ -133,7 +138,8 @@ pub power-none : (a : Part) → a .number ≡ 0 → limited (pos 1 ∷ []) ≡ p
 unfolding powerOf limited
 power-none a z = ap (λ (x : Value). powerOf x 0) (sym (value-exact a z))
 
-pub power-next : (a : Part) (k : ℕ) (x : Value) → a .number ≡ 0 → x ≡ powerOf (valueIn a) k → joined (operatorOf Product) x (valueIn a) ≡ powerOf (valueIn a) (k + 1)
+pub power-next : (a : Part) (k : ℕ) (x : Value) → a .number ≡ 0 → x ≡ powerOf (valueIn a) k
+    → joined (operatorOf Product) x (valueIn a) ≡ powerOf (valueIn a) (k + 1)
 unfolding powerOf
 power-next a k x z e =
     let f = value-exact a z in

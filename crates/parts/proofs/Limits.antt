@@ -39,7 +39,8 @@ limited-large p k z h =
     let large : 2 ^ 53 < natAbs (coefficientOf (trimmed p) k) = subst (λ (a : ℤ). 2 ^ 53 < natAbs a) (sym (trimmed-at p k)) h in
     rw (le-ltb 5 (length (trimmed p)) (trimmed-short 5 p z), some-large (trimmed p) k large)
 
-pub limited-exact : (p q : List ℤ) → ((k : ℕ) → coefficientOf p k ≡ coefficientOf q k) → length q ≤ 5 → ((k : ℕ) → natAbs (coefficientOf q k) ≤ 2 ^ 53) → limited p ≡ exact (trimmed q)
+pub limited-exact : (p q : List ℤ) → ((k : ℕ) → coefficientOf p k ≡ coefficientOf q k) → length q ≤ 5 → ((k : ℕ) → natAbs (coefficientOf q k) ≤ 2 ^ 53)
+    → limited p ≡ exact (trimmed q)
 unfolding limited
 limited-exact p q e l h =
     let small : (k : ℕ) → natAbs (coefficientOf (trimmed p) k) ≤ 2 ^ 53 = λ k. subst (λ (a : ℤ). natAbs a ≤ 2 ^ 53) (sym (trimmed-at p k ∙ e k)) (h k) in

@@ -16,12 +16,16 @@ use Rattle.parts.specs.Value.{Value, exact, refused}
 
 -- ---- coefficients, each kept as 2^53 more than it is
 
--- what is kept of that of t^k, which is zero beyond t^4
+-- what x is kept of
+abbrev pub lowered : ℕ → ℤ
+lowered x = pos x -ℤ pos (2 ^ 53)
+
+-- what is kept of the coefficient of t^k, which is zero beyond t^4
 abbrev pub raisedAt : List ℕ → ℕ → ℕ
 raisedAt l k = getD l k (2 ^ 53)
 
 abbrev pub coefficientAt : List ℕ → ℕ → ℤ
-coefficientAt l k = pos (raisedAt l k) -ℤ pos (2 ^ 53)
+coefficientAt l k = lowered (raisedAt l k)
 
 -- none is above 2^53 in size
 abbrev pub Small : List ℕ → Type 0
@@ -72,4 +76,4 @@ Excess a b r = (b + r ≡ a) ⊎ ((2 ^ 54 < r) × ((a < b) ⊎ (b + 2 ^ 54 < a))
 
 -- r is what is kept of z, but above 2^54 where z is above 2^53 in size
 abbrev pub Raises : ℤ → ℕ → Type 0
-Raises z r = ((r ≤ 2 ^ 54) × (pos r -ℤ pos (2 ^ 53) ≡ z)) ⊎ ((2 ^ 54 < r) × (2 ^ 53 < natAbs z))
+Raises z r = ((r ≤ 2 ^ 54) × (lowered r ≡ z)) ⊎ ((2 ^ 54 < r) × (2 ^ 53 < natAbs z))

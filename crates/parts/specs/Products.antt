@@ -1,4 +1,5 @@
--- The coefficients of a sum, a difference and a product, as code makes them; `made-at` says that they are those of `added`, `subtracted` and `multiplied`. Definitions only.
+-- The coefficients of a sum, a difference and a product, as code makes them; `made-at` says that they are those of `added`, `subtracted` and
+-- `multiplied`. Definitions only.
 use mathlib.Core.List.{List}
 use Prim.Native.Nat.{ℕ, zero, suc, _+_, _-_, max}
 use lib.IntN.{ℤ, pos, negℤ, _+ℤ_, _*ℤ_}

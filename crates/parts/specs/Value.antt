@@ -18,7 +18,8 @@ abbrev pub tooLarge : List ℤ → Bool
 tooLarge [] = false
 tooLarge (a ∷ p) = ltb (2 ^ 53) (natAbs a) || tooLarge p
 
--- '14, some part of it has degree above 4 after zero terms are dropped; 15, some coefficient of a part is above 2^53 in size'; '14 where one product meets both'
+-- '14, some part of it has degree above 4 after zero terms are dropped; 15, some coefficient of a part is above 2^53 in size'; '14 where one product
+-- meets both'
 unfoldable pub limited : List ℤ → Value
 limited p =
     let q = trimmed p in

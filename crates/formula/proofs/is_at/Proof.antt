@@ -1,3 +1,4 @@
+-- Inside the text or behind it.
 use borrow.Author.Tests.{lt-ltb, le-ltb}
 use Rattle.formula.specs.Readers.{isAt}
 use borrow.Author.Needs.{needs}

@@ -1,3 +1,4 @@
+-- By the byte.
 use mathlib.Core.Path.{sym, _∙_}
 use borrow.Author.Needs.{needs}
 use Rattle.formula.proofs.operator_at.Statement.{statement}

@@ -1,3 +1,4 @@
+-- By computing.
 use mathlib.Core.Path.{refl}
 use Rattle.formula.specs.Formula.{answeredOf}
 use Rattle.formula.proofs.refused.Statement.{statement}

@@ -1,3 +1,4 @@
+-- A letter where its byte comes first, else a number.
 use mathlib.Core.Path.{sym, _∙_}
 use native.Mathlib.Omega.{arith}
 use Rattle.formula.proofs.Bytes.{at-inside}
@@ -7,25 +8,13 @@ use Rattle.formula.proofs.unit.Statement.{statement}
 use Rattle.formula.proofs.unit.Tie as tie
 
 add-t4 : tie.Need-add-t4
-add-t4 c =
-    let a = c .before .before .before .args in
-    let h = at-inside (a .s .now) (a .at) 116 (sym (c .before .is-at .ensures) ∙ c .if1 .taken) in
-    omega arith
+add-t4 c = let inside = at-inside _ _ 116 (sym (c .before .is-at .ensures) ∙ c .if1 .taken) in omega arith
 
 returns : tie.Need-returns
-returns c =
-    let a = c .before .before .before .before .args in
-    let the-letter = c .letter in
-    let e = sym (c .before .before .is-at .ensures) ∙ c .before .if1 .taken in
-    let h = at-inside (a .s .now) (a .at) 116 e in
-    (record { low = omega arith; high = omega arith; sound = the-letter .ensures .1 }, unit-letter (a .s .now) (a .at) e (the-letter .result) (the-letter .ensures .0))
+returns c = let byte = c .before in unit-letter _ _ (sym (byte .before .is-at .ensures) ∙ byte .if1 .taken) _ (c .letter .ensures)
 
 returns-2 : tie.Need-returns-2
-returns-2 c =
-    let a = c .before .before .before .before .args in
-    let the-number = c .number in
-    (the-number .ensures .0, unit-number (a .s .now) (a .at) (the-number .result) (sym (c .before .before .is-at .ensures) ∙ c .before .if1 .left) (the-number .ensures .1))
+returns-2 c = let byte = c .before in unit-number _ _ (sym (byte .before .is-at .ensures) ∙ byte .if1 .left) _ (c .number .ensures)
 
 pub unit-spec : {M : Type 1} → statement M
-unit-spec =
-    tie.close (tie.spec (λ c κs. search needs) add-t4 (λ c κs. search needs) returns (λ c κs. search needs) returns-2)
+unit-spec = tie.close (tie.spec (λ c κs. search needs) add-t4 (λ c κs. search needs) returns (λ c κs. search needs) returns-2)

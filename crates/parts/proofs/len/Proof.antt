@@ -31,7 +31,8 @@ loop-again : tie.Need-loop-again Inv-loop μ-loop
 loop-again c =
     let test = c .before .before in
     let at = test .before .loop in
-    (omega arith, one-zero-more (test .before .before .args .t1 .raised) (search needs) (at .n) (test .loop-test .taken) (at .inv .0) (at .inv .1) (c .if1 .left))
+    let l = test .before .before .args .t1 .raised in
+    (omega arith, one-zero-more l (search needs) (at .n) (test .loop-test .taken) (at .inv .0) (at .inv .1) (c .if1 .left))
 
 returns-2 : tie.Need-returns-2 Inv-loop μ-loop
 returns-2 c =

@@ -48,7 +48,8 @@ loop-again : tie.Need-loop-again Inv-loop μ-loop
 loop-again c =
     let at = c .before .before .before .before in
     let start = at .before .before .before in
-    (search needs, added-turn _ _ _ _ _ (start .pre .0) (start .pre .1 .0) (at .loop .i) _ (at .loop .up) _ (search needs) (start .pre .1 .1) (at .loop .inv .1) (c .with-product .ensures))
+    let turn = added-turn _ _ _ _ _ (start .pre .0) (start .pre .1 .0) (at .loop .i) (search needs) (start .pre .1 .1) in
+    (search needs, turn _ (at .loop .up) _ (at .loop .inv .1) (c .with-product .ensures))
 
 excess-requires : tie.Need-excess-requires Inv-loop μ-loop
 excess-requires c κs = upper-product _ _ _ _ (c .mul .ensures .0) (c .before .before .loop .inv .1 .sum-small) (omega arith)
@@ -58,8 +59,8 @@ unfolding wordsOf
 returns c =
     let at = c .before .before .before in
     let start = at .before .before .before in
-    product-raised _ _ _ _ _ (start .pre .0) (start .pre .1 .0) (at .loop .i) (at .loop .sum) _ (at .loop .up) (at .loop .inv .0) (λ h. omega arith) (at .loop .inv .1)
-    (c .before .mul .ensures .0) _ (c .excess .ensures)
+    let law = product-raised _ _ _ _ _ (start .pre .0) (start .pre .1 .0) (at .loop .i) (at .loop .sum) _ (at .loop .up) in
+    law (at .loop .inv .0) (λ h. omega arith) (at .loop .inv .1) (c .before .mul .ensures .0) _ (c .excess .ensures)
 
 pub product-at-spec : {M : Type 1} → statement M
 product-at-spec =
