@@ -14,7 +14,7 @@ use Rattle.facts.specs.Lists.{drop-next}
 use Rattle.parts.specs.declared.Operator.the-variants.{Sum, Difference}
 use Rattle.parts.specs.Products.{operatorOf}
 use Rattle.formula.specs.Grammar.{isDigit, Sign, plus, minus}
-use Rattle.formula.specs.Expansion.{signOf}
+use Rattle.formula.specs.Parts.{signOf}
 use Rattle.formula.specs.Reading.{ifSome, after, afterSign, digitsOf, behindDigits}
 use Rattle.formula.specs.Readers.{isAt, signAt, digitAt, operatorAt}
 use Rattle.formula.proofs.Sound.{digits-are}

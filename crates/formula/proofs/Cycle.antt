@@ -17,9 +17,10 @@ use Rattle.parts.specs.Products.{operatorOf}
 use Rattle.parts.specs.Part.{valueIn}
 use Rattle.formula.specs.declared.Cursor.{Cursor}
 use Rattle.formula.specs.Grammar.{Sign, Sum, term, join, Term, factor, times, Factor}
-use Rattle.formula.specs.Expansion.{signOf, sumOf, termOf, factorOf}
+use Rattle.formula.specs.Parts.{signOf}
+use Rattle.formula.specs.Expansion.{sumOf, termOf, factorOf}
 use Rattle.formula.specs.Reading.{Read, fails, reads, andThen, ifSome, readUnit, readClosed, readSum, moreTerms, readTerm, moreFactors, readFactor}
-use Rattle.formula.specs.Readers.{isAt, signAt, operatorAt, Ahead, Meets, Reads, Based, Closed, Powered, Joined}
+use Rattle.formula.specs.Readers.{isAt, signAt, operatorAt, Ahead, HasRead, Reads, Based, Closed, Powered, Joined}
 use Rattle.formula.proofs.Bytes.{at-inside, sign-inside, after-true, after-false, sign-true, sign-false, signNext, operator-is}
 use Rattle.formula.proofs.Complete.{factors-end, terms-end}
 use Rattle.formula.proofs.Cursors.{unread, ahead-then}
@@ -73,7 +74,7 @@ pub record Far {A : Type 0} (read : ℕ → List ℕ → Read A) (more : ℕ →
 module _ {A B : Type 0} (read : ℕ → List ℕ → Read A) (more : ℕ → A → List ℕ → Read A) (value : A → Value) (readPart : ℕ → List ℕ → Read B)
     (part : B → Value) (n : ℕ) (some : 1 ≤ n) (few : n ≤ 3) (s : List ℕ) (at : ℕ) where
   -- the part x is read, and k makes a tree of it
-  so-far : (c d : Cursor) (x : Read B) (k : B → A) (g : ℕ) → Meets part s x d → c .read ≡ d .read → c .next ≡ d .next
+  so-far : (c d : Cursor) (x : Read B) (k : B → A) (g : ℕ) → HasRead part s x d → c .read ≡ d .read → c .next ≡ d .next
       → 3 * (length s - d .next) + 1 ≤ g → ((b : B) → c .read ≡ true → valueIn (d .part) ≡ part b → valueIn (c .part) ≡ value (k b))
       → SoFar more value s c (andThen x (λ b rest. more g (k b) rest))
   so-far c d fails k g m e i h v = inl (e ∙ m, refl)
@@ -119,11 +120,11 @@ module _ {A : Type 0} (read : ℕ → List ℕ → Read A) (more : ℕ → A →
       → Reads read value n s at c
   last end w = record { ahead = w .ahead; means = λ f h. met (read f (drop at s)) (w .far f h) }
     where
-      met : (x : Read A) → SoFar more value s c x → Meets value s x c
-      met x (inl v) = subst (λ (y : Read A). Meets value s y c) (sym (v .1)) (v .0)
+      met : (x : Read A) → SoFar more value s c x → HasRead value s x c
+      met x (inl v) = subst (λ (y : Read A). HasRead value s y c) (sym (v .1)) (v .0)
       met x (inr v) =
           let u = v .1 in
-          subst (λ (y : Read A). Meets value s y c) (sym (u .4 ∙ end (u .1) (u .0) (omega (arith, u .2)) (v .0))) (v .0, refl, u .3)
+          subst (λ (y : Read A). HasRead value s y c) (sym (u .4 ∙ end (u .1) (u .0) (omega (arith, u .2)) (v .0))) (v .0, refl, u .3)
 
 -- ---- whether one more comes
 -- c was read, and what t looks for comes next

@@ -18,10 +18,11 @@ use Rattle.parts.specs.Value.{exact, limited, powerOf}
 use Rattle.parts.specs.Part.{valueIn, Sound}
 use Rattle.formula.specs.declared.Cursor.{Cursor}
 use Rattle.formula.specs.Grammar.{isDigit, allDigits, isNumber, Number, Power, plain, power, Sum, Factor, number, letter, bracket}
-use Rattle.formula.specs.Expansion.{digitsFrom, poweredOf, sumOf, factorOf}
+use Rattle.formula.specs.Parts.{digitsFrom}
+use Rattle.formula.specs.Expansion.{poweredOf, sumOf, factorOf}
 use Rattle.formula.specs.Reading.{Read, fails, reads, andThen, ifSome, digitsOf, behindDigits, checked}
 use Rattle.formula.specs.Reading.{readDigit, readPower, readNumber, readUnit, readClosed}
-use Rattle.formula.specs.Readers.{isAt, digitAt, Ahead, Failed, Meets, Based, Closed, Powered}
+use Rattle.formula.specs.Readers.{isAt, digitAt, Ahead, Failed, HasRead, Based, Closed, Powered}
 use Rattle.formula.proofs.Bytes.{at-inside, digit-inside, digit-is, after-true, after-false, no-digit}
 use Rattle.formula.proofs.Bytes.{digits-true, digits-false, behind-true, behind-false}
 use Rattle.formula.proofs.Complete.{checked-true}
@@ -29,7 +30,7 @@ use Rattle.formula.proofs.Cursors.{unread, readTo, ahead-here, ahead-fa
 
 -- ---- brackets
 module _ (s : List ℕ) (inner : Cursor) (held : (inner .next ≤ length s) × Sound (inner .part)) where
-  not-fails : (x : Read Sum) → inner .read ≡ false → Meets sumOf s x inner → x ≡ fails
+  not-fails : (x : Read Sum) → inner .read ≡ false → HasRead sumOf s x inner → x ≡ fails
   not-fails fails e m = refl
   not-fails (reads a rest) e m = unread (inner .read) (m .0) e
 
@@ -81,10 +82,10 @@ module _ (s : List ℕ) (base : Cursor) (held : (base .next ≤ length s) × Sou
   -- by what was read before the power
   by-base : (c : Cursor) → (base .read ≡ false → c .read ≡ false)
       → ((make : Power → Factor) → base .read ≡ true → ((p : Power) → factorOf (make p) ≡ poweredOf p (valueIn (base .part)))
-      → Meets factorOf s (readPower make (drop (base .next) s)) c)
+      → HasRead factorOf s (readPower make (drop (base .next) s)) c)
       → Powered s base c
-  by-base c f g x (inl w) = subst (λ (y : Read Factor). Meets factorOf s y c) (sym (w .1)) (f (w .0))
-  by-base c f g x (inr w) = subst (λ (y : Read Factor). Meets factorOf s y c) (sym (w .1 .1)) (g (w .1 .0) (w .0) (w .1 .2))
+  by-base c f g x (inl w) = subst (λ (y : Read Factor). HasRead factorOf s y c) (sym (w .1)) (f (w .0))
+  by-base c f g x (inr w) = subst (λ (y : Read Factor). HasRead factorOf s y c) (sym (w .1 .1)) (g (w .1 .0) (w .0) (w .1 .2))
 
   by-caret : (Power → Factor) → Option (List ℕ) → Read Factor
   by-caret make o = ifSome o (reads (make plain) (drop (base .next) s)) (readDigit make)
@@ -98,8 +99,8 @@ module _ (s : List ℕ) (base : Cursor) (held : (base .next ≤ length s) × Sou
     powered-plain e = (ahead-here s base held, by-base base (λ f. f) is)
       where
         is : (make : Power → Factor) → base .read ≡ true → ((p : Power) → factorOf (make p) ≡ poweredOf p (valueIn (base .part)))
-            → Meets factorOf s (readPower make (drop (base .next) s)) base
-        is make u p = subst (λ (y : Read Factor). Meets factorOf s y base) (sym (ap (by-caret make) (after-false s (base .next) 94 e))) (t, refl, sym (p plain))
+            → HasRead factorOf s (readPower make (drop (base .next) s)) base
+        is make u p = subst (λ (y : Read Factor). HasRead factorOf s y base) (sym (ap (by-caret make) (after-false s (base .next) 94 e))) (t, refl, sym (p plain))
 
     module _ (e : isAt s (base .next) 94 ≡ true) where
       power-next : (make : Power → Factor) → readPower make (drop (base .next) s) ≡ readDigit make (drop (base .next + 1) s)
@@ -110,7 +111,7 @@ module _ (s : List ℕ) (base : Cursor) (held : (base .next ≤ length s) × Sou
       powered-none d c f = (
         ahead-failed s (base .next) c (held .0) f,
         by-base c (λ g. f .read) λ make u p.
-            subst (λ (y : Read Factor). Meets factorOf s y c) (sym (power-next make ∙ no-digit-read make s (base .next + 1) d)) (f .read),
+            subst (λ (y : Read Factor). HasRead factorOf s y c) (sym (power-next make ∙ no-digit-read make s (base .next + 1) d)) (f .read),
       )
 
       module _ (part : Part) where
@@ -122,7 +123,7 @@ module _ (s : List ℕ) (base : Cursor) (held : (base .next ≤ length s) × Sou
         powered-digit d k q v = (
           record { low = omega arith; high = omega (arith, digit-inside s (base .next + 1) d); sound = v .1 },
           by-base after (λ g. unread (base .read) t g) λ make u p.
-              subst (λ (y : Read Factor). Meets factorOf s y after) (sym (power-next make ∙ digit-read make s (base .next + 1) d is))
+              subst (λ (y : Read Factor). HasRead factorOf s y after) (sym (power-next make ∙ digit-read make s (base .next + 1) d is))
               (refl, ap (λ (i : ℕ). drop i s) two, v .0 ∙ ap (powerOf (valueIn (base .part))) q ∙ sym (p (power (getD s (base .next + 1) 0) is))),
         )
           where

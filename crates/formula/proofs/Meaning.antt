@@ -7,9 +7,8 @@ use Rattle.algebra.specs.RingInt.{ringℤ, #, _:+_, _:*_, _:=_}
 use Rattle.parts.specs.Polynomial.{valueAt}
 use Rattle.parts.proofs.Values.{added-value, subtracted-value, multiplied-value}
 use Rattle.formula.specs.Grammar.{Sign, plus, minus, Power, plain, power, Sum, term, join, Term, factor, times, Factor, number, letter, bracket}
-use Rattle.formula.specs.Expansion.{digitsFrom, signOf}
 use Rattle.formula.specs.Meaning.{signValue, powerAt, sumAt, termAt, factorAt}
-use Rattle.formula.specs.Parts.{variable, repeated, powerPolynomial, sumPolynomial, termPolynomial, factorPolynomial}
+use Rattle.formula.specs.Parts.{digitsFrom, signOf, variable, repeated, powerPolynomial, sumPolynomial, termPolynomial, factorPolynomial}
 
 module _ (x : ℤ) where
   sign-value : (g : Sign) (p q : List ℤ) → valueAt (signOf g p q) x ≡ signValue g (valueAt p x) (valueAt q x)

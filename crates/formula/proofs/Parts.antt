@@ -16,8 +16,8 @@ use Rattle.parts.specs.Products.{operatorOf}
 use Rattle.parts.specs.Value.{Value, exact, refused, limited, joined, powerOf}
 use Rattle.parts.proofs.Trimmed.{limited-ways, made-trimmed}
 use Rattle.formula.specs.Grammar.{Sign, plus, minus, Power, plain, power, Sum, term, join, Term, factor, times, Factor, number, letter, bracket}
-use Rattle.formula.specs.Expansion.{signOf, poweredOf, sumOf, termOf, factorOf}
-use Rattle.formula.specs.Parts.{constant, variable, repeated, powerPolynomial, sumPolynomial, termPolynomial, factorPolynomial}
+use Rattle.formula.specs.Expansion.{poweredOf, sumOf, termOf, factorOf}
+use Rattle.formula.specs.Parts.{signOf, constant, variable, repeated, powerPolynomial, sumPolynomial, termPolynomial, factorPolynomial}
 use Rattle.formula.specs.Parts.{products, powerParts, sumParts, termParts, factorParts}
 use Rattle.formula.specs.Parts.{High, Large, Meets, OnlyLarge, AllMeet, First, FirstHigh, FirstLarge}
 

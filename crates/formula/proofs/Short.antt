@@ -13,9 +13,8 @@ use Rattle.parts.specs.Value.{Value, exact, refused}
 use Rattle.parts.proofs.Coefficients.{trimmed-short}
 use Rattle.formula.specs.Grammar.{isNumber, plain, power, Sum, term, join, Term, factor, times, Factor, number, letter, bracket}
 use Rattle.formula.specs.Grammar.{signByte, powerText, sumText, termText, factorText, Derives}
-use Rattle.formula.specs.Expansion.{digitsFrom}
 use Rattle.formula.specs.Formula.{formulaOf}
-use Rattle.formula.specs.Parts.{sumPolynomial, factorPolynomial, Meets}
+use Rattle.formula.specs.Parts.{digitsFrom, sumPolynomial, factorPolynomial, Meets}
 use Rattle.formula.proofs.Texts.{meets-short, Way, no-sum, high, large, meets, way}
 
 -- ---- how long a text is, at least

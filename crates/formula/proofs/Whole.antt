@@ -13,7 +13,7 @@ use Rattle.formula.specs.Grammar.{Sum}
 use Rattle.formula.specs.Expansion.{sumOf}
 use Rattle.formula.specs.Reading.{Read, fails, reads, ifSome, readSum, whole, readingOf}
 use Rattle.formula.specs.Formula.{formulaOf, answeredOf, expandOf}
-use Rattle.formula.specs.Readers.{Meets, Reads}
+use Rattle.formula.specs.Readers.{HasRead, Reads}
 use Rattle.formula.proofs.Cursors.{unread}
 
 -- what is answered where x was read
@@ -25,7 +25,7 @@ module _ (s : List ℕ) (c : Cursor) (r : Reads readSum sumOf 3 s 0 c) where
   x : Read Sum
   x = readSum (3 * length s + 3) s
 
-  met : Meets sumOf s x c
+  met : HasRead sumOf s x c
   unfolding x
   met = r .means (3 * length s + 3) (omega arith)
 
@@ -37,7 +37,7 @@ module _ (s : List ℕ) (c : Cursor) (r : Reads readSum sumOf 3 s 0 c) where
   unfolding expandOf valueOf
   text-unread e y f = f ∙ ap answeredOf (sym (expanded ∙ go x met))
     where
-      go : (z : Read Sum) → Meets sumOf s z c → valueOf z ≡ refused 13
+      go : (z : Read Sum) → HasRead sumOf s z c → valueOf z ≡ refused 13
       go fails m = refl
       go (reads a rest) m = unread (c .read) (m .0) e
 
@@ -45,7 +45,7 @@ module _ (s : List ℕ) (c : Cursor) (r : Reads readSum sumOf 3 s 0 c) where
   unfolding expandOf valueOf
   text-longer e l y f = f ∙ ap answeredOf (sym (expanded ∙ go x met))
     where
-      go : (z : Read Sum) → Meets sumOf s z c → valueOf z ≡ refused 13
+      go : (z : Read Sum) → HasRead sumOf s z c → valueOf z ≡ refused 13
       go fails m = refl
       go (reads a []) m = let n : 0 ≡ length s - c .next = ap length (m .1) ∙ length-drop (c .next) s in absurd (omega arith)
       go (reads a (b ∷ rest)) m = refl
@@ -54,7 +54,7 @@ module _ (s : List ℕ) (c : Cursor) (r : Reads readSum sumOf 3 s 0 c) where
   unfolding expandOf valueOf
   text-read e l y f = f ∙ ap answeredOf (sym (expanded ∙ go x met))
     where
-      go : (z : Read Sum) → Meets sumOf s z c → valueOf z ≡ valueIn (c .part)
+      go : (z : Read Sum) → HasRead sumOf s z c → valueOf z ≡ valueIn (c .part)
       go fails m = unread (c .read) e m
       go (reads a []) m = sym (m .2)
       go (reads a (b ∷ rest)) m = let n : length (b ∷ rest) ≡ 0 = ap length (m .1 ∙ drop-of-length-le s {i = c .next} l) in absurd (omega arith)

@@ -1,7 +1,7 @@
 pub mod Grammar
-pub mod Expansion
+pub mod Parts
+pub mod Meaning
 pub mod Reading
+pub mod Expansion
 pub mod Formula
 pub mod Readers
-pub mod Meaning
-pub mod Parts

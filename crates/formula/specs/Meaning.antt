@@ -2,7 +2,7 @@
 use Prim.Native.Nat.{_-_}
 use lib.IntN.{ℤ, pos, _+ℤ_, _-ℤ_, _*ℤ_, pow}
 use Rattle.formula.specs.Grammar.{Sign, plus, minus, Power, plain, power, Sum, term, join, Term, factor, times, Factor, number, letter, bracket}
-use Rattle.formula.specs.Expansion.{digitsFrom}
+use Rattle.formula.specs.Parts.{digitsFrom}
 
 abbrev pub signValue : Sign → ℤ → ℤ → ℤ
 signValue plus y z = y +ℤ z

@@ -2,20 +2,28 @@
 -- Nothing is cut short here: a part behind one that is too high or too large is a part like any other. Definitions only.
 use mathlib.Core.Path.{_≡_}
 use mathlib.Core.List.{List, [], _∷_, _++_}
-use Prim.Native.Nat.{ℕ, zero, suc, _-_, _^_, _≤_, _<_}
+use Prim.Native.Nat.{ℕ, zero, suc, _+_, _-_, _*_, _^_, _≤_, _<_}
 use lib.ListN.{length, getD}
 use lib.IntN.{ℤ, pos, natAbs}
-use Rattle.parts.specs.Polynomial.{coefficientOf, multiplied}
-use Rattle.formula.specs.Grammar.{Number, Power, plain, power, Sum, term, join, Term, factor, times, Factor, number, letter, bracket}
-use Rattle.formula.specs.Expansion.{digitsFrom, signOf}
+use Rattle.parts.specs.Polynomial.{coefficientOf, added, subtracted, multiplied}
+use Rattle.formula.specs.Grammar.{Number, Sign, plus, minus, Power, plain, power, Sum, term, join, Term, factor, times, Factor, number, letter, bracket}
 
 -- ---- the polynomial
+
+-- digits read from the left, behind n
+abbrev pub digitsFrom : ℕ → List ℕ → ℕ
+digitsFrom n [] = n
+digitsFrom n (b ∷ s) = digitsFrom (10 * n + (b - 48)) s
 
 abbrev pub constant : Number → List ℤ
 constant n = pos (digitsFrom 0 (n .digits)) ∷ []
 
 abbrev pub variable : List ℤ
 variable = pos 0 ∷ pos 1 ∷ []
+
+abbrev pub signOf : Sign → List ℤ → List ℤ → List ℤ
+signOf plus p q = added p q
+signOf minus p q = subtracted p q
 
 -- 'a power as repeated products from 1', 'The power 0 gives 1'
 abbrev pub repeated : List ℤ → ℕ → List ℤ

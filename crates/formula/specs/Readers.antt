@@ -44,14 +44,14 @@ pub record Failed (at : ℕ) (c : Cursor) : Type 0 where
   pub sound : Sound (c .part)
 
 -- code has read what the definition reads
-abbrev pub Meets : {A : Type 0} → (A → Value) → List ℕ → Read A → Cursor → Type 0
-Meets value s fails c = c .read ≡ false
-Meets value s (reads a rest) c = (c .read ≡ true) × (rest ≡ drop (c .next) s) × (valueIn (c .part) ≡ value a)
+abbrev pub HasRead : {A : Type 0} → (A → Value) → List ℕ → Read A → Cursor → Type 0
+HasRead value s fails c = c .read ≡ false
+HasRead value s (reads a rest) c = (c .read ≡ true) × (rest ≡ drop (c .next) s) × (valueIn (c .part) ≡ value a)
 
 -- n more steps than three for each byte that is left are enough
 pub record Reads {A : Type 0} (read : ℕ → List ℕ → Read A) (value : A → Value) (n : ℕ) (s : List ℕ) (at : ℕ) (c : Cursor) : Type 0 where
   pub ahead : Ahead s at c
-  pub means : (f : ℕ) → 3 * (length s - at) + n ≤ f → Meets value s (read f (drop at s)) c
+  pub means : (f : ℕ) → 3 * (length s - at) + n ≤ f → HasRead value s (read f (drop at s)) c
 
 -- code has read all of a factor but its power, of which the definition reads x in the end
 abbrev pub Based : List ℕ → Cursor → Read Factor → Type 0
@@ -62,11 +62,11 @@ Based s c x =
 
 -- c has a sum that was read, and its closing bracket
 abbrev pub Closed : List ℕ → Cursor → Cursor → Type 0
-Closed s inner c = (x : Read Grammar.Sum) → Meets sumOf s x inner → Based s c (andThen x readClosed)
+Closed s inner c = (x : Read Grammar.Sum) → HasRead sumOf s x inner → Based s c (andThen x readClosed)
 
 -- c has a factor whose power was read too
 abbrev pub Powered : List ℕ → Cursor → Cursor → Type 0
-Powered s base c = (x : Read Factor) → Based s base x → Meets factorOf s x c
+Powered s base c = (x : Read Factor) → Based s base x → HasRead factorOf s x c
 
 -- c has what is joined of a and b, if b was read
 pub record Joined (op : Operator) (a b c : Cursor) : Type 0 where
