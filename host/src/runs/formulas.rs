@@ -100,6 +100,9 @@ pub fn add(outcome: &mut Outcome, text: &[u8], tol: f64) {
     outcome.inputs += 1;
     outcome.met.add(&cases(text, &coeffs, &list));
     outcome.add_roots(list.kinds());
+    if let Ok([count, all @ ..]) = &coeffs {
+        outcome.beside(&lists::by_untouched(&all[..*count as usize], tol), &list, true);
+    }
     if !same(&expanded, &coeffs) || !roots.same(&list) {
         outcome.differs(|| {
             let record = Record::Formula { tolerance: tol, text: text.to_vec() };
