@@ -62,7 +62,7 @@ number-spec =
     μ-loop
     (λ c. counted-none _ _ (c .before .pre))
     (λ c κs. search needs)
-    (λ c. c .before .before .loop .inv .low)
+    (λ c. search needs)
     (λ c κs. search needs)
     returns
     (λ c. omega (arith, counted-small _ _ _ _ (c .before .before .before .loop .inv)))

@@ -16,11 +16,6 @@ abbrev μ-loop : tie.MeasureT-loop
 loop-holds : tie.Need-loop-holds Inv-loop μ-loop
 loop-holds c = (search needs, made-none-yet _ _ _)
 
-made-at-requires : tie.Need-made-at-requires Inv-loop μ-loop
-made-at-requires c κs =
-    let start = c .before .before in
-    (start .pre .0, (start .pre .1 .0, omega arith))
-
 returns : tie.Need-returns Inv-loop μ-loop
 returns c =
     let one = c .before .before in
@@ -49,7 +44,7 @@ made-spec =
     Inv-loop
     μ-loop
     loop-holds
-    made-at-requires
+    (λ c κs. search needs)
     (λ c κs. search needs)
     returns
     (λ c. search needs)

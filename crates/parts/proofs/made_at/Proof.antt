@@ -16,6 +16,7 @@ add-excess-2 : tie.Need-add-excess-2
 add-excess-2 c =
     let start = c .before .before .before in
     let x = read-small _ _ _ (start .pre .0) (start .pre .1 .1) in
+    let y = read-small _ _ _ (start .pre .1 .0) (start .pre .1 .1) in
     omega arith
 
 returns : tie.Need-returns
