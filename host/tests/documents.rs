@@ -24,7 +24,7 @@ fn made_documents() {
 }
 
 /// They refuse, and require nothing.
-const ENTRY_POINTS: [&str; 14] = [
+const ENTRY_POINTS: [&str; 17] = [
     "poly::real_roots",
     "inquiry::start",
     "inquiry::ask",
@@ -39,6 +39,9 @@ const ENTRY_POINTS: [&str; 14] = [
     "crank::reply",
     "crank::crank",
     "listing::list_file",
+    "contact::pin_contact",
+    "formula::expand",
+    "formula_roots::formula_roots",
 ];
 
 #[test]

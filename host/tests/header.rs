@@ -157,7 +157,7 @@ fn structs() {
 fn refusals() {
     let (header, source) = (text("include/pongewaru.h"), text("crates/refusals/src/lib.rt"));
     let consts: Vec<&str> = source.split("pub const ").skip(1).collect();
-    assert_eq!(consts.len(), 13);
+    assert_eq!(consts.len(), 17);
     for one in consts {
         let (name, rest) = one.split_once(": u32 = ").expect("a number");
         let number = rest.split_once(';').expect("an end").0;

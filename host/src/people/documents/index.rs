@@ -54,8 +54,8 @@ const OTHERWISE: [(&str, Parts); 7] = [
     ("solve_square", &[("solve_square3", ""), ("solve_square4", "")]),
 ];
 
-/// What document 01 puts in the place of Rust's library, and what it adds.
-const ADDED: [(&str, Parts); 8] = [
+/// What document 01 puts in the place of Rust's library, and what it and document 02 add.
+const ADDED: [(&str, Parts); 10] = [
     ("the exponent", &[("exponent", "")]),
     ("the square root", &[("sqrt", "")]),
     ("the cube root", &[("cbrt", "")]),
@@ -78,6 +78,8 @@ const ADDED: [(&str, Parts); 8] = [
         ],
     ),
     ("the hall file", &[("list_file", ""), ("record_at", "")]),
+    ("the pin contact", &[("pin_contact", "")]),
+    ("the formula", &[("formula_roots", ""), ("formula::expand", "")]),
 ];
 
 const REST: &str = "'`polish_root` and the rest of 002 are left out'";
