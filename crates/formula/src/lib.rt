@@ -175,7 +175,7 @@ fn powered(s: &[u8], base: Cursor) -> Cursor
 
 // ---- joins
 
-// The result takes the place of the right operand, which is read first: 64 bytes of stack less for an open bracket.
+// The result takes the place of the right operand, which spares 64 bytes of stack for each open bracket.
 fn joined(op: Operator, left: Cursor, right: Cursor) -> Cursor
     requires { ⌜ Sound (left .part) ⌝ ∗ ⌜ Sound (right .part) ⌝ }
     ensures { λ r. ⌜ Joined op left right r ⌝ }
