@@ -1,5 +1,5 @@
-/* Pongewaru for C and C++: real roots of polynomials up to degree 4, quadratics, crank equations, pin contacts, formulas and hall files, as proved. docs/CONTRACTS.md
- * says what is proved of each function, and docs/HALL-FILE.md what a hall file is.
+/* Pongewaru for C and C++: real roots of polynomials up to degree 4, quadratics, crank equations, pin contacts, formulas and hall files, as proved.
+ * docs/CONTRACTS.md says what is proved of each function, and docs/HALL-FILE.md what a hall file is.
  *
  * Linking: `rt staticlib pongewaru` makes target/staticlib/libpongewaru.a, which holds all functions of the first part; it needs the C library alone.
  *

@@ -415,13 +415,13 @@ pub record Kinds : Type 0 where
 
 -- ---- request Three, 'Formulas as mechanics write them'
 
--- `Formulas`, over the trees of the grammar and their parts: 'The texts that reach it are exactly those the grammar derives that meet the limits below, with one
--- reading each. Errors: 13, the text is not a sum; 14, some part of it has degree above 4 after zero terms are dropped; 15, some coefficient of a part is above
--- 2^53 in size. 13 comes before the others, and of 14 and 15 the one met first decides, 14 where one product meets both', each exactly there, then the list's 2,
--- and no other number. 'Expansion is exact over whole numbers'; 'The result, zero being +0, goes to the list operation'; demand 1. So demand 3 covers these
--- roots through the list, and so do the kinds of request Two: none is a brush, since nothing is asked. 'A record TX holds a length byte 0 to 255, a tolerance
--- and that much ASCII', 'whose answer or refusal prints like PL': the line of a file of one such record, and of one whose length byte or later bytes are
--- missing, '7, fewer bytes than the record needs'. `rows` and `order`: what some texts come to, and the parts of one.
+-- `Formulas`, over the trees of the grammar and their parts: 'The texts that reach it are exactly those the grammar derives that meet the limits below, with
+-- one reading each. Errors: 13, the text is not a sum; 14, some part of it has degree above 4 after zero terms are dropped; 15, some coefficient of a part is
+-- above 2^53 in size. 13 comes before the others, and of 14 and 15 the one met first decides, 14 where one product meets both', each exactly there, then the
+-- list's 2, and no other number. 'Expansion is exact over whole numbers'; 'The result, zero being +0, goes to the list operation'; demand 1. So demand 3
+-- covers these roots through the list, and so do the kinds of request Two: none is a brush, since nothing is asked. 'A record TX holds a length byte 0 to 255,
+-- a tolerance and that much ASCII', 'whose answer or refusal prints like PL': the line of a file of one such record, and of one whose length byte or later
+-- bytes are missing, '7, fewer bytes than the record needs'. `rows` and `order`: what some texts come to, and the parts of one.
 pub record TypedFormulas : Type 0 where
   pub every : (s : List ℕ) (tol : Float) → Formulas s tol
   pub polished : (s : List ℕ) (tol : Float) → formulaRootsOf s tol .number ≡ 0 → NotWorsened (handedOn (formulaOf s)) tol

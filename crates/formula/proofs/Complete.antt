@@ -9,8 +9,10 @@ use lib.Dec.{T, eqb, eqb→eq}
 use lib.ListN.{length, length-append}
 use lib.Ieee.Bits.{is-true}
 use lib.Ieee.Fits.{and-l, and-r}
-use Rattle.formula.specs.Grammar.{isDigit, allDigits, isNumber, Number, Sign, plus, minus, Power, plain, power, Sum, term, join, Term, factor, times, Factor, number, letter, bracket, signByte, powerText, sumText, termText, factorText}
-use Rattle.formula.specs.Reading.{Read, fails, reads, andThen, ifSome, after, afterSign, digitsOf, behindDigits, checked, numberOf, readDigit, readPower, readNumber, readUnit, readClosed, readSum, moreTerms, readTerm, moreFactors, readFactor, whole, readingOf}
+use Rattle.formula.specs.Grammar.{isDigit, allDigits, isNumber, Number, Sign, plus, minus, Power, plain, power, signByte}
+use Rattle.formula.specs.Grammar.{Sum, term, join, Term, factor, times, Factor, number, letter, bracket, powerText, sumText, termText, factorText}
+use Rattle.formula.specs.Reading.{Read, fails, reads, andThen, ifSome, after, afterSign, digitsOf, behindDigits, checked, numberOf, readDigit, readPower}
+use Rattle.formula.specs.Reading.{readNumber, readUnit, readClosed, readSum, moreTerms, readTerm, moreFactors, readFactor, whole, readingOf}
 use Rattle.formula.proofs.Sound.{digits-are}
 
 -- no digit and no ^ comes next
@@ -53,8 +55,10 @@ power-ends (power d t) rest e = refl
 number-read : (n : Number) (p : Power) (rest : List ℕ) → Ends rest → readNumber (n .digits ++ (powerText p ++ rest)) ≡ reads (number n p) rest
 number-read n p rest e =
     let all : T (allDigits (n .digits)) = and-l (allDigits (n .digits)) _ (n .number) in
-    ap (λ (d : List ℕ). ifSome (numberOf d) fails (λ m. readPower (number m) (behindDigits (n .digits ++ (powerText p ++ rest))))) (digits-of (n .digits) (powerText p ++ rest) all (power-ends p rest e))
-    ∙ ap (λ (o : Option Number). ifSome o fails (λ m. readPower (number m) (behindDigits (n .digits ++ (powerText p ++ rest))))) (checked-true {A = Number} (isNumber (n .digits)) (λ t. record { digits = n .digits; number = t }) (n .number))
+    ap (λ (d : List ℕ). ifSome (numberOf d) fails (λ m. readPower (number m) (behindDigits (n .digits ++ (powerText p ++ rest)))))
+    (digits-of (n .digits) (powerText p ++ rest) all (power-ends p rest e))
+    ∙ ap (λ (o : Option Number). ifSome o fails (λ m. readPower (number m) (behindDigits (n .digits ++ (powerText p ++ rest)))))
+    (checked-true {A = Number} (isNumber (n .digits)) (λ t. record { digits = n .digits; number = t }) (n .number))
     ∙ ap (λ (s : List ℕ). readPower (number n) s) (behind-of (n .digits) (powerText p ++ rest) all (power-ends p rest e))
     ∙ power-read (number n) p rest (e .no-power)
 
@@ -99,14 +103,17 @@ join-step a g b rest (suc n) l r =
     let k : 3 * length rest + 2 ≤ n = left-over (termText b) rest 2 n m in (
       n,
       omega arith,
-      ap (λ (o : Option (Sign × List ℕ)). ifSome o (reads a (signByte g ∷ termText b ++ rest)) (λ w. andThen (readTerm n (w .1)) (λ c u. moreTerms n (join a (w .0) c) u))) (sign-read g (termText b ++ rest))
+      ap (λ (o : Option (Sign × List ℕ)).
+          ifSome o (reads a (signByte g ∷ termText b ++ rest)) (λ w. andThen (readTerm n (w .1)) (λ c u. moreTerms n (join a (w .0) c) u)))
+          (sign-read g (termText b ++ rest))
           ∙ ap (λ (x : Read Term). andThen x (λ c u. moreTerms n (join a g c) u)) (r n m),
     )
 
 pub terms-end : (n : ℕ) (a : Sum) (s : List ℕ) → 1 ≤ n → afterSign s ≡ none → moreTerms n a s ≡ reads a s
 unfolding readSum
 terms-end zero a s l e = absurd (omega arith)
-terms-end (suc n) a s l e = ap (λ (o : Option (Sign × List ℕ)). ifSome o (reads a s) (λ w. andThen (readTerm n (w .1)) (λ b rest. moreTerms n (join a (w .0) b) rest))) e
+terms-end (suc n) a s l e =
+    ap (λ (o : Option (Sign × List ℕ)). ifSome o (reads a s) (λ w. andThen (readTerm n (w .1)) (λ b rest. moreTerms n (join a (w .0) b) rest))) e
 
 sign-ends : (g : Sign) (u : List ℕ) → Ends (signByte g ∷ u)
 sign-ends plus u = record { no-power = refl; no-digit = refl }
@@ -147,7 +154,8 @@ mutual
       let v = times-step a b rest (w .0) (w .1) (λ m l. factor-read b rest e m l) in
       (v .0, v .1, ap (λ (x : List ℕ). readTerm f x) same ∙ w .2 ∙ v .2)
 
-  factor-read : (a : Factor) (rest : List ℕ) → Ends rest → (f : ℕ) → 3 * length (factorText a ++ rest) + 1 ≤ f → readFactor f (factorText a ++ rest) ≡ reads a rest
+  factor-read : (a : Factor) (rest : List ℕ) → Ends rest → (f : ℕ) → 3 * length (factorText a ++ rest) + 1 ≤ f
+      → readFactor f (factorText a ++ rest) ≡ reads a rest
   factor-read (number n p) rest e zero h = absurd (omega arith)
   factor-read (number n p) rest e (suc f) h =
       let same = append-assoc (n .digits) (powerText p) rest in
@@ -158,7 +166,8 @@ mutual
   factor-read (bracket a p) rest e (suc f) h =
       let same = append-assoc (sumText a) (41 ∷ powerText p) rest in
       let l : 3 * length ((sumText a ++ 41 ∷ powerText p) ++ rest) + 3 ≤ f = omega arith in
-      let w = sum-then a (41 ∷ powerText p ++ rest) (record { no-power = refl; no-digit = refl }) refl f (subst (λ (x : List ℕ). 3 * length x + 3 ≤ f) same l) in
+      let ends : Ends (41 ∷ powerText p ++ rest) = record { no-power = refl; no-digit = refl } in
+      let w = sum-then a (41 ∷ powerText p ++ rest) ends refl f (subst (λ (x : List ℕ). 3 * length x + 3 ≤ f) same l) in
       ap (λ (x : List ℕ). andThen (readSum f x) readClosed) same
       ∙ ap (λ (x : Read Sum). andThen x readClosed) (w .2 ∙ terms-end (w .0) a (41 ∷ powerText p ++ rest) (omega (arith, w .1)) refl)
       ∙ power-read (bracket a) p rest (e .no-power)

@@ -100,7 +100,8 @@ module _ (s : List ℕ) (base : Cursor) (held : (base .next ≤ length s) × Sou
       where
         is : (make : Power → Factor) → base .read ≡ true → ((p : Power) → factorOf (make p) ≡ poweredOf p (valueIn (base .part)))
             → HasRead factorOf s (readPower make (drop (base .next) s)) base
-        is make u p = subst (λ (y : Read Factor). HasRead factorOf s y base) (sym (ap (by-caret make) (after-false s (base .next) 94 e))) (t, refl, sym (p plain))
+        is make u p =
+            subst (λ (y : Read Factor). HasRead factorOf s y base) (sym (ap (by-caret make) (after-false s (base .next) 94 e))) (t, refl, sym (p plain))
 
     module _ (e : isAt s (base .next) 94 ≡ true) where
       power-next : (make : Power → Factor) → readPower make (drop (base .next) s) ≡ readDigit make (drop (base .next + 1) s)

@@ -6,8 +6,10 @@ use mathlib.Core.Option.{Option, none, some, Option·some-injective, Option·non
 use Prim.Native.Nat.{ℕ, zero, suc, _+_, _*_}
 use lib.Dec.{T, eqb, eqb→eq}
 use lib.ListN.{length}
-use Rattle.formula.specs.Grammar.{isDigit, isNumber, Number, Sign, plus, minus, Power, plain, power, Sum, term, join, Term, factor, times, Factor, number, letter, bracket, signByte, powerText, sumText, termText, factorText}
-use Rattle.formula.specs.Reading.{Read, fails, reads, andThen, ifSome, after, afterSign, digitsOf, behindDigits, checked, numberOf, readDigit, readPower, readNumber, readUnit, readClosed, readSum, moreTerms, readTerm, moreFactors, readFactor, whole, readingOf}
+use Rattle.formula.specs.Grammar.{isDigit, isNumber, Number, Sign, plus, minus, Power, plain, power, signByte, powerText, sumText, termText, factorText}
+use Rattle.formula.specs.Grammar.{Sum, term, join, Term, factor, times, Factor, number, letter, bracket}
+use Rattle.formula.specs.Reading.{Read, fails, reads, andThen, ifSome, after, afterSign, digitsOf, behindDigits, checked, numberOf, readDigit, readPower}
+use Rattle.formula.specs.Reading.{readNumber, readUnit, readClosed, readSum, moreTerms, readTerm, moreFactors, readFactor, whole, readingOf}
 
 -- ---- what was read and what is left are the text s
 abbrev Held : {A : Type 0} → (A → List ℕ) → List ℕ → Read A → Type 0
@@ -15,7 +17,8 @@ Held text s fails = Unit {0}
 Held text s (reads a rest) = text a ++ rest ≡ s
 
 module _ {A B : Type 0} (read : A → List ℕ) (text : B → List ℕ) (s t : List ℕ) where
-  held-then : (x : Read A) (k : A → List ℕ → Read B) → Held read s x → ((a : A) (rest : List ℕ) → read a ++ rest ≡ s → Held text t (k a rest)) → Held text t (andThen x k)
+  held-then : (x : Read A) (k : A → List ℕ → Read B) → Held read s x
+      → ((a : A) (rest : List ℕ) → read a ++ rest ≡ s → Held text t (k a rest)) → Held text t (andThen x k)
   held-then fails k h f = tt
   held-then (reads a rest) k h f = f a rest h
 
@@ -38,10 +41,15 @@ after-is b (c ∷ s) u e =
 sign-is : (s : List ℕ) (w : Sign × List ℕ) → afterSign s ≡ some w → s ≡ signByte (w .0) ∷ (w .1)
 sign-is s w = go (after 43 s) (after 45 s) refl refl
   where
-    go : (o p : Option (List ℕ)) → after 43 s ≡ o → after 45 s ≡ p → ifSome o (ifSome p none (λ u. some (minus, u))) (λ u. some (plus, u)) ≡ some w → s ≡ signByte (w .0) ∷ (w .1)
+    go : (o p : Option (List ℕ)) → after 43 s ≡ o → after 45 s ≡ p
+        → ifSome o (ifSome p none (λ u. some (minus, u))) (λ u. some (plus, u)) ≡ some w → s ≡ signByte (w .0) ∷ (w .1)
     go none none d e f = absurd (Option·none-ne-some w f)
-    go none (some u) d e f = let g : (minus, u) ≡ w = Option·some-injective (minus, u) w f in after-is 45 s u e ∙ ap (λ (x : Sign × List ℕ). signByte (x .0) ∷ (x .1)) g
-    go (some u) p d e f = let g : (plus, u) ≡ w = Option·some-injective (plus, u) w f in after-is 43 s u d ∙ ap (λ (x : Sign × List ℕ). signByte (x .0) ∷ (x .1)) g
+    go none (some u) d e f =
+        let g : (minus, u) ≡ w = Option·some-injective (minus, u) w f in
+        after-is 45 s u e ∙ ap (λ (x : Sign × List ℕ). signByte (x .0) ∷ (x .1)) g
+    go (some u) p d e f =
+        let g : (plus, u) ≡ w = Option·some-injective (plus, u) w f in
+        after-is 43 s u d ∙ ap (λ (x : Sign × List ℕ). signByte (x .0) ∷ (x .1)) g
 
 pub digits-are : (s : List ℕ) → digitsOf s ++ behindDigits s ≡ s
 digits-are [] = refl
@@ -96,10 +104,12 @@ mutual
 
   terms-held : (f : ℕ) (a : Sum) (s : List ℕ) → Held sumText (sumText a ++ s) (moreTerms f a s)
   terms-held zero a s = tt
-  terms-held (suc f) a s = held-if sumText (sumText a ++ s) (afterSign s) (reads a s) (λ w. andThen (readTerm f (w .1)) (λ b rest. moreTerms f (join a (w .0) b) rest)) (λ e. refl)
+  terms-held (suc f) a s =
+      held-if sumText (sumText a ++ s) (afterSign s) (reads a s) (λ w. andThen (readTerm f (w .1)) (λ b rest. moreTerms f (join a (w .0) b) rest)) (λ e. refl)
       (λ w e. held-then termText sumText (w .1) (sumText a ++ s) (readTerm f (w .1)) (λ b rest. moreTerms f (join a (w .0) b) rest) (term-held f (w .1))
       (λ b rest d. subst (λ (x : List ℕ). Held sumText x (moreTerms f (join a (w .0) b) rest))
-      (append-assoc (sumText a) (signByte (w .0) ∷ termText b) rest ∙ ap (λ (x : List ℕ). sumText a ++ signByte (w .0) ∷ x) d ∙ ap (λ (x : List ℕ). sumText a ++ x) (sym (sign-is s w e)))
+      (append-assoc (sumText a) (signByte (w .0) ∷ termText b) rest ∙ ap (λ (x : List ℕ). sumText a ++ signByte (w .0) ∷ x) d
+      ∙ ap (λ (x : List ℕ). sumText a ++ x) (sym (sign-is s w e)))
       (terms-held f (join a (w .0) b) rest)))
 
   term-held : (f : ℕ) (s : List ℕ) → Held termText s (readTerm f s)
@@ -109,17 +119,20 @@ mutual
 
   factors-held : (f : ℕ) (a : Term) (s : List ℕ) → Held termText (termText a ++ s) (moreFactors f a s)
   factors-held zero a s = tt
-  factors-held (suc f) a s = held-if termText (termText a ++ s) (after 42 s) (reads a s) (λ u. andThen (readFactor f u) (λ b rest. moreFactors f (times a b) rest)) (λ e. refl)
+  factors-held (suc f) a s =
+      held-if termText (termText a ++ s) (after 42 s) (reads a s) (λ u. andThen (readFactor f u) (λ b rest. moreFactors f (times a b) rest)) (λ e. refl)
       (λ u e. held-then factorText termText u (termText a ++ s) (readFactor f u) (λ b rest. moreFactors f (times a b) rest) (factor-held f u)
       (λ b rest d. subst (λ (x : List ℕ). Held termText x (moreFactors f (times a b) rest))
-      (append-assoc (termText a) (42 ∷ factorText b) rest ∙ ap (λ (x : List ℕ). termText a ++ 42 ∷ x) d ∙ ap (λ (x : List ℕ). termText a ++ x) (sym (after-is 42 s u e)))
+      (append-assoc (termText a) (42 ∷ factorText b) rest ∙ ap (λ (x : List ℕ). termText a ++ 42 ∷ x) d
+      ∙ ap (λ (x : List ℕ). termText a ++ x) (sym (after-is 42 s u e)))
       (factors-held f (times a b) rest)))
 
   factor-held : (f : ℕ) (s : List ℕ) → Held factorText s (readFactor f s)
   factor-held zero s = tt
   factor-held (suc f) s = held-if factorText s (after 40 s) (readUnit s) (λ u. andThen (readSum f u) readClosed) (λ e. unit-held s)
       (λ u e. held-then sumText factorText u s (readSum f u) readClosed (sum-held f u)
-      (λ a rest d. subst (λ (x : List ℕ). Held factorText x (readClosed a rest)) (ap (λ (x : List ℕ). 40 ∷ x) d ∙ sym (after-is 40 s u e)) (closed-held a rest)))
+      (λ a rest d. subst (λ (x : List ℕ). Held factorText x (readClosed a rest)) (ap (λ (x : List ℕ). 40 ∷ x) d ∙ sym (after-is 40 s u e))
+      (closed-held a rest)))
 
 pub reading-is : (s : List ℕ) (a : Sum) → readingOf s ≡ some a → sumText a ≡ s
 unfolding readingOf

@@ -1,5 +1,5 @@
--- What printing needs of the solver's answers: at most four roots, short numbers, k below 8. Of lists, that they have fewer roots than coefficients; of formulas,
--- at most one root more than bytes.
+-- What printing needs of the solver's answers: at most four roots, short numbers, k below 8. Of lists, that they have fewer roots than coefficients; of
+-- formulas, at most one root more than bytes.
 use mathlib.Core.Path.{_≡_, refl, sym, subst}
 use mathlib.Core.Bool.{Bool, true, false, cond}
 use mathlib.Core.Logic.{_⊎_, ⊎-elim}
