@@ -136,10 +136,17 @@ fn at_fault(text: &[u8], fault: &Fault) -> String {
                 quoted(&text[part.clone()])
             )
         }
-        Fault::Size { part, coefficient, power } => format!(
-            "{} comes to {coefficient} t^{power}, and a coefficient is at most 2^53 in size",
-            quoted(&text[part.clone()])
-        ),
+        Fault::Size { part, coefficient, power } => {
+            let of = match power {
+                0 => String::new(),
+                1 => " t".to_string(),
+                _ => format!(" t^{power}"),
+            };
+            format!(
+                "{} comes to {coefficient}{of}, and a coefficient is at most 2^53 in size",
+                quoted(&text[part.clone()])
+            )
+        }
     }
 }
 
@@ -290,7 +297,7 @@ mod tests {
             (
                 b"90071992*100000000+54740993+1",
                 15,
-                &format!("`90071992*100000000+54740993` comes to 9007199254740993 t^0, {most}"),
+                &format!("`90071992*100000000+54740993` comes to 9007199254740993, {most}"),
             ),
             (b"(t-t)*t", 2, "no equation: the formula comes to 0, whatever t is"),
             (b"2-9", 2, "no equation: the formula comes to -7, whatever t is"),
