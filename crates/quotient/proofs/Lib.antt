@@ -1,4 +1,5 @@
 pub mod Terms
+pub mod InPlace
 pub mod Counts
 pub mod Merging
 pub mod Checked

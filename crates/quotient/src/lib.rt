@@ -4,8 +4,9 @@ ghost use mathlib.Core.Path.{_≡_};
 ghost use Prim.Native.Nat.{_+_, _^_, _≤_, _<_, min};
 ghost use lib.IntN.{natAbs};
 ghost use lib.ListN.{length};
+ghost use Rattle.facts.specs.Arrays.{fromFn};
 ghost use Rattle.factors.specs.Factors.{degreeOf, Sized};
-ghost use Rattle.quotient.specs.Quotient.{nextAt, mulOf, productOf, accOf, quotientOf, usableOf, mergedOf};
+ghost use Rattle.quotient.specs.Quotient.{nextAt, mulOf, productOf, quotientOf, usableOf, mergedOf};
 use factors::Factors;
 
 // The polynomial l[0] + l[1]*y + .. + l[dl]*y^dl.
@@ -14,41 +15,35 @@ pub struct Monic {
     pub dl: usize,
 }
 
-// One coefficient of a product.
-fn next_at(l: [f64; 5], dl: usize, f: &[f64], k: usize) -> f64
-    requires { ⌜ k < 5 ⌝ }
-    ensures { λ r. ⌜ r ≡ nextAt l dl (now (f .entry)) k ⌝ }
+// l times f in place, from the top coefficient down: coefficient k is made of l[k] and those below it, and none of them is overwritten yet.
+// The zeros after l[dl] are not multiplied: times an infinite coefficient of f they would be NaNs.
+fn mul_in_place(l: &mut [f64; 5], dl: usize, f: &[f64])
+    requires { ⌜ length (now l) ≡ 5 ⌝ }
+    ensures { λ _. ⌜ now (l .exit) ≡ fromFn 5 (nextAt (now (l .entry)) dl (now (f .entry))) ⌝ }
 {
-    let mut acc = 0.0;
-    let mut j = f.len();
-    while 0 < j {
-        j -= 1;
-        if j <= k {
-            if k - j <= dl {
+    let mut k = 5;
+    while 0 < k {
+        k -= 1;
+        let mut acc = 0.0;
+        let mut j = f.len();
+        while 0 < j {
+            j -= 1;
+            if j <= k && k - j <= dl {
                 acc = acc + l[k - j] * f[j];
             }
         }
+        l[k] = acc;
     }
-    acc
 }
 
 pub fn mul(p: Monic, f: &[f64]) -> Monic
     requires { ⌜ (0 < length (now f)) × (p .dl + length (now f) ≤ 5) ⌝ }
     ensures { λ r. ⌜ r ≡ mulOf p (now (f .entry)) ⌝ }
 {
-    let l = p.l;
-    let dl = p.dl;
-    let next = [
-        next_at(l, dl, f, 0),
-        next_at(l, dl, f, 1),
-        next_at(l, dl, f, 2),
-        next_at(l, dl, f, 3),
-        next_at(l, dl, f, 4),
-    ];
-    Monic {
-        l: next,
-        dl: dl + (f.len() - 1),
-    }
+    let mut m = p;
+    mul_in_place(&mut m.l, p.dl, f);
+    m.dl = p.dl + (f.len() - 1);
+    m
 }
 
 pub fn product(large: Factors) -> Monic
@@ -61,13 +56,17 @@ pub fn product(large: Factors) -> Monic
     };
     let mut i = 0;
     while i < large.nlin {
-        p = mul(p, &[-large.lin[i], 1.0]);
+        let dl = p.dl;
+        mul_in_place(&mut p.l, dl, &[-large.lin[i], 1.0]);
+        p.dl = dl + 1;
         i += 1;
     }
     let mut k = 0;
     while k < large.nquad {
         let q = large.quad[k];
-        p = mul(p, &[q.be, q.al, 1.0]);
+        let dl = p.dl;
+        mul_in_place(&mut p.l, dl, &[q.be, q.al, 1.0]);
+        p.dl = dl + 2;
         k += 1;
     }
     p
@@ -79,31 +78,22 @@ fn smaller(a: usize, b: usize) -> usize
     if a <= b { a } else { b }
 }
 
-// g[i] less the products that the coefficients found so far make.
-fn acc_at(g: [f64; 5], p: Monic, s: [f64; 5], i: usize) -> f64
-    requires { ⌜ i < 5 ⌝ }
-    ensures { λ r. ⌜ r ≡ accOf g p s i ⌝ }
-{
-    let m = smaller(i, p.dl);
-    let l = p.l;
-    let mut acc = g[i];
-    let mut j = 1;
-    while j < m + 1 {
-        acc = acc - l[j] * s[i - j];
-        j += 1;
-    }
-    acc
-}
-
+// The inner loop takes off g[i] the products that the coefficients found so far make.
 pub fn quotient(g: [f64; 5], p: Monic, small: usize) -> [f64; 5]
     requires { ⌜ small ≤ 4 ⌝ }
     ensures { λ r. ⌜ r ≡ quotientOf g p small ⌝ }
 {
-    let l = p.l;
     let mut s = [0.0; 5];
     let mut i = 0;
     while i < small + 1 {
-        s[i] = acc_at(g, p, s, i) / l[0];
+        let m = smaller(i, p.dl);
+        let mut acc = g[i];
+        let mut j = 1;
+        while j < m + 1 {
+            acc = acc - p.l[j] * s[i - j];
+            j += 1;
+        }
+        s[i] = acc / p.l[0];
         i += 1;
     }
     s
