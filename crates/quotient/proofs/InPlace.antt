@@ -62,6 +62,13 @@ module _ (dl : ℕ) (f : List Float) where
   pub all-placed : (l : List Float) → length l ≡ 5 → countDown putNext 5 l ≡ fromFn 5 (nextAt l dl f)
   all-placed l e = placed 5 l (omega arith) ∙ ap (λ (r : List Float). fromFn 5 (nextAt l dl f) ++ r) (drop-of-length-le l {i = 5} (omega arith))
 
+  -- t of them are put, and k = 4 - t is next
+  pub next-placed : (t : ℕ) (l : List Float) → t < 5 → countDown putNext (5 - t) l ≡ countDown putNext (5 - (t + 1)) (putNext (4 - t) l)
+  unfolding countDown
+  next-placed t l h =
+      ap (λ (n : ℕ). countDown putNext n l) (let e : 5 - t ≡ suc (4 - t) = omega arith in e)
+      ∙ ap (λ (n : ℕ). countDown putNext n (putNext (4 - t) l)) (let e : 4 - t ≡ 5 - (t + 1) = omega arith in e)
+
 pub mul-is : (p : Monic) (f : List Float) (l : List Float) → l ≡ fromFn 5 (nextAt (p .l) (p .dl) f) → record { l = l; dl = p .dl + (length f - 1) } ≡ mulOf p f
 unfolding mulOf
 mul-is p f l e = λ i. record { l = e i; dl = p .dl + (length f - 1) }

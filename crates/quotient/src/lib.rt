@@ -15,24 +15,30 @@ pub struct Monic {
     pub dl: usize,
 }
 
+fn smaller(a: usize, b: usize) -> usize
+    ensures { λ r. ⌜ (r ≡ min a b) × (r ≤ a) ⌝ }
+{
+    if a <= b { a } else { b }
+}
+
 // l times f in place, from the top coefficient down: coefficient k is made of l[k] and those below it, and none of them is overwritten yet.
-// The zeros after l[dl] are not multiplied: times an infinite coefficient of f they would be NaNs.
+// From low on k - j is at most dl: the zeros after l[dl] are not multiplied, which an infinite coefficient of f would make NaNs.
 fn mul_in_place(l: &mut [f64; 5], dl: usize, f: &[f64])
     requires { ⌜ length (now l) ≡ 5 ⌝ }
     ensures { λ _. ⌜ now (l .exit) ≡ fromFn 5 (nextAt (now (l .entry)) dl (now (f .entry))) ⌝ }
 {
-    let mut k = 5;
-    while 0 < k {
-        k -= 1;
+    let mut t = 0;
+    while t < 5 {
+        let k = 4 - t;
+        let low = k - smaller(k, dl);
+        let mut j = smaller(f.len(), k + 1);
         let mut acc = 0.0;
-        let mut j = f.len();
-        while 0 < j {
+        while low < j {
             j -= 1;
-            if j <= k && k - j <= dl {
-                acc = acc + l[k - j] * f[j];
-            }
+            acc = acc + l[k - j] * f[j];
         }
         l[k] = acc;
+        t += 1;
     }
 }
 
@@ -70,12 +76,6 @@ pub fn product(large: Factors) -> Monic
         k += 1;
     }
     p
-}
-
-fn smaller(a: usize, b: usize) -> usize
-    ensures { λ r. ⌜ (r ≡ min a b) × (r ≤ a) ⌝ }
-{
-    if a <= b { a } else { b }
 }
 
 // The inner loop takes off g[i] the products that the coefficients found so far make.
