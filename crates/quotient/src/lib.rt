@@ -42,6 +42,7 @@ fn mul_in_place(l: &mut [f64; 5], dl: usize, f: &[f64])
     }
 }
 
+// The same of a product by value.
 pub fn mul(p: Monic, f: &[f64]) -> Monic
     requires { ⌜ (0 < length (now f)) × (p .dl + length (now f) ≤ 5) ⌝ }
     ensures { λ r. ⌜ r ≡ mulOf p (now (f .entry)) ⌝ }
