@@ -45,10 +45,7 @@ pub fn list(r: &mut Random, which: usize, n: u64) -> List {
             });
             usable(r, p, d)
         }
-        9 => {
-            let p = grouped(r, steep, 1);
-            usable(r, p, steep)
-        }
+        9 => with_small_roots(r, steep),
         10 => {
             let p = grouped(r, 4, 2);
             usable(r, p, 4)
@@ -76,6 +73,12 @@ pub fn list(r: &mut Random, which: usize, n: u64) -> List {
             usable(r, p, 4)
         }
     }
+}
+
+/// A list of degree d, 3 or 4, some of whose roots are smaller by far than the others, or nearly so.
+pub fn with_small_roots(r: &mut Random, d: usize) -> List {
+    let p = grouped(r, d, 1);
+    usable(r, p, d)
 }
 
 /// p up to the degree d; what is not finite becomes 1, and so does a first or last zero, or the

@@ -172,23 +172,26 @@ fn factors(_: &mut Random) -> Vec<Row> {
 }
 
 /// Whole lists of degree 2, 3 and 4, at the tolerance 2^-30: with coefficients from -1 to 1, with
-/// whole ones from -6 to 6, and with real roots alone, from -2 to 2.
+/// whole ones from -6 to 6, with real roots alone, from -2 to 2, and with some roots smaller by far
+/// than the others, which most of these lists factor twice for.
 #[cfg(geomcore)]
 fn lists(r: &mut Random) -> Vec<Row> {
     use crate::compare::answer::LIST;
+    use crate::inputs::lists::with_small_roots;
     use crate::inputs::polynomials::polynomial;
     use reference::untouched::poly::real_roots;
-    const NAMES: [[&str; 3]; 3] = [
-        ["list 2, uniform", "list 2, whole", "list 2, real roots"],
-        ["list 3, uniform", "list 3, whole", "list 3, real roots"],
-        ["list 4, uniform", "list 4, whole", "list 4, real roots"],
+    const NAMES: [&[&str]; 3] = [
+        &["list 2, uniform", "list 2, whole", "list 2, real roots"],
+        &["list 3, uniform", "list 3, whole", "list 3, real roots", "list 3, small roots"],
+        &["list 4, uniform", "list 4, whole", "list 4, real roots", "list 4, small roots"],
     ];
     let tol = 1.0 / (1u64 << 30) as f64;
     let make = |r: &mut Random, mix, d: usize| -> [f64; 5] {
         let mut p = match mix {
             0 => std::array::from_fn(|_| 2.0 * r.unit() - 1.0),
             1 => std::array::from_fn(|_| r.below(13) as f64 - 6.0),
-            _ => polynomial(r, 1, d).0,
+            2 => polynomial(r, 1, d).0,
+            _ => with_small_roots(r, d).0,
         };
         p[d] = if p[d] == 0.0 { 1.0 } else { p[d] };
         p
@@ -196,7 +199,8 @@ fn lists(r: &mut Random) -> Vec<Row> {
     let mut rows = Vec::new();
     for (d, names) in (2..).zip(NAMES) {
         let most = if d == 4 { 1.4 } else { 2.0 };
-        for (mix, name) in names.into_iter().enumerate() {
+        for (mix, name) in names.iter().enumerate() {
+            let aim = if mix < 3 { Aim::Times(most) } else { Aim::Open };
             let inputs: Vec<_> = (0..FACTORED).map(|_| make(r, mix, d)).collect();
             let inputs: Vec<_> = inputs.into_iter().map(|p| (p, port::forty(p))).collect();
             let port = |(_, bytes): ([f64; 5], [u8; 40])| {
@@ -207,7 +211,7 @@ fn lists(r: &mut Random) -> Vec<Row> {
             let rust = |(p, _): ([f64; 5], [u8; 40])| {
                 real_roots(&p[..=d], tol).first().map_or(0.0, |root| root.value)
             };
-            rows.push(row((name, "geomcore's"), Aim::Times(most), &inputs, port, rust));
+            rows.push(row((name, "geomcore's"), aim, &inputs, port, rust));
         }
     }
     rows
