@@ -3,4 +3,3 @@ pub mod InPlace
 pub mod Counts
 pub mod Merging
 pub mod Checked
-pub mod Vectors

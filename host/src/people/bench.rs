@@ -173,7 +173,7 @@ fn factors(_: &mut Random) -> Vec<Row> {
 
 /// Whole lists of degree 2, 3 and 4, at the tolerance 2^-30: with coefficients from -1 to 1, with
 /// whole ones from -6 to 6, with real roots alone, from -2 to 2, and with some roots smaller by far
-/// than the others, which most of these lists factor twice for.
+/// than the others, most of which are scaled and factored twice.
 #[cfg(geomcore)]
 fn lists(r: &mut Random) -> Vec<Row> {
     use crate::compare::answer::LIST;
