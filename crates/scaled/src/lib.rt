@@ -97,9 +97,9 @@ fn coefficients(a: [f64; 5], d: usize, e: i32, top: i32) -> [f64; 5]
     ]
 }
 
-fn monic_at(f: &[f64; 5], d: usize, i: usize) -> f64
+fn monic_at(f: [f64; 5], d: usize, i: usize) -> f64
     requires { ⌜ d ≤ 4 ⌝ }
-    ensures { λ r. ⌜ r ≡ monicAt (now (f .entry)) d i ⌝ }
+    ensures { λ r. ⌜ r ≡ monicAt f d i ⌝ }
 {
     if i < d {
         return f[i] / f[d];
@@ -115,11 +115,11 @@ fn monic(f: [f64; 5], d: usize) -> [f64; 5]
     ensures { λ r. ⌜ r ≡ monicOf f d ⌝ }
 {
     [
-        monic_at(&f, d, 0),
-        monic_at(&f, d, 1),
-        monic_at(&f, d, 2),
-        monic_at(&f, d, 3),
-        monic_at(&f, d, 4),
+        monic_at(f, d, 0),
+        monic_at(f, d, 1),
+        monic_at(f, d, 2),
+        monic_at(f, d, 3),
+        monic_at(f, d, 4),
     ]
 }
 

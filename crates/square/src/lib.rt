@@ -74,9 +74,9 @@ fn lose3(row: &mut [f64; 3], factor: f64, p: &[f64; 3], col: usize)
 }
 
 // The row of the pivot in column col.
-fn pivot3(m: &[[f64; 3]; 3], col: usize) -> usize
+fn pivot3(m: [[f64; 3]; 3], col: usize) -> usize
     requires { ⌜ col < 3 ⌝ }
-    ensures { λ r. ⌜ (r ≡ pivotOf 3 (now (m .entry)) col) × (r < 3) ⌝ }
+    ensures { λ r. ⌜ (r ≡ pivotOf 3 m col) × (r < 3) ⌝ }
 {
     let mut pivot = col;
     let mut row = col + 1;
@@ -113,7 +113,7 @@ pub fn solve_square3(m: [[f64; 3]; 3], b: [f64; 3], tol: f64) -> Step3
     let mut s = b;
     let mut col = 0;
     while col < 3 {
-        let pivot = pivot3(&a, col);
+        let pivot = pivot3(a, col);
         let up = a[pivot];
         let down = a[col];
         a[col] = up;
@@ -162,9 +162,9 @@ fn lose4(row: &mut [f64; 4], factor: f64, p: &[f64; 4], col: usize)
 }
 
 // The row of the pivot in column col.
-fn pivot4(m: &[[f64; 4]; 4], col: usize) -> usize
+fn pivot4(m: [[f64; 4]; 4], col: usize) -> usize
     requires { ⌜ col < 4 ⌝ }
-    ensures { λ r. ⌜ (r ≡ pivotOf 4 (now (m .entry)) col) × (r < 4) ⌝ }
+    ensures { λ r. ⌜ (r ≡ pivotOf 4 m col) × (r < 4) ⌝ }
 {
     let mut pivot = col;
     let mut row = col + 1;
@@ -201,7 +201,7 @@ pub fn solve_square4(m: [[f64; 4]; 4], b: [f64; 4], tol: f64) -> Step4
     let mut s = b;
     let mut col = 0;
     while col < 4 {
-        let pivot = pivot4(&a, col);
+        let pivot = pivot4(a, col);
         let up = a[pivot];
         let down = a[col];
         a[col] = up;

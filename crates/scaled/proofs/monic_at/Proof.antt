@@ -7,7 +7,7 @@ use Rattle.scaled.proofs.monic_at.Tie as tie
 
 returns : tie.Need-returns
 unfolding monicAt
-returns c = rw (lt-ltb _ _ (c .before .before .if1 .taken))
+returns c = rw (lt-ltb _ _ (c .if1 .taken))
 
 returns-2 : tie.Need-returns-2
 unfolding monicAt

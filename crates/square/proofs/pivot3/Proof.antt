@@ -9,10 +9,10 @@ use Rattle.square.proofs.pivot3.Statement.{statement}
 use Rattle.square.proofs.pivot3.Tie as tie
 
 abbrev Inv-loop : tie.InvT-loop
-Inv-loop m col pivot₀ row₀ pivot row = (row ≤ 3) × (pivot < 3) × (countUp 3 (pivotStep m col) (3 - row) pivot ≡ pivotOf 3 m col)
+Inv-loop col m pivot₀ row₀ pivot row = (row ≤ 3) × (pivot < 3) × (countUp 3 (pivotStep m col) (3 - row) pivot ≡ pivotOf 3 m col)
 
 abbrev μ-loop : tie.MeasureT-loop
-μ-loop m col pivot₀ row₀ pivot row = 3 - row
+μ-loop col m pivot₀ row₀ pivot row = 3 - row
 
 loop-holds : tie.Need-loop-holds Inv-loop μ-loop
 unfolding pivotOf

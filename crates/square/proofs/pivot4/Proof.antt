@@ -9,10 +9,10 @@ use Rattle.square.proofs.pivot4.Statement.{statement}
 use Rattle.square.proofs.pivot4.Tie as tie
 
 abbrev Inv-loop : tie.InvT-loop
-Inv-loop m col pivot₀ row₀ pivot row = (row ≤ 4) × (pivot < 4) × (countUp 4 (pivotStep m col) (4 - row) pivot ≡ pivotOf 4 m col)
+Inv-loop col m pivot₀ row₀ pivot row = (row ≤ 4) × (pivot < 4) × (countUp 4 (pivotStep m col) (4 - row) pivot ≡ pivotOf 4 m col)
 
 abbrev μ-loop : tie.MeasureT-loop
-μ-loop m col pivot₀ row₀ pivot row = 4 - row
+μ-loop col m pivot₀ row₀ pivot row = 4 - row
 
 loop-holds : tie.Need-loop-holds Inv-loop μ-loop
 unfolding pivotOf
