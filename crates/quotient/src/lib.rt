@@ -23,6 +23,7 @@ fn smaller(a: usize, b: usize) -> usize
 
 // l times f in place, from the top coefficient down: coefficient k is made of l[k] and those below it, and none of them is overwritten yet.
 // From low on k - j is at most dl: the zeros after l[dl] are not multiplied, which an infinite coefficient of f would make NaNs.
+// The length is required, since a function is not told that of an array that it is lent.
 fn mul_in_place(l: &mut [f64; 5], dl: usize, f: &[f64])
     requires { ⌜ length (now l) ≡ 5 ⌝ }
     ensures { λ _. ⌜ now (l .exit) ≡ fromFn 5 (nextAt (now (l .entry)) dl (now (f .entry))) ⌝ }

@@ -1,7 +1,7 @@
 -- `quotient::quotient` is its definition: the products left, taken off the present number, give what is divided; the coefficients left, found from the
 -- present ones, give the quotient.
 use mathlib.Core.Path.{_≡_, sym, _∙_}
-use Prim.Native.Nat.{_+_, _-_, _≤_, _<_, min}
+use Prim.Native.Nat.{_+_, _-_, _≤_, _<_}
 use native.Mathlib.Nat.{sub-zero, add-sub-cancel}
 use Rattle.facts.specs.Count.{countUp, up-turn, up-end}
 use Rattle.quotient.specs.Quotient.{lessAt, accOf, quotientStep, quotientOf}
