@@ -1,5 +1,7 @@
 // The clustering band of a scaled polynomial: `noise`, `band` and `within_band` of poly.rs.
 // It rests on the leaves, `horner` and `scaled`; `critical`, `push` and `finish` rest on it.
+#![tactic(auto)]
+
 ghost use Rattle.std.specs.Prelude.{◌≡◌, ◌≤◌};
 ghost use Rattle.band.specs.Band.{magnitude_of, budget_of, kth_root_of, radius_step, radius_of, noise_within, noise_of, base_of, band_of, within_band_of, bare};
 

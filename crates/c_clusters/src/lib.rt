@@ -3,6 +3,8 @@
 // stored, where the doubles have fewer bytes or the degree is above 4. No C function here requires anything.
 // `rt staticlib c_clusters` makes of them one of the archives that the test host links. It rests on the crates whose functions it hands out, and on
 // `lent_bytes`; `pongewaru` rests on it.
+#![tactic(auto)]
+
 ghost use Rattle.std.specs.Prelude.{◌≡◌, false, ◌^◌, ◌≤◌, ◌<◌, length};
 ghost use Rattle.std.specs.Float.{nan};
 ghost use Rattle.roots.specs.Roots.{kind_number, list_of};
@@ -18,8 +20,8 @@ ghost use Rattle.c_clusters.specs.Clustering.{pairs_at, root_numbers, found_numb
 use lent_bytes::{five_at, lacks_five, store};
 
 fn poly_at(a: &[u8], d: u64) -> scaled::Scaled
-    requires fact_1 { 40 ≤ length a.now }
-    requires fact_2 { d ≤ 4 }
+    requires a_length { 40 ≤ length a.now }
+    requires d_high { d ≤ 4 }
     ensures { (result ≡ poly_at a.now d) × (result.d ≤ 4) }
 {
     scaled::Scaled::new(five_at(a), d as usize)
@@ -94,8 +96,8 @@ pub extern "C" fn pongewaru_polish(a: &[u8], d: u64, y: f64, gap: f64) -> f64
 
 // The double at place i, and the byte at place i behind four doubles.
 fn candidate_at(c: &[u8], i: usize) -> roots::RealRoot
-    requires fact_1 { 36 ≤ length c.now }
-    requires fact_2 { i < 4 }
+    requires c_length { 36 ≤ length c.now }
+    requires i_high { i < 4 }
     ensures { (result ≡ candidate_at c.now i) × (result.multiplicity < 256) }
 {
     let value = float::f64_at(c, 8 * i);
@@ -187,8 +189,8 @@ pub fn root_numbers(s: roots::Roots) -> [f64; 13]
 }
 
 fn found_numbers(s: push::Found) -> [f64; 18]
-    requires fact_1 { Fits s.roots }
-    requires fact_2 { PairsFit s.pairs }
+    requires fits { Fits s.roots }
+    requires pairs_fit { PairsFit s.pairs }
     ensures { result ≡ found_numbers s }
 {
     let x = root_numbers(s.roots);

@@ -1,6 +1,8 @@
 // Layer 1 as C functions on numbers and byte slices, under the contracts of what they pass on to: the leaves (scaling, exponent, roots, logarithm, third
 // angle) here, Rust's methods on f64 in `floats`. No C function here requires anything. `rt staticlib c_leaves` makes of them one of the archives that the
 // test host links. It rests on the crates whose functions it hands out, and on `lent_bytes`; `leafcases` rests on it.
+#![tactic(auto)]
+
 ghost use Rattle.std.specs.Prelude.{◌≡◌, [], ltb, length};
 ghost use Rattle.ldexp.specs.Scale.{ldexp_of};
 ghost use Rattle.decode.specs.Exponent.{exponent_of};

@@ -1,5 +1,7 @@
 // Where a ball on a path meets a pin: request One of document 02. The quartic in t of path and circle is asked about as any list is, and each question replied
 // to by the ball's distance. It rests on `sqrt`, `poly` (solve) and `inquiry`, which asks and lists; the hall file and the C functions rest on it.
+#![tactic(auto)]
+
 ghost use Rattle.std.specs.Prelude.{◌≡◌};
 ghost use Rattle.roots.specs.Roots.{list_of};
 ghost use Rattle.roots.specs.Listed.{Within};
@@ -7,7 +9,7 @@ ghost use Rattle.poly.specs.Coefficients.{degree_left};
 ghost use Rattle.contact.specs.Contact.{seen_of, coefficients_of, distance_of, touches_of, listed_of, refused_contact, made_of, pin_contact_of};
 
 // The ball is at x0 + x1*t + x2*t^2 across, and likewise y along.
-#[derive(Drop)]
+#[derive(Clone, Copy)]
 pub struct Path {
     pub x0: f64,
     pub x1: f64,
@@ -18,7 +20,7 @@ pub struct Path {
 }
 
 // Its centre and its radius.
-#[derive(Drop)]
+#[derive(Clone, Copy)]
 pub struct Circle {
     pub cx: f64,
     pub cy: f64,

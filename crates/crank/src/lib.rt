@@ -1,5 +1,7 @@
 // solve_trig of equation.rs up to its list, as an inquiry: k in eighths of a turn, and roots u, where t = k*PI/4 + 2*atan(u).
 // It rests on `trig_quartic` (k, and the quartic in u) and on `inquiry`, which asks and lists as for any list; the programs rest on it.
+#![tactic(auto)]
+
 ghost use Rattle.std.specs.Prelude.{◌≡◌, cond, eqb};
 ghost use Rattle.roots.specs.Roots.{list_of};
 ghost use Rattle.roots.specs.Listed.{Within};
@@ -7,21 +9,21 @@ ghost use Rattle.poly.specs.Coefficients.{degree_left};
 ghost use Rattle.crank.specs.Crank.{trig_quartic_of, crank_start_of, crank_asked_of, crank_replied_of, crank_shown_of, crank_of};
 
 // k, and the inquiry about the quartic in u.
-#[derive(Drop)]
+#[derive(Clone, Copy)]
 pub struct CrankInquiry {
     pub k: u32,
     pub inquiry: inquiry::Inquiry,
 }
 
 // An inquiry, and 0; or the number of the refusal, and an inquiry that asks nothing and lists nothing.
-#[derive(Drop)]
+#[derive(Clone, Copy)]
 pub struct CrankStarted {
     pub number: u32,
     pub crank: CrankInquiry,
 }
 
 // A question about the place u for this k, or the finished list.
-#[derive(Drop)]
+#[derive(Clone, Copy)]
 pub struct CrankAsked {
     pub asking: bool,
     pub k: u32,
@@ -30,14 +32,14 @@ pub struct CrankAsked {
 }
 
 // The inquiry after a reply; number is 0, or 4 where nothing was being asked.
-#[derive(Drop)]
+#[derive(Clone, Copy)]
 pub struct CrankReplied {
     pub number: u32,
     pub crank: CrankInquiry,
 }
 
 // The number of the start, 0 or that of its refusal; k, and what is shown.
-#[derive(Drop)]
+#[derive(Clone, Copy)]
 pub struct CrankShown {
     pub number: u32,
     pub k: u32,
@@ -45,7 +47,7 @@ pub struct CrankShown {
 }
 
 // A refusal's number, 0 where there is none; k is 0 and no root is there where refused.
-#[derive(Drop)]
+#[derive(Clone, Copy)]
 pub struct CrankAnswer {
     pub number: u32,
     pub k: u32,

@@ -1,12 +1,14 @@
 // Where the slope of a scaled polynomial is zero: `critical_point` and `extremum` of poly.rs, and the place of a double root.
 // It rests on `horner`, `refine`, `scaled` and `band`; `push` and `touching` rest on it.
+#![tactic(auto)]
+
 ghost use Rattle.std.specs.Prelude.{◌≡◌, ◌≤◌};
 ghost use Rattle.facts.specs.Turns.{turns_of};
 ghost use Rattle.band.specs.Band.{bare};
 ghost use Rattle.critical.specs.Critical.{is_between_of, critical_next, critical_point_of, extremum_of, double_at};
 
 // The Rust's Option.
-#[derive(Drop)]
+#[derive(Clone, Copy)]
 pub enum TurningPoint {
     At(f64),
     None,

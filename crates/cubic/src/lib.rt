@@ -1,5 +1,7 @@
 // Monic cubics, `cubic_closed_form` and `cubic_factor` of poly.rs, on all bits: a closed form gives a start, and Newton's method on the factors' coefficients
 // refines it. It rests on the leaves and `refine`; `quartic`, `isolated` and `factorize` rest on it.
+#![tactic(auto)]
+
 ghost use Rattle.std.specs.Prelude.{◌≡◌, ◌||◌};
 ghost use Rattle.std.specs.Float.Ieee.{lt, le};
 ghost use Rattle.float.specs.Literals.{zero64};
@@ -7,7 +9,7 @@ ghost use Rattle.cubic.specs.Cubic.{cardano_of, one_root_of, three_roots_of, cub
 ghost use Rattle.cubic.specs.Cubic.{isolation_among, most_isolated_of, over_or, cubic_factor_of};
 
 // The first n places hold roots.
-#[derive(Drop)]
+#[derive(Clone, Copy)]
 pub struct CubicRoots {
     pub root: [f64; 3],
     pub n: usize,
@@ -74,7 +76,7 @@ pub fn cubic_closed_form(b: f64, c: f64, d: f64) -> CubicRoots
 }
 
 // (y - r) * (y^2 + e*y + f)
-#[derive(Drop)]
+#[derive(Clone, Copy)]
 pub struct CubicFactor {
     pub r: f64,
     pub e: f64,

@@ -1,11 +1,13 @@
 // A double taken apart into whole numbers: the one place where an exponent is read from the highest set bit.
 // It rests on `float` (units_of); square root, cube root, third angle, logarithm and scaling rest on it.
+#![tactic(auto)]
+
 ghost use Rattle.std.specs.Prelude.{◌≡◌};
 ghost use Rattle.decode.specs.Exponent.{exponent_of};
 ghost use Rattle.decode.specs.Shape.{Decoded};
 
 // w * 2^k / 2^52 units of 2^-1074.
-#[derive(Drop)]
+#[derive(Clone, Copy)]
 pub struct Digits {
     pub w: u64,
     pub k: u64,

@@ -1,5 +1,7 @@
 // equation.rs on all bits: quadratics with a caller's tolerances.
 // It rests on `refusals`, `float`, `sqrt` and `solution`; the hall file and the C functions rest on it.
+#![tactic(auto)]
+
 ghost use Rattle.std.specs.Prelude.{◌≡◌};
 ghost use Rattle.equation.specs.Quadratic.{quadratic_centre_of, linear_of, is_grazing_of, two_of, solve_quadratic_of, refused_quadratic, quadratic_of};
 
@@ -68,7 +70,7 @@ pub fn solve_quadratic(a: f64, b: f64, c: f64, confusion: f64, angular: f64) -> 
 }
 
 // A refusal's number, 0 where there is none; Empty where refused.
-#[derive(Drop)]
+#[derive(Clone, Copy)]
 pub struct QuadraticAnswer {
     pub number: u32,
     pub solution: QuadraticSolution,

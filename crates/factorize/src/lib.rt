@@ -1,5 +1,7 @@
 // factorize of poly.rs: the real factors of a scaled polynomial, and where a gap parts its roots by size, those of the small roots from a second scaling.
 // It rests on `cubic`, `quartic`, `isolated`, `scaled`, `split`, `factors`, `large_factors` and `quotient`; solving rests on it.
+#![tactic(auto)]
+
 ghost use Rattle.std.specs.Prelude.{◌≡◌, ◌≤◌, ◌<◌};
 ghost use Rattle.factorize.specs.Factorize.{cubic_factors_of, quartic_factors_of, out_of, factorize_of};
 ghost use Rattle.factorize.specs.Discs.{disc_at, rooted_of};
@@ -14,7 +16,7 @@ fn cubic_factors(b: f64, c: f64, d: f64) -> factors::Factors
 }
 
 // Factors, and the discriminants of the quadratic ones.
-#[derive(Drop)]
+#[derive(Clone, Copy)]
 pub struct Rooted {
     pub f: factors::Factors,
     pub disc: [isolated::Disc; 2],

@@ -1,17 +1,19 @@
 // Factors of poly.rs: linear and quadratic ones, by value, with their counts.
 // It rests on `float`; the large factors, their product and factorize rest on it.
+#![tactic(auto)]
+
 ghost use Rattle.std.specs.Prelude.{◌≡◌};
 ghost use Rattle.factors.specs.Factors.{no_factors, push_lin_of, push_quad_of, degree_of, Sized};
 
 // y^2 + al*y + be
-#[derive(Drop)]
+#[derive(Clone, Copy)]
 pub struct Quad {
     pub al: f64,
     pub be: f64,
 }
 
 // The first nlin of `lin` are factors y - r, and the first nquad of `quad` quadratic ones.
-#[derive(Drop)]
+#[derive(Clone, Copy)]
 pub struct Factors {
     pub lin: [f64; 4],
     pub nlin: usize,

@@ -1,6 +1,8 @@
 // Scaled::finish of poly.rs: the candidates in order, the simple ones polished, and runs of them within the band joined.
 // Each place is named by its number, so that the compiler keeps the roots in registers.
 // It rests on `roots`, `polish` and `band`; the lists and the inquiry rest on it.
+#![tactic(auto)]
+
 ghost use Rattle.std.specs.Prelude.{◌≡◌, [], ◌∷◌, ◌+◌, ◌^◌, ◌≤◌, ◌<◌, take};
 ghost use Rattle.facts.specs.Arrays.{from_fn};
 ghost use Rattle.float.specs.Methods.{min_of};
@@ -14,7 +16,7 @@ use roots::{RealRoot, Roots};
 use scaled::Scaled;
 
 // The places of the runs that have ended, and the run at hand.
-#[derive(Drop)]
+#[derive(Clone, Copy)]
 struct Run {
     out: Roots,
     at: RealRoot,
@@ -145,8 +147,8 @@ fn polished_by(poly: Scaled, r: RealRoot, gap: f64) -> RealRoot
 }
 
 fn polished(poly: Scaled, o: Roots) -> Roots
-    requires fact_1 { poly.d ≤ 4 }
-    requires fact_2 { o.len ≤ 4 }
+    requires poly_d_high { poly.d ≤ 4 }
+    requires o_len_high { o.len ≤ 4 }
     ensures { (list_of result ≡ polished_of 4 poly (from_fn o.len (ordered_at (list_of o)))) × (result.len ≡ o.len) }
 {
     if o.len == 0 {
@@ -200,8 +202,8 @@ fn join(a: RealRoot, b: RealRoot) -> RealRoot
 
 // The next place b joins the run, or ends it and begins the next one.
 fn next_run(poly: Scaled, run: Run, b: RealRoot, tol: f64) -> Run
-    requires fact_1 { poly.d ≤ 4 }
-    requires fact_2 { run.at.multiplicity + b.multiplicity < 2 ^ 32 }
+    requires poly_d_high { poly.d ≤ 4 }
+    requires sum_high { run.at.multiplicity + b.multiplicity < 2 ^ 32 }
     ensures { result ≡ next_run poly run b tol }
 {
     let out = run.out;
@@ -216,8 +218,8 @@ fn next_run(poly: Scaled, run: Run, b: RealRoot, tol: f64) -> Run
 
 // Place k comes next.
 fn run_at(poly: Scaled, run: Run, p: Roots, k: usize, tol: f64) -> Run
-    requires fact_1 { poly.d ≤ 4 }
-    requires fact_2 { (p.len ≤ 4) × (k < p.len) × Joining poly tol p k run }
+    requires poly_d_high { poly.d ≤ 4 }
+    requires joining { (p.len ≤ 4) × (k < p.len) × Joining poly tol p k run }
     ensures { Joining poly tol p (k + 1) result }
 {
     next_run(poly, run, p.root[k], tol)
@@ -232,8 +234,8 @@ fn ended(run: Run) -> Roots
 }
 
 fn joined(poly: Scaled, p: Roots, tol: f64) -> Roots
-    requires fact_1 { poly.d ≤ 4 }
-    requires fact_2 { (p.len ≤ 4) × (multiplicities (list_of p) < 2 ^ 32) }
+    requires poly_d_high { poly.d ≤ 4 }
+    requires p_fits { (p.len ≤ 4) × (multiplicities (list_of p) < 2 ^ 32) }
     ensures { result ≡ roots_of (joined_of poly tol (list_of p)) }
 {
     let none = Roots::none();
@@ -258,8 +260,8 @@ fn joined(poly: Scaled, p: Roots, tol: f64) -> Roots
 
 // The u32 sums do not overflow: what the candidates' multiplicities add up to is a u32.
 pub fn finish(poly: Scaled, c: Roots, tol: f64) -> Roots
-    requires fact_1 { poly.d ≤ 4 }
-    requires fact_2 { (c.len ≤ 4) × (multiplicities (list_of c) < 2 ^ 32) }
+    requires poly_d_high { poly.d ≤ 4 }
+    requires c_fits { (c.len ≤ 4) × (multiplicities (list_of c) < 2 ^ 32) }
     ensures { result ≡ roots_of (finish_of poly (list_of c) tol) }
 {
     let o = ordered(c);

@@ -125,6 +125,8 @@ module _ (p : ℕ) (g : ℤ) (n : ℕ) (v : p * up g * 1 ≡ n * down g) (l : n 
 
 in_form : (z : Float) (s : Bool) (n : ℕ) (C : Float → Type 0) → HasValue z s n 1 → ((p : ℕ) (g : ℤ) → p * up g * 1 ≡ n * down g → C (fin s p g)) → C z
 in_form (fin t p g) s n C v k = subst (λ (b : Bool). C (fin b p g)) (sym v.0) (k p g v.1)
+in_form nan s n C v k = elim v [ ]
+in_form (inf _) s n C v k = elim v [ ]
 
 -- ---- t - 8192 against x
 

@@ -19,6 +19,8 @@ whole_exact n h = subst T (sym (le-leb n (2 ^ 53) h)) tt
 neg_value : (x : Float) (n : ℕ) → HasValue x false n 1 → HasValue (neg x) true n 1
 unfolding neg
 neg_value (fin s m e) n v = (ap not v.0, v.1)
+neg_value lib.Ieee.nan n v = elim v [ ]
+neg_value (lib.Ieee.inf _) n v = elim v [ ]
 
 -- -(n as f64) is (-n) as f64
 pub neg_whole : (k : ℕ) → suc k ≤ 2 ^ 53 → neg (of_int binary64 (pos (suc k))) ≡ of_int binary64 (negsuc k)

@@ -1,5 +1,7 @@
 // Doubles: the methods of Rust's f64 that Rattle has not, and doubles as bits and as bytes. Every function takes all bits; every NaN is one NaN.
 // It rests on `facts` and `rounding`. Every crate that computes with doubles rests on it.
+#![tactic(auto)]
+
 ghost use Rattle.std.specs.Prelude.{◌≡◌, cond, ◌||◌, ◌+◌, ◌^◌, ◌<◌, ◌≤◌, length, get_or};
 ghost use Rattle.std.proofs.lemmas.List.Edits.{sets};
 ghost use Rattle.std.specs.Float.{binary64};
@@ -143,8 +145,8 @@ pub fn powi(v: f64, n: usize) -> f64
 
 // (p - q) as f64, where the Rust has an i32.
 pub fn difference(p: u64, q: u64) -> f64
-    requires fact_1 { p ≤ 2 ^ 53 }
-    requires fact_2 { q ≤ 2 ^ 53 }
+    requires p_high { p ≤ 2 ^ 53 }
+    requires q_high { q ≤ 2 ^ 53 }
     ensures { result ≡ of_int binary64 (minus p q) }
 {
     if q <= p {

@@ -23,6 +23,7 @@ record Ends (s : List ℕ) : Type 0 where
 -- ---- what comes next
 pub checked_true : {A : Type 0} (b : Bool) (f : T b → A) (t : T b) → checked b f ≡ some (f t)
 checked_true true f t = refl
+checked_true {A = A} false f t = elim t [ ]
 
 unlike_digit : (c b : ℕ) (s : List ℕ) → is_digit c ≡ false → T (is_digit b) → after c (b ∷ s) ≡ none
 unlike_digit c b s e d = go (eqb b c) (λ t. subst T (ap is_digit (eqb→eq b c t) ∙ e) d)
@@ -31,11 +32,11 @@ unlike_digit c b s e d = go (eqb b c) (λ t. subst T (ap is_digit (eqb→eq b c 
     go true f = absurd (f tt)
     go false f = refl
 
-digits_are : (d rest : List ℕ) → T (all_digits d) → digits_of rest ≡ [] → digits_of (d ++ rest) ≡ d
-digits_are [] rest t e = e
-digits_are (b ∷ d) rest t e =
+digits_all : (d rest : List ℕ) → T (all_digits d) → digits_of rest ≡ [] → digits_of (d ++ rest) ≡ d
+digits_all [] rest t e = e
+digits_all (b ∷ d) rest t e =
     ap (λ (x : Bool). cond x (b ∷ digits_of (d ++ rest)) []) (is_true (is_digit b) (and_l (is_digit b) (all_digits d) t))
-    ∙ ap (λ (x : List ℕ). b ∷ x) (digits_are d rest (and_r (is_digit b) (all_digits d) t) e)
+    ∙ ap (λ (x : List ℕ). b ∷ x) (digits_all d rest (and_r (is_digit b) (all_digits d) t) e)
 
 behind_of : (d rest : List ℕ) → T (all_digits d) → digits_of rest ≡ [] → behind_digits (d ++ rest) ≡ rest
 behind_of [] rest t e = ap (λ (x : List ℕ). x ++ behind_digits rest) (sym e) ∙ digits_are rest
@@ -56,7 +57,7 @@ number_read : (n : Number) (p : Power) (rest : List ℕ) → Ends rest → read_
 number_read n p rest e =
     let all : T (all_digits n.digits) = and_l (all_digits n.digits) _ n.number in
     ap (λ (d : List ℕ). if_some (number_of d) fails (λ m. read_power (number m) (behind_digits (n.digits ++ (power_text p ++ rest)))))
-    (digits_are n.digits (power_text p ++ rest) all (power_ends p rest e))
+    (digits_all n.digits (power_text p ++ rest) all (power_ends p rest e))
     ∙ ap (λ (o : Option Number). if_some o fails (λ m. read_power (number m) (behind_digits (n.digits ++ (power_text p ++ rest)))))
     (checked_true {A = Number} (is_number n.digits) (λ t. record { digits = n.digits; number = t }) n.number)
     ∙ ap (λ (s : List ℕ). read_power (number n) s) (behind_of n.digits (power_text p ++ rest) all (power_ends p rest e))

@@ -1,5 +1,7 @@
 // Formulas as mechanics write them: a text is read as a sum of terms of factors and expanded on the way, exactly, into at most five
 // coefficients. It rests on `parts`; the hall file rests on it.
+#![tactic(auto)]
+
 ghost use Rattle.std.specs.Prelude.{◌≡◌, true, ◌&&◌, ◌+◌, ◌-◌, ◌≤◌, ◌<◌, length, get_or, drop};
 ghost use Rattle.std.specs.Float.{binary64};
 ghost use Rattle.std.specs.Float.Ieee.{of_int};
@@ -13,7 +15,7 @@ ghost use Rattle.formula.specs.Readers.{is_at, sign_at, digit_at, operator_at, A
 use parts::{Operator, Part};
 
 // Coefficients for the list operation, and how many; or nothing but the number under which the text is refused, where that is not 0.
-#[derive(Drop)]
+#[derive(Clone, Copy)]
 pub struct Expanded {
     pub number: u32,
     pub len: usize,
@@ -21,7 +23,7 @@ pub struct Expanded {
 }
 
 // Whether something was read, where what is left begins, and what was read.
-#[derive(Drop)]
+#[derive(Clone, Copy)]
 struct Cursor {
     read: bool,
     next: usize,
@@ -62,8 +64,8 @@ fn digit_at(s: &[u8], i: usize) -> bool
 
 fn digit(s: &[u8], i: usize) -> u64
     requires { digit_at s.now i ≡ true }
-    ensures fact_1 { result ≡ get_or s.now i 0 - 48 }
-    ensures fact_2 { result < 10 }
+    ensures value { result ≡ get_or s.now i 0 - 48 }
+    ensures high { result < 10 }
 {
     (s[i] - b'0') as u64
 }
@@ -94,8 +96,8 @@ fn failed(at: usize) -> Cursor
 // A whole number of one to nine digits.
 fn number(s: &[u8], at: usize) -> Cursor
     requires { at ≤ length s.now }
-    ensures fact_1 { Ahead s.now at result }
-    ensures fact_2 { Based s.now result (read_number (drop at s.now)) }
+    ensures ahead { Ahead s.now at result }
+    ensures based { Based s.now result (read_number (drop at s.now)) }
 {
     let mut n: u64 = 0;
     let mut i = at;
@@ -119,8 +121,8 @@ fn number(s: &[u8], at: usize) -> Cursor
 // A whole number, or the letter t.
 fn unit(s: &[u8], at: usize) -> Cursor
     requires { at ≤ length s.now }
-    ensures fact_1 { Ahead s.now at result }
-    ensures fact_2 { Based s.now result (read_unit (drop at s.now)) }
+    ensures ahead { Ahead s.now at result }
+    ensures based { Based s.now result (read_unit (drop at s.now)) }
 {
     if is_at(s, at, b't') {
         return Cursor {
@@ -134,10 +136,10 @@ fn unit(s: &[u8], at: usize) -> Cursor
 
 // A sum, where its bracket closes next.
 fn closed(s: &[u8], inner: Cursor) -> Cursor
-    requires fact_1 { inner.next ≤ length s.now }
-    requires fact_2 { Sound inner.part }
-    ensures fact_1 { Ahead s.now inner.next result }
-    ensures fact_2 { Closed s.now inner result }
+    requires inner_next_high { inner.next ≤ length s.now }
+    requires sound { Sound inner.part }
+    ensures ahead { Ahead s.now inner.next result }
+    ensures closed { Closed s.now inner result }
 {
     let at = inner.next;
     if !inner.read {
@@ -156,10 +158,10 @@ fn closed(s: &[u8], inner: Cursor) -> Cursor
 
 // What was read, to the power that comes next, if one does.
 fn powered(s: &[u8], base: Cursor) -> Cursor
-    requires fact_1 { base.next ≤ length s.now }
-    requires fact_2 { Sound base.part }
-    ensures fact_1 { Ahead s.now base.next result }
-    ensures fact_2 { Powered s.now base result }
+    requires base_next_high { base.next ≤ length s.now }
+    requires sound { Sound base.part }
+    ensures ahead { Ahead s.now base.next result }
+    ensures powered { Powered s.now base result }
 {
     let at = base.next;
     if !base.read {
@@ -184,8 +186,8 @@ fn powered(s: &[u8], base: Cursor) -> Cursor
 
 // The result takes the place of the right operand, which spares 64 bytes of stack for each open bracket.
 fn joined(op: Operator, left: Cursor, right: Cursor) -> Cursor
-    requires fact_1 { Sound left.part }
-    requires fact_2 { Sound right.part }
+    requires left_sound { Sound left.part }
+    requires right_sound { Sound right.part }
     ensures { Joined op left right result }
 {
     if !right.read {

@@ -94,6 +94,7 @@ formula_fits s tol = answered_by_list (λ (a : Answer). Fits a.roots) s tol (λ 
 
 -- ---- demand 3: what is solved are doubles
 pub floats_fit : (p : List ℤ) → AllDoubles (floats_of p)
+floats_fit [] i h = elim h [ ]
 floats_fit (z ∷ p) zero h = is_true _ (of_int-fits binary64 z)
 floats_fit (z ∷ p) (suc i) h = floats_fit p i (omega arith)
 

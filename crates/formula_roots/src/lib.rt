@@ -1,5 +1,7 @@
 // The roots of a formula as it was typed: request Three of document 02. Its text is expanded, and the coefficients are handed to the list operation.
 // It rests on `formula`, which reads and expands, and on `poly` (real_roots); the hall file and the C functions rest on it.
+#![tactic(auto)]
+
 ghost use Rattle.std.specs.Prelude.{◌≡◌};
 ghost use Rattle.roots.specs.Roots.{list_of};
 ghost use Rattle.roots.specs.Listed.{Within};

@@ -1,4 +1,6 @@
 // Writes the name and the listing of each file that its arguments name: stored hall files, whose listings are known. It rests on `input` and `listing_io`.
+#![tactic(auto)]
+
 use libc::STDOUT_FILENO;
 
 // A file that cannot be read has a line that no listing has.

@@ -1,5 +1,6 @@
 // Reads a hall file from standard input and writes its listing to standard output. The work is `listing_io::list_fd`, proved to store the definition
 // `listing` of what was read; no contract can say what is read or written. It rests on `input` and `listing_io`.
+#![tactic(auto)]
 
 // Where a read fails nothing is listed; that, and a write that fails, is said on standard error.
 fn main() {

@@ -1,26 +1,28 @@
 // Evaluation: two_prod and the discriminant, a polynomial's value and slope by Horner's rule, plain and compensated, its derivatives and its
 // Taylor coefficients. Each function is the one of poly.rs of that name, on all bits. It rests on `float` and `facts`; refining, factoring, scaling and
 // polishing rest on it.
+#![tactic(auto)]
+
 ghost use Rattle.std.specs.Prelude.{◌≡◌, ◌≤◌};
 ghost use Rattle.horner.specs.Product.{split_high, two_prod_of, discriminant_of};
 ghost use Rattle.horner.specs.Horner.{value_slope_of, value_slope_compensated_of};
 ghost use Rattle.horner.specs.Taylor.{derivs12_of, taylor_of};
 
-#[derive(Drop)]
+#[derive(Clone, Copy)]
 pub struct ValueSlope {
     pub value: f64,
     pub slope: f64,
 }
 
 // A product, and Dekker's formula for its rounding error.
-#[derive(Drop)]
+#[derive(Clone, Copy)]
 pub struct TwoProd {
     pub prod: f64,
     pub err: f64,
 }
 
 // The first and second derivative.
-#[derive(Drop)]
+#[derive(Clone, Copy)]
 pub struct Derivs {
     pub d1: f64,
     pub d2: f64,

@@ -1,6 +1,8 @@
 // A file read from a descriptor. What a read answers, and the bytes that it reads, no contract can say; what an answer means, and that a failed read keeps no
 // byte, it can.
 // It rests on the library alone; the hall file's reading rests on it.
+#![tactic(auto)]
+
 ghost use Rattle.std.specs.Prelude.{◌≡◌, true, ◌≤◌, ◌<◌, length};
 ghost use Rattle.input.specs.Answers.{meaning_of};
 
@@ -12,7 +14,7 @@ pub fn buffer() -> [u8; 65537]
 }
 
 // What one read came to.
-#[derive(Drop)]
+#[derive(Clone, Copy)]
 enum ReadAnswer {
     Failed,
     End,
@@ -35,7 +37,7 @@ fn meaning(got: isize, rest: &[u8]) -> ReadAnswer
 }
 
 // How many bytes were read, none where a read failed.
-#[derive(Drop)]
+#[derive(Clone, Copy)]
 pub struct Input {
     pub failed: bool,
     pub len: usize,

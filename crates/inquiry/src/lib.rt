@@ -1,6 +1,8 @@
 // real_roots_touching of poly.rs as an inquiry: a value that shows a question about a place, or the finished list.
 // Nothing is suspended in it: `ask` walks anew, with the replies at hand. It rests on `poly` (solve), `touching` (the walk), `finish` and `asking`, which says
 // what a computation that asks is; the crank, the pin contact and the programs rest on it.
+#![tactic(auto)]
+
 ghost use Rattle.std.specs.Prelude.{◌≡◌, ◌≤◌, true};
 ghost use Rattle.roots.specs.Roots.{list_of, pair_list_of};
 ghost use Rattle.roots.specs.Listed.{multiplicities, Fits, Within};
@@ -15,7 +17,7 @@ use touching::chains::{chains, emit};
 use touching::items::pairs;
 
 // What `solve` and `finish` gave, in the scaled variable, the tolerance, and the replies.
-#[derive(Drop)]
+#[derive(Clone, Copy)]
 pub struct Inquiry {
     pub poly: scaled::Scaled,
     pub tol: f64,
@@ -25,14 +27,14 @@ pub struct Inquiry {
 }
 
 // An inquiry, and 0; or the number of the refusal, and an inquiry that asks nothing and lists nothing.
-#[derive(Drop)]
+#[derive(Clone, Copy)]
 pub struct Started {
     pub number: u32,
     pub inquiry: Inquiry,
 }
 
 // A question about a place, or the finished list.
-#[derive(Drop)]
+#[derive(Clone, Copy)]
 pub struct Asked {
     pub asking: bool,
     pub place: f64,
@@ -40,21 +42,21 @@ pub struct Asked {
 }
 
 // What is shown; number is 0, or NOTHING_ASKED where a reply was not needed: the last one's, had they come one by one.
-#[derive(Drop)]
+#[derive(Clone, Copy)]
 pub struct Seen {
     pub number: u32,
     pub asked: Asked,
 }
 
 // The number of the start, 0 or that of its refusal, and what is shown.
-#[derive(Drop)]
+#[derive(Clone, Copy)]
 pub struct ShownAfter {
     pub number: u32,
     pub seen: Seen,
 }
 
 // The inquiry after a reply; number is 0, or NOTHING_ASKED where nothing was being asked.
-#[derive(Drop)]
+#[derive(Clone, Copy)]
 pub struct Replied {
     pub number: u32,
     pub inquiry: Inquiry,

@@ -1,11 +1,13 @@
 // The roots of two quadratics, `isolated_root` of poly.rs, on all bits: their discriminants, and a real root that is far from the others; and `peel_root`, a
 // quartic divided by such a root. It rests on the leaves, `horner`, `refine`, `cubic` and `quartic`; `large_factors`, `factorize` and `push` rest on it.
+#![tactic(auto)]
+
 ghost use Rattle.std.specs.Prelude.{◌≡◌};
 ghost use Rattle.isolated.specs.Isolated.{disc_of, far_by, far_root_of, root_pair_of, dist_of, least_of, greatest_of, is_better_of, judged_of};
 ghost use Rattle.isolated.specs.Isolated.{best_root_of, lone_of, isolated_of, isolated_root_of, peel_root_of};
 
 // Two roots as (re, im).
-#[derive(Drop)]
+#[derive(Clone, Copy)]
 struct RootPair {
     re0: f64,
     im0: f64,
@@ -14,21 +16,21 @@ struct RootPair {
 }
 
 // The best root so far, the Rust's Option: the squared distance of the nearest other, and the root.
-#[derive(Drop)]
+#[derive(Clone, Copy)]
 enum Best {
     Root(f64, f64),
     NoRoot,
 }
 
 // The Rust's Option.
-#[derive(Drop)]
+#[derive(Clone, Copy)]
 pub enum LoneRoot {
     At(f64),
     None,
 }
 
 // A discriminant, and the square root of its size.
-#[derive(Drop)]
+#[derive(Clone, Copy)]
 pub struct Disc {
     pub disc: f64,
     pub root: f64,
@@ -162,7 +164,7 @@ fn lone(best: Best) -> LoneRoot
 }
 
 // Of two quadratics: an isolated root, if there is one, and their discriminants.
-#[derive(Drop)]
+#[derive(Clone, Copy)]
 pub struct Pairing {
     pub far: LoneRoot,
     pub first: Disc,
@@ -186,7 +188,7 @@ pub fn isolated_root(quads: quartic::QuarticFactor) -> LoneRoot
 }
 
 // (y - r) * (y^3 + h2*y^2 + h1*y + h0)
-#[derive(Drop)]
+#[derive(Clone, Copy)]
 pub struct Peeled {
     pub r: f64,
     pub h2: f64,

@@ -1,5 +1,7 @@
 // The large factors of factorize: real roots and quadratic factors as units, by falling size, down to the gap.
 // It rests on `order`, `sqrt`, `horner`, `isolated` and `factors`; factorize rests on it.
+#![tactic(auto)]
+
 ghost use Rattle.std.specs.Prelude.{◌≡◌, ◌+◌, ◌≤◌, ◌<◌};
 ghost use Rattle.std.specs.Float.{nan};
 ghost use Rattle.order.specs.Order.{Places};
@@ -13,14 +15,14 @@ use factors::Factors;
 const EPSILON: f64 = 2.220446049250313e-16;
 
 // A root al of the size m, where be is NaN, or a quadratic factor whose roots have the size m.
-#[derive(Drop)]
+#[derive(Clone, Copy)]
 pub struct Unit {
     pub m: f64,
     pub al: f64,
     pub be: f64,
 }
 
-#[derive(Drop)]
+#[derive(Clone, Copy)]
 pub struct Units {
     pub at: [Unit; 4],
     pub n: usize,
@@ -113,8 +115,8 @@ fn with_unit(large: Factors, x: Unit) -> Factors
 
 // The units in this order, down to the one that ends the search.
 fn take_large(at: [Unit; 4], order: [usize; 4], n: usize, want: usize, least: f64) -> Factors
-    requires fact_1 { n ≤ 4 }
-    requires fact_2 { Places order }
+    requires n_high { n ≤ 4 }
+    requires places { Places order }
     ensures { result ≡ large_from want least no_factors (in_order at order n) }
 {
     let mut out = Factors::default();

@@ -1,5 +1,7 @@
 // Powers of two, and products with them: the Rust's pow2 and ldexp.
 // It rests on `float`; the scaling of polynomials rests on it, and the bit patterns of proofs/Pack serve every leaf.
+#![tactic(auto)]
+
 ghost use Rattle.std.specs.Prelude.{◌≡◌, true, ◌≤◌, ℤ, pos, negsuc, ◌≤ℤ◌};
 ghost use Rattle.std.specs.Float.Ieee.{minus};
 ghost use Rattle.float.specs.Rounded.{◌*ᶠ◌};
@@ -7,8 +9,8 @@ ghost use Rattle.ldexp.specs.Scale.{pow2_of, signed, ldexp_of};
 
 // 2^n, or 2^-n where `below` is set: the field of the exponent is all that is not 0 in its bits.
 fn power(below: bool, n: u64) -> f64
-    requires fact_1 { n ≤ 1023 }
-    requires fact_2 { (below ≡ true → n ≤ 1022) }
+    requires n_high { n ≤ 1023 }
+    requires n_high_below { (below ≡ true → n ≤ 1022) }
     ensures { result ≡ pow2_of (signed below n) }
 {
     if below {
@@ -44,7 +46,7 @@ fn scaled(x: f64, below: bool, n: u64) -> f64
 }
 
 // A signed number as its sign and its size.
-#[derive(Drop)]
+#[derive(Clone, Copy)]
 struct Signed {
     below: bool,
     n: u64,

@@ -5,7 +5,7 @@ ghost use Rattle.text.specs.Written.{Written};
 ghost use Rattle.leafcases.specs.Lines.{word_of, leaf_line_of, leaf_answer_of, is_sign, leaf_record_of, lines_of};
 
 // A word of a line behind the first.
-#[derive(Drop)]
+#[derive(Clone, Copy)]
 pub enum Word {
     Double(f64),
     Whole(i32),

@@ -1,6 +1,8 @@
 // Replays stored questions to the leaves: for each record of the file that its argument names, a line with the leaf's answer.
 // The work is `lines::put_lines`, proved equal to the definition `lines_of`; no contract can say what is read or written. It rests on the leaves,
 // `text` and `leaves`.
+#![tactic(auto)]
+
 ghost use Rattle.std.specs.Prelude.{◌≡◌, length};
 
 mod lines;

@@ -1,5 +1,7 @@
 // Doubles in lent bytes, lowest byte first: read from them, and stored in them, all of an answer or none of it.
 // It rests on `float` and `text`; the hall file and the C functions rest on it.
+#![tactic(auto)]
+
 ghost use Rattle.std.specs.Prelude.{◌≡◌, ◌++◌, ◌+◌, ◌-◌, ◌*◌, ◌≤◌, length, replicate};
 ghost use Rattle.std.proofs.lemmas.List.Edits.{sets};
 ghost use Rattle.float.specs.Literals.{zero64};

@@ -1,5 +1,7 @@
 // Coefficients in lent bytes, any number of them, as the six numbers that are solved alike. It rests on `float`, `poly` (its definition of the six) and
 // `lent_bytes`; the C functions of lists and inquiries, `pongewaru`, rest on it.
+#![tactic(auto)]
+
 ghost use Rattle.std.specs.Prelude.{◌≡◌, get_or, drop};
 ghost use Rattle.float.specs.Literals.{zero64};
 ghost use Rattle.poly.specs.Short.{rest_with, rest_of, short_of};

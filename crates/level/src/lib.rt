@@ -1,5 +1,7 @@
 // Whether the exponents of the coefficients alone show that magnitude_split finds no gap: then no logarithm is taken.
 // It rests on `decode`, and says what it says of `scaled` and `split`; the list of roots rests on it.
+#![tactic(auto)]
+
 ghost use Rattle.std.specs.Prelude.{◌≡◌, true, ◌+◌, ◌*◌, ◌≤◌, ◌<◌};
 ghost use Rattle.level.specs.Level.{Binade, NoGap};
 
@@ -45,9 +47,9 @@ fn slope(first: u64, last: u64, d: usize) -> u64
 }
 
 fn raised(k: u64, s: u64, i: usize) -> u64
-    requires fact_1 { k ≤ 4096 }
-    requires fact_2 { s < 10000 }
-    requires fact_3 { i ≤ 4 }
+    requires k_high { k ≤ 4096 }
+    requires s_high { s < 10000 }
+    requires i_high { i ≤ 4 }
     ensures { (result + 2100 * i ≡ k + s * i + 8400) × (result < 100000) }
 {
     k + s * i as u64 + (8400 - 2100 * i as u64)

@@ -1,5 +1,7 @@
 // The hall file: records in, lines out, into a lent buffer.
 // It rests on `records`, the solver, `text` and `float`; the program rests on it.
+#![tactic(auto)]
+
 ghost use Rattle.std.specs.Prelude.{◌≡◌, length};
 ghost use Rattle.std.proofs.lemmas.List.Edits.{sets};
 ghost use Rattle.listing.specs.File.{listing};

@@ -1,6 +1,8 @@
 // A hall file read from a descriptor, and its listing in a lent buffer. That the buffer then holds the listing of what was read, and that every listing fits,
 // the contract says.
 // It rests on `input` and `listing`; the programs rest on it.
+#![tactic(auto)]
+
 ghost use Rattle.std.specs.Prelude.{◌≡◌, true, ◌≤◌, length, take};
 ghost use Rattle.std.proofs.lemmas.List.Edits.{sets};
 ghost use Rattle.io.specs.Counts.{IsPrefixLen};
@@ -14,7 +16,7 @@ pub fn output_buffer() -> [u8; 524308]
 }
 
 // How many bytes were read, none where a read failed, and how many their listing has.
-#[derive(Drop)]
+#[derive(Clone, Copy)]
 pub struct ListedFile {
     pub failed: bool,
     pub read: usize,

@@ -1,13 +1,15 @@
 // The order of at most four keys, the largest first, as numbers of places: the sort of factorize, in which ties stay in their earlier order.
 // It rests on `float`; the large factors, `large_factors`, rest on it.
+#![tactic(auto)]
+
 ghost use Rattle.std.specs.Prelude.{◌≡◌, ◌++◌, ◌+◌, ◌≤◌, ◌<◌, take, drop};
 ghost use Rattle.facts.specs.Sort.{inserted_by};
 ghost use Rattle.order.specs.Order.{keys_before, falling_of, falls, insertion_of, entry_of, Places};
 
 // How many of the first i numbers stand before i, up to the first that does not.
 fn place(key: [f64; 4], at: [usize; 4], i: usize) -> usize
-    requires fact_1 { i < 4 }
-    requires fact_2 { Places at }
+    requires i_high { i < 4 }
+    requires places { Places at }
     ensures { result ≡ insertion_of falls key at i }
 {
     let mut p = 0;
@@ -41,8 +43,8 @@ fn entry(at: [usize; 4], i: usize, p: usize, k: usize) -> usize
 
 // i goes to its place among the first i numbers.
 fn insert(key: [f64; 4], at: [usize; 4], i: usize) -> [usize; 4]
-    requires fact_1 { i < 4 }
-    requires fact_2 { Places at }
+    requires i_high { i < 4 }
+    requires places { Places at }
     ensures { result ≡ inserted_by (keys_before falls key) i (take i at) ++ drop (i + 1) at }
 {
     let p = place(key, at, i);

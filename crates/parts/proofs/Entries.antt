@@ -73,8 +73,8 @@ module _ (l : List ℕ) (five : length l ≡ 5) where
   zeros_behind : (n k : ℕ) → length (polynomial_of l) ≤ n → n ≤ k → coefficient_at l k ≡ pos 0
   zeros_behind n k h g = sym (five_is k) ∙ trimmed_long n (from_fn 5 (coefficient_at l)) h k g
 
-  pub ended : (m : ℕ) → Small l → m ≡ length (polynomial_of l) → (m ≡ length (polynomial_of l)) × Ends l m
-  ended m s e = (e, record { five = five; few = omega (arith, e, short 5 coefficient_none); small = s; zeros = λ k h. zeros_behind m k (omega arith) h })
+  pub ended : (m : ℕ) → Small l → m ≡ length (polynomial_of l) → Ends l m
+  ended m s e = record { five = five; few = omega (arith, e, short 5 coefficient_none); small = s; zeros = λ k h. zeros_behind m k (omega arith) h }
 
   pub last_no_zero : (m : ℕ) → length (polynomial_of l) ≡ suc m → coefficient_at l m ≡ pos 0 → ⊥
   last_no_zero m e z = let h : length (polynomial_of l) ≤ m = short m zeros in omega arith

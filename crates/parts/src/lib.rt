@@ -1,5 +1,7 @@
 // The parts of a formula: polynomials up to degree 4 over the whole numbers, exactly, and what is refused of them under 14 and 15.
 // It rests on `refusals` and `wide`; the readers of formulas rest on it.
+#![tactic(auto)]
+
 ghost use Rattle.std.specs.Prelude.{◌≡◌, [], ◌∷◌, ◌+◌, ◌-◌, ◌*◌, ◌^◌, ◌≤◌, ◌<◌, min, max, pos};
 ghost use Rattle.parts.specs.declared.Operator.TheVariants.{Product};
 ghost use Rattle.parts.specs.Value.{exact, refused as refusedAs, limited, joined, power_of};
@@ -16,13 +18,13 @@ const TWICE: u64 = 0x40_0000_0000_0000;
 
 // Coefficients of t^0 to t^4, each kept as 2^53 more than it is, so that none is below 0; or nothing but the number under which the part is refused,
 // where that is not 0.
-#[derive(Drop)]
+#[derive(Clone, Copy)]
 pub struct Part {
     pub number: u32,
     pub raised: [u64; 5],
 }
 
-#[derive(Drop)]
+#[derive(Clone, Copy)]
 pub enum Operator {
     Sum,
     Difference,
@@ -30,7 +32,7 @@ pub enum Operator {
 }
 
 // up - down.
-#[derive(Drop)]
+#[derive(Clone, Copy)]
 pub struct Coefficient {
     pub up: u64,
     pub down: u64,
@@ -40,8 +42,8 @@ pub struct Coefficient {
 
 fn refused(number: u32) -> Part
     requires { 0 < number }
-    ensures fact_1 { value_in result ≡ refusedAs number }
-    ensures fact_2 { Sound result }
+    ensures value { value_in result ≡ refusedAs number }
+    ensures sound { Sound result }
 {
     Part {
         number,
@@ -51,8 +53,8 @@ fn refused(number: u32) -> Part
 
 pub fn number(n: u64) -> Part
     requires { n ≤ 2 ^ 53 }
-    ensures fact_1 { value_in result ≡ limited (pos n ∷ []) }
-    ensures fact_2 { Sound result }
+    ensures value { value_in result ≡ limited (pos n ∷ []) }
+    ensures sound { Sound result }
 {
     Part {
         number: 0,
@@ -61,8 +63,8 @@ pub fn number(n: u64) -> Part
 }
 
 pub fn letter() -> Part
-    ensures fact_1 { value_in result ≡ exact (pos 0 ∷ pos 1 ∷ []) }
-    ensures fact_2 { Sound result }
+    ensures value { value_in result ≡ exact (pos 0 ∷ pos 1 ∷ []) }
+    ensures sound { Sound result }
 {
     Part {
         number: 0,
@@ -95,8 +97,8 @@ pub fn entry(a: Part, k: usize) -> Coefficient
 // How many there are up to the last that is no zero.
 pub fn len(a: Part) -> usize
     requires { Sound a }
-    ensures fact_1 { result ≡ length_in a }
-    ensures fact_2 { Ends a.raised result }
+    ensures value { result ≡ length_in a }
+    ensures ends { Ends a.raised result }
 {
     let mut n = 5;
     while 0 < n {
@@ -129,8 +131,8 @@ fn excess(a_hi: u64, a_lo: u64, b_hi: u64, b_lo: u64) -> u64
 
 // s + x y + 2^106. The product of two coefficients, (x - 2^53) (y - 2^53), is x y + 2^106 less 2^53 (x + y).
 fn with_product(s: Double, x: u64, y: u64) -> Double
-    requires fact_1 { Within 8 (words_of s) }
-    requires fact_2 { (x ≤ 2 ^ 54) × (y ≤ 2 ^ 54) }
+    requires within { Within 8 (words_of s) }
+    requires digits_high { (x ≤ 2 ^ 54) × (y ≤ 2 ^ 54) }
     ensures { words_of result ≡ words_of s + x * y + 2 ^ 106 }
 {
     let p = wide::mul(x, y);
@@ -159,9 +161,9 @@ fn past(k: usize, m: usize) -> usize
 }
 
 fn product_at(a: &[u64; 5], b: &[u64; 5], m: usize, n: usize, k: usize) -> u64
-    requires fact_1 { Ends a.now m }
-    requires fact_2 { Ends b.now n }
-    requires fact_3 { k < 5 }
+    requires a_ends { Ends a.now m }
+    requires b_ends { Ends b.now n }
+    requires k_high { k < 5 }
     ensures { Raises (made_of Product (coefficient_at a.now) (coefficient_at b.now) k) result }
 {
     let mut up = Double { hi: 0, lo: MOST };
@@ -180,9 +182,9 @@ fn product_at(a: &[u64; 5], b: &[u64; 5], m: usize, n: usize, k: usize) -> u64
 }
 
 fn made_at(op: Operator, a: &[u64; 5], b: &[u64; 5], m: usize, n: usize, k: usize) -> u64
-    requires fact_1 { Ends a.now m }
-    requires fact_2 { Ends b.now n }
-    requires fact_3 { k < 5 }
+    requires a_ends { Ends a.now m }
+    requires b_ends { Ends b.now n }
+    requires k_high { k < 5 }
     ensures { Raises (made_of op (coefficient_at a.now) (coefficient_at b.now) k) result }
 {
     match op {
@@ -225,11 +227,11 @@ fn made_len(op: Operator, m: usize, n: usize) -> usize
 
 // What is made where its degree is at most 4.
 fn made(op: Operator, a: &[u64; 5], b: &[u64; 5], m: usize, n: usize, end: usize) -> Part
-    requires fact_1 { Ends a.now m }
-    requires fact_2 { Ends b.now n }
-    requires fact_3 { (end ≡ made_length op m n) × (end ≤ 5) }
-    ensures fact_1 { value_in result ≡ limited (operator_of op (polynomial_of a.now) (polynomial_of b.now)) }
-    ensures fact_2 { Sound result }
+    requires a_ends { Ends a.now m }
+    requires b_ends { Ends b.now n }
+    requires end_is { (end ≡ made_length op m n) × (end ≤ 5) }
+    ensures value { value_in result ≡ limited (operator_of op (polynomial_of a.now) (polynomial_of b.now)) }
+    ensures sound { Sound result }
 {
     let mut r = Part {
         number: 0,
@@ -249,10 +251,10 @@ fn made(op: Operator, a: &[u64; 5], b: &[u64; 5], m: usize, n: usize, end: usize
 
 // The left operand first, then the right, then their operator.
 pub fn join(op: Operator, a: Part, b: Part) -> Part
-    requires fact_1 { Sound a }
-    requires fact_2 { Sound b }
-    ensures fact_1 { value_in result ≡ joined (operator_of op) (value_in a) (value_in b) }
-    ensures fact_2 { Sound result }
+    requires a_sound { Sound a }
+    requires b_sound { Sound b }
+    ensures value { value_in result ≡ joined (operator_of op) (value_in a) (value_in b) }
+    ensures sound { Sound result }
 {
     if a.number != 0 {
         return a;
@@ -274,8 +276,8 @@ pub fn join(op: Operator, a: Part, b: Part) -> Part
 // Repeated products from 1.
 pub fn power(a: Part, d: u64) -> Part
     requires { Sound a }
-    ensures fact_1 { value_in result ≡ power_of (value_in a) d }
-    ensures fact_2 { Sound result }
+    ensures value { value_in result ≡ power_of (value_in a) d }
+    ensures sound { Sound result }
 {
     if a.number != 0 {
         return a;

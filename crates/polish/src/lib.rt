@@ -1,5 +1,7 @@
 // `polish` of poly.rs: Newton's method on a simple root, by the compensated value. It rests on `horner` (evaluation), `refine` (two of the tests), `float` and
 // `facts`; `finish` and the polishing theorem rest on it.
+#![tactic(auto)]
+
 ghost use Rattle.std.specs.Prelude.{◌≡◌, ◌≤◌};
 ghost use Rattle.polish.specs.Polish.{is_long_of, is_small_of, polish_of};
 

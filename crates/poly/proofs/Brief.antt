@@ -57,7 +57,8 @@ module _ (sc : Scaled) (lg : List Float) where
   same_joined : (tol : Float) (out : List RealRoot) (a : RealRoot) (l : List RealRoot) → joined_from other tol out a l ≡ joined_from sc tol out a l
   unfolding joined_from is_near_of within_band_of noise_of
   same_joined tol out a [] = refl
-  same_joined tol out a (b ∷ l) = same_joined tol _ _ l
+  same_joined tol out a (b ∷ l) =
+      let near = is_near_of sc a.value b.value tol in same_joined tol (cond near out (kept out a)) (cond near (join_of a b) b) l
 
   same_finish : (c : List RealRoot) (tol : Float) → finish_of other c tol ≡ finish_of sc c tol
   unfolding finish_of polished_of polished_at joined_of

@@ -1,5 +1,7 @@
 // real_roots of poly.rs: a list of coefficients of any length and any bits gives at most four roots, or the number of a refusal.
 // It rests on scaling, factoring, the band and finishing; the inquiry and the programs rest on it.
+#![tactic(auto)]
+
 ghost use Rattle.std.specs.Prelude.{◌≡◌, true, ◌≤◌, ◌<◌, ◌+◌, length};
 ghost use Rattle.facts.specs.Count.{count_up};
 ghost use Rattle.factorize.specs.Factorize.{factorize_of};
@@ -14,7 +16,7 @@ ghost use Rattle.poly.specs.Brief.{Enough, ButLogs};
 ghost use Rattle.poly.specs.RealRoots.{unscaled_all, real_roots_of};
 
 // What Scaled::solve and finish give: the scaled polynomial, the tolerance, its finished roots and its complex pairs. On a refusal the number alone, and zeros.
-#[derive(Drop)]
+#[derive(Clone, Copy)]
 pub struct Solved {
     pub number: u32,
     pub poly: scaled::Scaled,
@@ -24,7 +26,7 @@ pub struct Solved {
 }
 
 // The roots in x, and 0; or the number of the refusal, and no root.
-#[derive(Drop)]
+#[derive(Clone, Copy)]
 pub struct Answer {
     pub number: u32,
     pub roots: roots::Roots,
@@ -141,8 +143,8 @@ fn with_quads(
     tol: f64,
     start: push::Found,
 ) -> push::Found
-    requires fact_1 { poly.d ≤ 4 }
-    requires fact_2 { (r.f.nquad ≤ 2) × (r ≡ rooted_of r.f) }
+    requires poly_d_high { poly.d ≤ 4 }
+    requires rooted { (r.f.nquad ≤ 2) × (r ≡ rooted_of r.f) }
     ensures { result ≡ count_up r.f.nquad (with_quad_in poly r.f tol) r.f.nquad start }
 {
     let f = r.f;
@@ -161,8 +163,8 @@ fn with_quads(
 }
 
 fn candidates(poly: scaled::Scaled, zeros: usize, tol: f64) -> push::Found
-    requires fact_1 { poly.d ≤ 4 }
-    requires fact_2 { zeros ≤ 4 }
+    requires poly_d_high { poly.d ≤ 4 }
+    requires zeros_high { zeros ≤ 4 }
     ensures { result ≡ found_of (candidates_of poly zeros (factorize_of poly 0) tol) }
 {
     let r = factorize::factorize_rooted(poly, 0);

@@ -1,10 +1,12 @@
 // `push_quadratic` of poly.rs: what a quadratic factor is, and where it goes.
 // It rests on `isolated`, `scaled`, `roots`, `band` and `critical`; the lists rest on it.
+#![tactic(auto)]
+
 ghost use Rattle.std.specs.Prelude.{◌≡◌, ◌≤◌};
 ghost use Rattle.push.specs.Quadratic.{push_quadratic_in, push_rooted_in};
 
 // The candidates and the complex pairs, which the Rust's push_quadratic changes.
-#[derive(Drop)]
+#[derive(Clone, Copy)]
 pub struct Found {
     pub roots: roots::Roots,
     pub pairs: roots::Pairs,

@@ -1,11 +1,13 @@
 // Monic quartics, `quartic_factor` of poly.rs, on all bits: a root of the resolvent, a cubic, splits the quartic into two quadratics, and Newton's method on
 // their coefficients refines them. It rests on the leaves, `refine` and `cubic`; `isolated` and `factorize` rest on it.
+#![tactic(auto)]
+
 ghost use Rattle.std.specs.Prelude.{◌≡◌};
 ghost use Rattle.cubic.specs.Cubic.{OneOrThree};
 ghost use Rattle.quartic.specs.Quartic.{largest_of, resolvent_of, is_clear_of, ferrari_of, quartic_factor_of};
 
 // (y^2 + al*y + be) * (y^2 + ga*y + de)
-#[derive(Drop)]
+#[derive(Clone, Copy)]
 pub struct QuarticFactor {
     pub al: f64,
     pub be: f64,
@@ -14,7 +16,7 @@ pub struct QuarticFactor {
 }
 
 // (t^2 + u*t + v) * (t^2 - u*t + w)
-#[derive(Drop)]
+#[derive(Clone, Copy)]
 struct Depressed {
     u: f64,
     v: f64,

@@ -32,7 +32,8 @@ module _ (dl : ℕ) (f : List Float) where
     terms_kept zero acc = refl
     terms_kept (suc j) acc =
         terms_kept j _
-        ∙ ap (λ (y : Float). count_down (product_term_of l dl f k) j (cond (leb j k && leb (k - j) dl) (add binary64 acc (mul binary64 y (get_or f j nan))) acc))
+        ∙ ap (λ (y : Float). count_down (product_term_of l dl f k) j
+        (cond (leb j k && leb (k - j) dl) (add binary64 acc (mul binary64 y (get_or f j nan))) acc))
         (get_or-set_other l i (k - j) x nan (λ e. absurd (omega (arith, e))))
 
     next_kept : next_at (set l i x) dl f k ≡ next_at l dl f k

@@ -1,5 +1,7 @@
 // What factorize does with the large factors: their product, the quotient of g by it, and the way back from a second scaling.
 // It rests on `ldexp` and `factors`; factorize rests on it.
+#![tactic(auto)]
+
 ghost use Rattle.std.specs.Prelude.{◌≡◌, ◌+◌, ◌^◌, ◌≤◌, ◌<◌, min, nat_abs, length};
 ghost use Rattle.facts.specs.Arrays.{from_fn};
 ghost use Rattle.factors.specs.Factors.{degree_of, Sized};
@@ -8,7 +10,7 @@ ghost use Rattle.quotient.specs.Quotient.{next_at, mul_of, product_of, quotient_
 use factors::Factors;
 
 // The polynomial l[0] + l[1]*y + .. + l[dl]*y^dl.
-#[derive(Drop)]
+#[derive(Clone, Copy)]
 pub struct Monic {
     pub l: [f64; 5],
     pub dl: usize,
@@ -113,8 +115,8 @@ pub fn usable(s: [f64; 5], small: usize) -> bool
 }
 
 pub fn merged(large: Factors, inner: Factors, e: i32) -> Factors
-    requires fact_1 { Sized inner }
-    requires fact_2 { nat_abs e ≤ 2 ^ 13 }
+    requires sized { Sized inner }
+    requires e_size { nat_abs e ≤ 2 ^ 13 }
     ensures { result ≡ merged_of large inner e }
 {
     let mut m = large;

@@ -1,11 +1,13 @@
 // Where the records of a file stand, and which bytes are refused.
 // It rests on `refusals`; the hall file's listing rests on it.
+#![tactic(auto)]
+
 ghost use Rattle.std.specs.Prelude.{◌≡◌, ◌+◌, ◌^◌, ◌≤◌, ◌<◌, length};
 ghost use Rattle.records.specs.Marks.{mark_of, is_mark, marked_of, kind_at};
 ghost use Rattle.records.specs.Records.{ended_of, held_of, polynomial_record, formula_record, record_at};
 
 // A record's mark says its kind.
-#[derive(Drop)]
+#[derive(Clone, Copy)]
 pub enum Kind {
     Polynomial,
     Quadratic,
@@ -16,7 +18,7 @@ pub enum Kind {
 }
 
 // A record: its kind, the number under which its bytes are refused, 0 where it stands whole, and where the next one starts.
-#[derive(Drop)]
+#[derive(Clone, Copy)]
 pub struct Record {
     pub kind: Kind,
     pub number: u32,

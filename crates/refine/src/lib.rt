@@ -1,5 +1,7 @@
 // Newton's method on square systems: `refine` of poly.rs at sizes 3 and 4, for the factors of a cubic, the two quadratics of a quartic, and a quartic with one
 // root peeled off; and `newton_cubic`. It rests on `square` (elimination), `horner` (evaluation), `float` and `facts`; factoring rests on it.
+#![tactic(auto)]
+
 ghost use Rattle.std.specs.Prelude.{◌≡◌};
 ghost use Rattle.square.specs.Step.{step3, step4};
 ghost use Rattle.refine.specs.Refine.{over_of, is_settled_of, weigh_row_of, weigh_rows_of, trial_of, no_less_of, refine_of};
@@ -72,7 +74,7 @@ fn size4(a: f64, b: f64, c: f64, d: f64) -> f64
 // ---- size 3
 
 // The equations at a place: the magnitudes of their terms, the weighted residuals and their norm.
-#[derive(Drop)]
+#[derive(Clone, Copy)]
 struct Weighed3 {
     mag: [f64; 3],
     w: [f64; 3],
@@ -124,7 +126,7 @@ fn trial3(x: [f64; 3], at: Weighed3, j: [[f64; 3]; 3]) -> square::Step3
 // ---- size 4
 
 // The equations at a place: the magnitudes of their terms, the weighted residuals and their norm.
-#[derive(Drop)]
+#[derive(Clone, Copy)]
 struct Weighed4 {
     mag: [f64; 4],
     w: [f64; 4],
@@ -293,7 +295,7 @@ fn peel_jacobian(x: [f64; 4]) -> [[f64; 4]; 4]
 // ---- both quartic systems by one loop
 
 // A system of four equations, with the coefficients b, c, d and e.
-#[derive(Drop)]
+#[derive(Clone, Copy)]
 enum System4 {
     Quartic(f64, f64, f64, f64),
     Peel(f64, f64, f64, f64),

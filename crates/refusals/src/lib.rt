@@ -1,5 +1,6 @@
 // The refusals, each number of documents 01 and 02 under one name; 0 is said where nothing is refused. 16 to 19 are to follow.
 // The last two are of the C functions alone. It rests on nothing; every operation that refuses rests on it.
+#![tactic(auto)]
 
 // 'some coefficient not finite, wherever it stands'; of a quadratic 'one of a, b, c', of a crank 'one of the five'.
 pub const NOT_FINITE: u32 = 1;

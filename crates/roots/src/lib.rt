@@ -1,11 +1,13 @@
 // The roots of poly.rs on their way to the list: RealRoot, at most four of them (Candidates in the scaled variable, the answer in x), and at most two
 // complex pairs. A root's kind says whether it crossed or brushed.
 // It rests on `float`; push_quadratic, finish, the lists and the inquiry rest on it.
+#![tactic(auto)]
+
 ghost use Rattle.std.specs.Prelude.{◌≡◌};
 ghost use Rattle.roots.specs.Roots.{kind_number, kind_of, root_by, root, no_roots, pushed_of, kept_in, pair, no_pairs, paired_in};
 
 // Whether a root crossed, brushed, or is flat.
-#[derive(Drop)]
+#[derive(Clone, Copy)]
 pub enum RootKind {
     // Its multiplicity is 1.
     Crossing,
@@ -16,7 +18,7 @@ pub enum RootKind {
 }
 
 // A place, its multiplicity and its kind.
-#[derive(Drop)]
+#[derive(Clone, Copy)]
 pub struct RealRoot {
     pub value: f64,
     pub multiplicity: u32,
@@ -24,20 +26,20 @@ pub struct RealRoot {
 }
 
 // Candidates of poly.rs, and its list of at most four roots, in the order found.
-#[derive(Drop)]
+#[derive(Clone, Copy)]
 pub struct Roots {
     pub root: [RealRoot; 4],
     pub len: usize,
 }
 
 // A complex pair centre ± i * half.
-#[derive(Drop)]
+#[derive(Clone, Copy)]
 pub struct Pair {
     pub centre: f64,
     pub half: f64,
 }
 
-#[derive(Drop)]
+#[derive(Clone, Copy)]
 pub struct Pairs {
     pub pair: [Pair; 2],
     pub len: usize,

@@ -44,7 +44,8 @@ fill_at h zero i k l = absurd (none l)
 fill_at h (suc n) zero k l = let e : k ≡ k + 0 = omega arith in ap h e
 fill_at h (suc n) (suc i) k l = fill_at h n i (k + 1) (le_of_suc-le-suc l) ∙ (let e : k + 1 + i ≡ k + suc i = omega arith in ap h e)
 
-f_at : (a : List Float) (d i : ℕ) → i ≤ 4 → let e = scale_exponent_of a d in get_or (scaled_of a d).f i nan ≡ coefficient_of a d e (top_of (get_or a d nan) e d) i
+f_at : (a : List Float) (d i : ℕ) → i ≤ 4 → let e = scale_exponent_of a d in
+    get_or (scaled_of a d).f i nan ≡ coefficient_of a d e (top_of (get_or a d nan) e d) i
 unfolding scaled_of coefficients_of
 f_at a d i l =
     let e = scale_exponent_of a d in

@@ -24,7 +24,7 @@ machine {x} {z} e h = let f = subst (λ (y : ℤ). SFits w32 y) (sym e) (small_f
 
 -- a number read back from its bits: what a call returned, and a small one
 pub read : (z : ℤ) → mag z < 2 ^ 31 → to_z w32 (of_z w32 z) ≡ z
-read z h = to_z-of_z (record { sfits = h })
+read z h = to_z-of_z {w = w32} (record { sfits = h })
 
 back : (z : ℤ) → nat_abs z ≤ 2 ^ 20 → to_z w32 (of_z w32 z) ≡ z
 back z h = to_z-of_z (small_fits z h)

@@ -1,5 +1,7 @@
 // Scaled::new of poly.rs: a polynomial in the variable y = x / 2^e, in which no coefficient is larger than the leading one in size.
 // It rests on the leaves ldexp, exponent and L; gaps between root sizes, factoring and polishing rest on it.
+#![tactic(auto)]
+
 ghost use Rattle.std.specs.Prelude.{◌≡◌, ◌≤◌, ◌<◌, ◌*◌, ◌^◌, nat_abs};
 ghost use Rattle.float.specs.Units.{units_of};
 ghost use Rattle.scaled.specs.Exponent.{Least, scale_exponent_of};
@@ -7,7 +9,7 @@ ghost use Rattle.scaled.specs.Scaled.{top_of, shift_of, coefficient_of, coeffici
 ghost use Rattle.scaled.specs.Scaled.{sizes_of, log_size_of, log_sizes_of, scaled_of, with_logs_of};
 
 // a(x) of degree d in y = x / 2^e: f is a times powers of two, g is f / f_d, lg the logarithms of f's sizes, and unit is one unit of x in y.
-#[derive(Drop)]
+#[derive(Clone, Copy)]
 pub struct Scaled {
     pub f: [f64; 5],
     pub g: [f64; 5],
@@ -20,9 +22,9 @@ pub struct Scaled {
 // e + 2098 for one coefficient x alone, j places below the leading one, which has the digits w and k: t says how far apart the exponents are, and a comparison
 // of the digits whether one more is needed. An x without digits, as a zero, needs nothing.
 fn reach(w: u64, k: u64, x: f64, j: u64) -> u64
-    requires fact_1 { (2 ^ 52 ≤ w) × (w < 2 ^ 53) }
-    requires fact_2 { k < 2098 }
-    requires fact_3 { (0 < j) × (j ≤ 4) }
+    requires w_in_range { (2 ^ 52 ≤ w) × (w < 2 ^ 53) }
+    requires k_high { k < 2098 }
+    requires j_in_range { (0 < j) × (j ≤ 4) }
     ensures { Least (w * 2 ^ k) (units_of x * 2 ^ 52) j result }
 {
     let n = decode::normal_of(x);
@@ -62,26 +64,26 @@ pub fn scale_exponent(a: [f64; 5], d: usize) -> i32
 
 // The leading coefficient x has this exponent in y.
 fn top_of(x: f64, e: i32, d: usize) -> i32
-    requires fact_1 { nat_abs e ≤ 2 ^ 13 }
-    requires fact_2 { d ≤ 4 }
+    requires e_size { nat_abs e ≤ 2 ^ 13 }
+    requires d_high { d ≤ 4 }
     ensures { (result ≡ top_of x e d) × (nat_abs result ≤ 2 ^ 16) }
 {
     decode::exponent(x) + e * d as i32
 }
 
 fn shift(e: i32, top: i32, i: usize) -> i32
-    requires fact_1 { nat_abs e ≤ 2 ^ 13 }
-    requires fact_2 { nat_abs top ≤ 2 ^ 16 }
-    requires fact_3 { i ≤ 4 }
+    requires e_size { nat_abs e ≤ 2 ^ 13 }
+    requires top_size { nat_abs top ≤ 2 ^ 16 }
+    requires i_high { i ≤ 4 }
     ensures { result ≡ shift_of e top i }
 {
     e * i as i32 - top
 }
 
 fn coefficient(a: [f64; 5], d: usize, e: i32, top: i32, i: usize) -> f64
-    requires fact_1 { d ≤ 4 }
-    requires fact_2 { nat_abs e ≤ 2 ^ 13 }
-    requires fact_3 { nat_abs top ≤ 2 ^ 16 }
+    requires d_high { d ≤ 4 }
+    requires e_size { nat_abs e ≤ 2 ^ 13 }
+    requires top_size { nat_abs top ≤ 2 ^ 16 }
     ensures { result ≡ coefficient_of a d e top i }
 {
     if i <= d {
@@ -91,9 +93,9 @@ fn coefficient(a: [f64; 5], d: usize, e: i32, top: i32, i: usize) -> f64
 }
 
 fn coefficients(a: [f64; 5], d: usize, e: i32, top: i32) -> [f64; 5]
-    requires fact_1 { d ≤ 4 }
-    requires fact_2 { nat_abs e ≤ 2 ^ 13 }
-    requires fact_3 { nat_abs top ≤ 2 ^ 16 }
+    requires d_high { d ≤ 4 }
+    requires e_size { nat_abs e ≤ 2 ^ 13 }
+    requires top_size { nat_abs top ≤ 2 ^ 16 }
     ensures { result ≡ coefficients_of a d e top }
 {
     [
@@ -144,9 +146,9 @@ fn sizes(a: [f64; 5]) -> [f64; 5]
 }
 
 fn log_size(l: f64, d: usize, e: i32, top: i32, i: usize) -> f64
-    requires fact_1 { d ≤ 4 }
-    requires fact_2 { nat_abs e ≤ 2 ^ 13 }
-    requires fact_3 { nat_abs top ≤ 2 ^ 16 }
+    requires d_high { d ≤ 4 }
+    requires e_size { nat_abs e ≤ 2 ^ 13 }
+    requires top_size { nat_abs top ≤ 2 ^ 16 }
     ensures { result ≡ log_size_of l d e top i }
 {
     if i <= d {
@@ -156,9 +158,9 @@ fn log_size(l: f64, d: usize, e: i32, top: i32, i: usize) -> f64
 }
 
 fn log_sizes(a: [f64; 5], d: usize, e: i32, top: i32) -> [f64; 5]
-    requires fact_1 { d ≤ 4 }
-    requires fact_2 { nat_abs e ≤ 2 ^ 13 }
-    requires fact_3 { nat_abs top ≤ 2 ^ 16 }
+    requires d_high { d ≤ 4 }
+    requires e_size { nat_abs e ≤ 2 ^ 13 }
+    requires top_size { nat_abs top ≤ 2 ^ 16 }
     ensures { result ≡ log_sizes_of a d e top }
 {
     if d < 3 {
@@ -178,8 +180,8 @@ fn log_sizes(a: [f64; 5], d: usize, e: i32, top: i32) -> [f64; 5]
 impl Scaled {
     // With the logarithms that a list of degree l has: below 3 it has none.
     pub fn with_logs(a: [f64; 5], d: usize, l: usize) -> Scaled
-        requires fact_1 { d ≤ 4 }
-        requires fact_2 { l ≤ 4 }
+        requires d_high { d ≤ 4 }
+        requires l_high { l ≤ 4 }
         ensures { result ≡ with_logs_of a d l }
     {
         let e = scale_exponent(a, d);

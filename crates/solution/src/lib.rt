@@ -1,10 +1,12 @@
 // QuadraticSolution of equation.rs on all bits: the answer to a quadratic, moved, and made to touch.
 // It rests on `float`; `equation` gives such answers, and the hall file and the C functions tell them.
+#![tactic(auto)]
+
 ghost use Rattle.std.specs.Prelude.{◌≡◌, ◌&&◌};
 ghost use Rattle.float.specs.Methods.{is_finite_of, all_finite_of};
 ghost use Rattle.solution.specs.Solution.{values_of, shifted_of, touching_at_of};
 
-#[derive(Drop)]
+#[derive(Clone, Copy)]
 pub enum QuadraticSolution {
     // Two distinct roots, ordered.
     Two(f64, f64),

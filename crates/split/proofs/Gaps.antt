@@ -25,7 +25,8 @@ module _ (lg : List Float) (at : List ℕ) (k : ℕ) where
 
   module _ (P : 2 < k) (lo hi : Float) (L : lo ≡ mag_of lg at (k - 1 - 2)) (H : hi ≡ mag_of lg at (k - 1 - 1)) where
     step : split_from lg at (k - 2)
-        ≡ cond (lt eight64 (sub binary64 hi lo)) (Gap (get_or at (k - 1 - 1) 0) (exp2_of (mul binary64 half64 (add binary64 lo hi)))) (split_from lg at (k - 1 - 2))
+        ≡ cond (lt eight64 (sub binary64 hi lo)) (Gap (get_or at (k - 1 - 1) 0) (exp2_of (mul binary64 half64 (add binary64 lo hi))))
+        (split_from lg at (k - 1 - 2))
     unfolding split_from
     step =
         let e : k - 2 ≡ suc (k - 1 - 2) = omega arith in

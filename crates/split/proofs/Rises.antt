@@ -88,7 +88,8 @@ hull_rising lg d D = go (d + 1) no_hull (subst (λ (i : ℕ). Rising i no_hull) 
 
 -- ---- the two ways of a turn, to the points a and the count n
 module _ (lg : List Float) (i : ℕ) (at : List ℕ) (h : ℕ) (a : List ℕ) (n : ℕ) where
-  pub step_in : (k : ℕ) → k ≡ popped_of lg at i h → is_finite_of (get_or lg i nan) ≡ true → a ≡ set at k i → n ≡ k + 1 → hull_at a n ≡ hull_step lg i (hull_at at h)
+  pub step_in : (k : ℕ) → k ≡ popped_of lg at i h → is_finite_of (get_or lg i nan) ≡ true → a ≡ set at k i → n ≡ k + 1
+      → hull_at a n ≡ hull_step lg i (hull_at at h)
   unfolding hull_step
   step_in k e f p q = rw (f, p, q, e)
 

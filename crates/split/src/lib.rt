@@ -1,18 +1,20 @@
 // magnitude_split of poly.rs: the topmost gap of more than 8 bits between root sizes, read off what it calls the upper hull of the points (i, lg[i]).
 // It rests on `float` and `ldexp`; factorize, which hands it the logarithms of a scaled polynomial, rests on it.
+#![tactic(auto)]
+
 ghost use Rattle.std.specs.Prelude.{◌≡◌, ◌≤◌, ◌<◌, ◌+◌, get_or};
 ghost use Rattle.split.specs.Hull.{width_of, hull_at, Rising, cross_of, popped_of, hull_of, mag_of};
 ghost use Rattle.split.specs.Gap.{exp2_of, magnitude_split_of};
 
 // The points of the hull by their indices, the first h of `at`.
-#[derive(Drop)]
+#[derive(Clone, Copy)]
 pub struct Hull {
     pub at: [usize; 5],
     pub h: usize,
 }
 
 // The Rust's Option: in its words the number of roots below the gap, and the geometric middle of the gap.
-#[derive(Drop)]
+#[derive(Clone, Copy)]
 pub enum Split {
     Gap(usize, f64),
     None,
@@ -20,8 +22,8 @@ pub enum Split {
 
 // b - a, from a table: a `match` on constants is compiled to read-only data.
 fn width(a: usize, b: usize) -> f64
-    requires fact_1 { a ≤ b }
-    requires fact_2 { b ≤ 4 }
+    requires a_high { a ≤ b }
+    requires b_high { b ≤ 4 }
     ensures { result ≡ width_of a b }
 {
     match b - a {
@@ -35,9 +37,9 @@ fn width(a: usize, b: usize) -> f64
 
 // At least 0 where the point b lies on or below the line from a to i.
 fn cross(lg: &[f64; 5], a: usize, b: usize, i: usize) -> f64
-    requires fact_1 { a ≤ b }
-    requires fact_2 { b ≤ i }
-    requires fact_3 { i ≤ 4 }
+    requires a_high { a ≤ b }
+    requires b_high { b ≤ i }
+    requires i_high { i ≤ 4 }
     ensures { result ≡ cross_of lg.now a b i }
 {
     width(a, b) * (lg[i] - lg[a]) - (lg[b] - lg[a]) * width(a, i)
@@ -45,8 +47,8 @@ fn cross(lg: &[f64; 5], a: usize, b: usize, i: usize) -> f64
 
 // How many points stay once those that do not stand above the line to i are dropped.
 fn popped(lg: &[f64; 5], at: &[usize; 5], h: usize, i: usize) -> usize
-    requires fact_1 { Rising i (hull_at at.now h) }
-    requires fact_2 { i ≤ 4 }
+    requires rising { Rising i (hull_at at.now h) }
+    requires i_high { i ≤ 4 }
     ensures { (result ≡ popped_of lg.now at.now i h) × (result ≤ h) }
 {
     let mut k = h;
@@ -82,8 +84,8 @@ pub fn upper_hull(lg: [f64; 5], d: usize) -> Hull
 
 // The logarithm of the size of the roots of edge k.
 fn mag(lg: &[f64; 5], at: &[usize; 5], k: usize) -> f64
-    requires fact_1 { k < 4 }
-    requires fact_2 { (get_or at.now k 0 ≤ get_or at.now (k + 1) 0) × (get_or at.now (k + 1) 0 ≤ 4) }
+    requires k_high { k < 4 }
+    requires places_in_order { (get_or at.now k 0 ≤ get_or at.now (k + 1) 0) × (get_or at.now (k + 1) 0 ≤ 4) }
     ensures { result ≡ mag_of lg.now at.now k }
 {
     let a = at[k];

@@ -1,5 +1,7 @@
 // Elimination with pivoting at sizes 3 and 4, `solve_square` of solve.rs, against definitions over any size n. What does not depend on the size takes a row as
 // a slice; the rest is the same text at both sizes, proved by the same laws. It rests on `float` and `facts`; refining rests on it.
+#![tactic(auto)]
+
 ghost use Rattle.std.specs.Prelude.{◌≡◌, ◌<◌, ◌≤◌, length};
 ghost use Rattle.square.specs.Square.{size_sum_of, least_pivot_of, larger_of, pivot_of, lines, lose_of, remainder_of, substitute_of, solve_square_of};
 ghost use Rattle.square.specs.Step.{step3, step4};
@@ -98,7 +100,7 @@ fn substitute3(m: [[f64; 3]; 3], b: [f64; 3]) -> [f64; 3]
 }
 
 // The unknowns, where there is a step.
-#[derive(Drop)]
+#[derive(Clone, Copy)]
 pub struct Step3 {
     pub ok: bool,
     pub x: [f64; 3],
@@ -187,7 +189,7 @@ fn substitute4(m: [[f64; 4]; 4], b: [f64; 4]) -> [f64; 4]
 }
 
 // The unknowns, where there is a step.
-#[derive(Drop)]
+#[derive(Clone, Copy)]
 pub struct Step4 {
     pub ok: bool,
     pub x: [f64; 4],

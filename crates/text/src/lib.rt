@@ -1,6 +1,8 @@
 // Text in a lent buffer: bytes, and numbers in decimal and hexadecimal digits, stored from a place on as far as the buffer reaches. Each
 // function answers the place behind its text, also where the buffer ends before it.
 // It rests on the library alone; whatever writes lines rests on it.
+#![tactic(auto)]
+
 ghost use Rattle.std.specs.Prelude.{[], ◌∷◌, ◌≡◌, ◌+◌, ◌^◌, ◌<◌, length};
 ghost use Rattle.text.specs.Digits.{hex_digit, hex_digits, decimal, signed_decimal};
 ghost use Rattle.text.specs.Written.{Written};

@@ -1,9 +1,11 @@
 // solve_trig of equation.rs on all bits, up to its quartic: the crank equation's k, and the quartic in u.
 // It rests on `refusals` and `float`; the crank's inquiry and the C functions rest on it.
+#![tactic(auto)]
+
 ghost use Rattle.std.specs.Prelude.{◌≡◌, ◌<◌};
 ghost use Rattle.trig_quartic.specs.Crank.{eighth_of, f_at_of, sample_of, quartic_of, no_crank, crank_front_of};
 
-#[derive(Drop)]
+#[derive(Clone, Copy)]
 struct CosSin {
     cos: f64,
     sin: f64,
@@ -81,7 +83,7 @@ fn quartic(a2: f64, b2: f64, c1: f64, d1: f64, e: f64, k: usize) -> [f64; 5]
 }
 
 // A refusal's number, 0 where there is none; k and the quartic in u, zeros where refused.
-#[derive(Drop)]
+#[derive(Clone, Copy)]
 pub struct Crank {
     pub number: u32,
     pub k: usize,

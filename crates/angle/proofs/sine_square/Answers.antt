@@ -1,0 +1,26 @@
+-- The product has 107 digits, or four times it has 107 or 108.
+use native.Mathlib.Omega.{arith}
+use Rattle.angle.proofs.Sine.{square_long, square_short, four_fits}
+use borrow.Author.Rules.{rules}
+use Rattle.angle.proofs.sine_square.Goals as goal
+
+pub returns-then-p-ge4398046511104 : goal.returns-then-p-ge4398046511104
+returns-then-p-ge4398046511104 c =
+    square_long _ _ _ _ _ c.requires.m_low c.requires.m_high c.even_digits-d.ensures c.mul-p.ensures.product
+    c.mul-p.ensures.high c.if-p-ge4398046511104.true
+
+pub overflow_mul-hi : goal.overflow_mul-hi
+overflow_mul-hi c = omega (arith, c.if-p-ge4398046511104.false)
+
+pub overflow_add-hi : goal.overflow_add-hi
+overflow_add-hi c =
+    omega (
+      arith,
+      four_fits _ _ _ _ _ c.requires.m_low c.requires.m_high
+          c.even_digits-d.ensures c.mul-p.ensures.product c.mul-p.ensures.high c.if-p-ge4398046511104.false,
+    )
+
+pub returns : goal.returns
+returns c =
+    square_short _ _ _ _ _ c.requires.m_low c.requires.m_high c.even_digits-d.ensures
+    c.mul-p.ensures.product c.mul-p.ensures.high c.if-p-ge4398046511104.false

@@ -1,0 +1,7 @@
+use Rattle.band.specs.Band.{band_of}
+use borrow.Author.Rules.{rules}
+use Rattle.band.proofs.band.Goals as goal
+
+pub returns : goal.returns
+unfolding band_of
+returns c = rw (c.base_band.ensures, c.noise.ensures)

@@ -1,0 +1,19 @@
+-- `magnitude` is its definition: the places left, from the present sum, give the result.
+use mathlib.Core.Path.{◌≡◌, sym, ◌∙◌}
+use Prim.Native.Nat.{◌≤◌}
+use Rattle.facts.specs.Count.{count_down, down_turn, down_end}
+use Rattle.horner.specs.Loops.{at_place}
+use Rattle.band.specs.Band.{magnitude_step, magnitude_of}
+use borrow.Author.Rules.{rules}
+use Rattle.band.proofs.magnitude.Goals as goal
+
+pub loop-i-init : goal.loop-i-init
+unfolding magnitude_of
+loop-i-init c = (search rules, rw c.abs-ay.ensures)
+
+pub loop-i-preserved : goal.loop-i-preserved
+unfolding magnitude_step
+loop-i-preserved c = (search rules, rw c.abs.ensures (sym (down_turn _ _ _ (search rules)) ∙ c.loop-i.invariant.1))
+
+pub returns : goal.returns
+returns c = sym (down_end _ _ _ (search rules)) ∙ c.loop-i.invariant.1

@@ -1,0 +1,7 @@
+use Rattle.band.specs.Band.{noise_of}
+use borrow.Author.Rules.{rules}
+use Rattle.band.proofs.noise.Goals as goal
+
+pub returns : goal.returns
+unfolding noise_of
+returns c = rw (c.noise_within.ensures, c.budget.ensures)

@@ -1,0 +1,17 @@
+-- `radius` is its definition: the turns left, from the present radius, give the result.
+use mathlib.Core.Path.{◌≡◌, sym, ◌∙◌}
+use Prim.Native.Nat.{◌+◌, ◌-◌, ◌≤◌}
+use Rattle.facts.specs.Count.{count_up, up_turn, up_end}
+use Rattle.band.specs.Band.{radius_step, radius_of}
+use borrow.Author.Rules.{rules}
+use Rattle.band.proofs.radius.Goals as goal
+
+pub loop-k-init : goal.loop-k-init
+unfolding radius_of
+loop-k-init c = (search rules, rw c.infinity-r.ensures)
+
+pub loop-k-preserved : goal.loop-k-preserved
+loop-k-preserved c = (search rules, rw c.radius_step-r.ensures (sym (up_turn _ _ _ _ (search rules)) ∙ c.loop-k.invariant.1))
+
+pub returns : goal.returns
+returns c = sym (up_end _ _ _ _ (search rules)) ∙ c.loop-k.invariant.1

@@ -1,0 +1,12 @@
+use mathlib.Core.Path.{◌≡◌, sym, ◌∙◌}
+use Prim.Native.Nat.{◌+◌, ◌-◌, ◌≤◌}
+use Rattle.facts.specs.Count.{count_up, up_turn, up_end}
+use Rattle.band.specs.Band.{radius_step, radius_of}
+use borrow.Author.Rules.{rules}
+use Rattle.band.proofs.radius.Given as goal
+
+abbrev pub invariant-loop-k : goal.invariant-loop-k
+invariant-loop-k l = (l.k ≤ 5) × (count_up (l.d + 1) (radius_step l.t l.budget) (l.d + 1 - l.k) l.r ≡ radius_of l.t l.d l.budget)
+
+abbrev pub decreases-loop-k : goal.decreases-loop-k
+decreases-loop-k l = l.d + 1 - l.k

@@ -1,0 +1,17 @@
+-- It is of the polynomial, where there is one.
+use lib.Ieee.{of_bits, div}
+use Rattle.lent_bytes.proofs.Five.{accepted}
+use Rattle.lent_bytes.proofs.Whole.{is_other, is_given}
+use borrow.Author.Rules.{rules}
+use Rattle.c_clusters.proofs.pongewaru_polish.Goals as goal
+
+pub returns-then-lacks_five : goal.returns-then-lacks_five
+unfolding of_bits div
+returns-then-lacks_five c = is_other _ _ c.lacks_five.ensures c.if-lacks_five.true
+
+pub poly_at-p-requires : goal.poly_at-p-requires
+poly_at-p-requires c = accepted _ _ c.lacks_five.ensures c.if-lacks_five.false
+
+pub returns : goal.returns
+returns c =
+    is_given _ _ c.lacks_five.ensures c.if-lacks_five.false (rw c.poly_at-p.ensures.0 at c.polish.ensures)

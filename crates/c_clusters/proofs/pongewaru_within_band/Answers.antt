@@ -1,0 +1,16 @@
+-- It is of the polynomial, where there is one.
+use Rattle.lent_bytes.proofs.Five.{accepted}
+use Rattle.lent_bytes.proofs.Whole.{is_other, is_given}
+use borrow.Author.Rules.{rules}
+use Rattle.c_clusters.proofs.pongewaru_within_band.Goals as goal
+
+pub returns-then-lacks_five : goal.returns-then-lacks_five
+returns-then-lacks_five c = is_other _ _ c.lacks_five.ensures c.if-lacks_five.true
+
+pub poly_at-requires : goal.poly_at-requires
+poly_at-requires c = record { a_length = (accepted _ _ c.lacks_five.ensures c.if-lacks_five.false).0; d_high = (accepted _ _ c.lacks_five.ensures c.if-lacks_five.false).1 }
+
+pub returns : goal.returns
+returns c =
+    is_given _ _ c.lacks_five.ensures c.if-lacks_five.false
+    (rw c.poly_at.ensures.0 at c.within_band.ensures)

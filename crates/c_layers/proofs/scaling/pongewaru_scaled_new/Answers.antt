@@ -1,0 +1,28 @@
+-- All the numbers of the answer, or none.
+use Rattle.c_layers.specs.Numbers.{scaled_numbers}
+use mathlib.Core.Path.{subst⁻¹, ap, ◌∙◌}
+use Prim.Native.Nat.{◌≤◌}
+use Rattle.scaled.specs.declared.Scaled.{Scaled}
+use Rattle.scaled.specs.Scaled.{scaled_of}
+use Rattle.lent_bytes.proofs.Five.{accepted}
+use Rattle.lent_bytes.proofs.Whole.{lacking, held}
+use borrow.Author.Rules.{rules}
+use Rattle.c_layers.proofs.scaling.pongewaru_scaled_new.Goals as goal
+
+pub returns-then-lacks_five : goal.returns-then-lacks_five
+returns-then-lacks_five c = lacking _ _ c.lacks_five.ensures c.if-lacks_five.true
+
+pub five_at-requires : goal.five_at-requires
+five_at-requires c = (accepted _ _ c.lacks_five.ensures c.if-lacks_five.false).0
+
+pub new-s-requires : goal.new-s-requires
+new-s-requires c = (accepted _ _ c.lacks_five.ensures c.if-lacks_five.false).1
+
+pub scaled_numbers-requires : goal.scaled_numbers-requires
+scaled_numbers-requires c =
+    subst⁻¹ (λ (s : Scaled). s.d ≤ 4) c.new-s.ensures (unfold scaled_of in (accepted _ _ c.lacks_five.ensures c.if-lacks_five.false).1)
+
+pub returns : goal.returns
+returns c =
+    let is = rw c.five_at.ensures at (c.scaled_numbers.ensures ∙ ap scaled_numbers c.new-s.ensures) in
+    held _ _ c.lacks_five.ensures c.if-lacks_five.false is c.store.ensures

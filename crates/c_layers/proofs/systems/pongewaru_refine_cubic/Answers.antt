@@ -1,0 +1,14 @@
+-- All the numbers of the answer, or none.
+use mathlib.Core.Path.{refl, sym}
+use borrow.Author.Tests.{lt-ltb, le-ltb}
+use Rattle.lent_bytes.proofs.Whole.{lacking, held}
+use borrow.Author.Rules.{rules}
+use Rattle.c_layers.proofs.systems.pongewaru_refine_cubic.Goals as goal
+
+pub returns-then-x-lt24 : goal.returns-then-x-lt24
+returns-then-x-lt24 c = lacking _ _ (sym (lt-ltb _ _ c.if-x-lt24.true)) refl
+
+pub returns : goal.returns
+returns c =
+    let is = rw c.three_at.ensures at c.refine_cubic.ensures in
+    held _ _ (sym (le-ltb _ _ c.if-x-lt24.false)) refl is c.store.ensures

@@ -1,0 +1,6 @@
+-- The number, and zeros.
+use borrow.Author.Rules.{rules}
+use Rattle.contact.proofs.refused.Goals as goal
+
+pub returns : goal.returns
+returns c = rw c.none-roots.ensures

@@ -1,0 +1,6 @@
+-- `isolation` is its definition, over what `abs` and `min` give.
+use borrow.Author.Rules.{rules}
+use Rattle.cubic.proofs.isolation.Goals as goal
+
+pub returns : goal.returns
+returns c = cc

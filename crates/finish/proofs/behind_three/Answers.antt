@@ -1,0 +1,12 @@
+-- `behind_three` goes by where the first stands.
+use mathlib.Core.Path.{sym, ◌∙◌}
+use Rattle.finish.proofs.Places.{put_before, put_behind}
+use borrow.Author.Rules.{rules}
+use Rattle.finish.proofs.behind_three.Goals as goal
+
+pub returns-then-total_le : goal.returns-then-total_le
+returns-then-total_le c =
+    put_behind _ _ _ _ (sym c.total_le.ensures ∙ c.if-total_le.true) c.behind_two-rest.ensures
+
+pub returns : goal.returns
+returns c = put_before _ _ _ (sym c.total_le.ensures ∙ c.if-total_le.false)

@@ -1,0 +1,6 @@
+-- `gap` is the smaller of the two.
+use borrow.Author.Rules.{rules}
+use Rattle.finish.proofs.gap.Goals as goal
+
+pub returns : goal.returns
+returns c = rw (c.min.ensures, c.above.ensures, c.below.ensures)

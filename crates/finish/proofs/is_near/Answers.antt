@@ -1,0 +1,7 @@
+use Rattle.finish.specs.Finish.{is_near_of}
+use borrow.Author.Rules.{rules}
+use Rattle.finish.proofs.is_near.Goals as goal
+
+pub returns : goal.returns
+unfolding is_near_of
+returns c = c.within_band.ensures

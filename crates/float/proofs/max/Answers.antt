@@ -1,0 +1,8 @@
+-- The definition is what `pick` ensures.
+use borrow.Author.Rules.{rules}
+use Rattle.float.specs.Methods.{max_of}
+use Rattle.float.proofs.max.Goals as goal
+
+pub returns : goal.returns
+unfolding max_of
+returns c = c.pick.ensures

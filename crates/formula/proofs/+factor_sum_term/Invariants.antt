@@ -1,0 +1,26 @@
+-- The unread length falls: the measure is three times it, and 2 more for a sum and 1 more for a term, since a sum calls a term, and a term a factor, at the
+-- same place. A loop's invariant says what is read so far.
+use Rattle.std.proofs.Common.{◌+◌, ◌-◌, ◌*◌, length}
+use Rattle.formula.proofs.Cycle.{SumFar, TermFar}
+use Rattle.formula.proofs.+factor_sum_term.Given as goal
+
+abbrev pub decreases-factor : goal.decreases-factor
+decreases-factor l = 3 * (length l.s.now - l.at)
+
+abbrev pub decreases-sum : goal.decreases-sum
+decreases-sum l = 3 * (length l.s.now - l.at) + 2
+
+abbrev pub decreases-term : goal.decreases-term
+decreases-term l = 3 * (length l.s.now - l.at) + 1
+
+abbrev pub invariant-sum-loop-i : goal.invariant-sum-loop-i
+invariant-sum-loop-i l = SumFar l.s l.at l.left
+
+abbrev pub decreases-sum-loop-i : goal.decreases-sum-loop-i
+decreases-sum-loop-i l = length l.s - l.left.next
+
+abbrev pub invariant-term-loop-i : goal.invariant-term-loop-i
+invariant-term-loop-i l = TermFar l.s l.at l.left
+
+abbrev pub decreases-term-loop-i : goal.decreases-term-loop-i
+decreases-term-loop-i l = length l.s - l.left.next

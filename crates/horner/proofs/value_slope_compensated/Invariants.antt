@@ -1,0 +1,14 @@
+use mathlib.Core.Path.{◌≡◌, refl, ap, sym, ◌∙◌}
+use Prim.Native.Nat.{◌≤◌}
+use borrow.Author.Rules.{rules}
+use Rattle.facts.specs.Count.{count_down, down_turn, down_end}
+use Rattle.horner.specs.Loops.{at_place}
+use Rattle.horner.specs.Product.{two_prod_of}
+use Rattle.horner.specs.Horner.{sum_error, compensated_step, compensated_of, corrected, value_slope_compensated_of}
+use Rattle.horner.proofs.value_slope_compensated.Given as goal
+
+abbrev pub invariant-loop-i : goal.invariant-loop-i
+invariant-loop-i l = (l.i ≤ 4) × (count_down (at_place (compensated_step l.y) l.p) l.i (record { v = l.v; err = l.err; s = l.s }) ≡ compensated_of l.p l.d l.y)
+
+abbrev pub decreases-loop-i : goal.decreases-loop-i
+decreases-loop-i l = l.i

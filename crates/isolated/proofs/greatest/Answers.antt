@@ -1,0 +1,6 @@
+-- `greatest` is its definition, over what `max` gives.
+use borrow.Author.Rules.{rules}
+use Rattle.isolated.proofs.greatest.Goals as goal
+
+pub returns : goal.returns
+returns c = cc

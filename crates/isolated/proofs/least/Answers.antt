@@ -1,0 +1,6 @@
+-- `least` is its definition, over what `min` gives.
+use borrow.Author.Rules.{rules}
+use Rattle.isolated.proofs.least.Goals as goal
+
+pub returns : goal.returns
+returns c = cc

@@ -1,0 +1,5 @@
+use borrow.Author.Rules.{rules}
+use Rattle.large_factors.proofs.add_real.Goals as goal
+
+pub returns : goal.returns
+returns c = cc

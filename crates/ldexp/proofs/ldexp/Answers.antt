@@ -1,0 +1,12 @@
+-- By the sign and the size of k.
+use mathlib.Core.Path.{sym, ap, ◌∙◌}
+use borrow.Author.Rules.{rules}
+use lib.IntN.{ℤ}
+use mir.Facts.{to_z-of_z}
+use Rattle.ldexp.specs.Scale.{ldexp_of}
+use Rattle.ldexp.proofs.ldexp.Goals as goal
+
+pub returns : goal.returns
+returns c =
+    c.scaled.ensures ∙ ap (λ (z : ℤ). ldexp_of c.args.x z)
+    (sym (sym (to_z-of_z c.ranges.k) ∙ c.split_sign-s.ensures))

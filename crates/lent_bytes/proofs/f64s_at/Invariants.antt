@@ -1,0 +1,16 @@
+use native.Mathlib.Omega.{arith}
+use mathlib.Core.Path.{◌≡◌, refl, ap, subst, ◌∙◌}
+use mathlib.Core.List.{List, ◌++◌}
+use Prim.Native.Nat.{ℕ, ◌≤◌, ◌-◌}
+use lib.ListN.{length, set, replicate, length-set}
+use lib.Ieee.{Float}
+use Rattle.float.specs.Literals.{zero64}
+use Rattle.lent_bytes.specs.Bytes.{f64s_at}
+use Rattle.lent_bytes.proofs.Doubles.{f64s_none, f64s_next}
+use Rattle.lent_bytes.proofs.f64s_at.Given as goal
+
+abbrev pub invariant-loop-i : goal.invariant-loop-i
+invariant-loop-i l = (l.i ≤ l.k) × (length l.out ≡ 32) × (l.out ≡ f64s_at l.i l.s l.at ++ replicate (32 - l.i) zero64)
+
+abbrev pub decreases-loop-i : goal.decreases-loop-i
+decreases-loop-i l = l.k - l.i

@@ -1,0 +1,16 @@
+use borrow.Author.Rules.{rules}
+use mathlib.Core.Path.{sym, ◌∙◌}
+use Rattle.poly.specs.Short.{rest_with}
+use Rattle.lent_coefficients.proofs.rest_with.Goals as goal
+
+pub returns-then-x : goal.returns-then-x
+unfolding rest_with
+returns-then-x c = simp (sym c.is_finite.ensures ∙ c.if-is_finite.true, c.if-x.true)
+
+pub returns-then-is_finite : goal.returns-then-is_finite
+unfolding rest_with
+returns-then-is_finite c = simp (sym c.is_finite.ensures ∙ c.if-is_finite.true, c.if-x.false)
+
+pub returns : goal.returns
+unfolding rest_with
+returns c = simp (sym c.is_finite.ensures ∙ c.if-is_finite.false)

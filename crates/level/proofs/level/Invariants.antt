@@ -1,0 +1,17 @@
+use mathlib.Core.Path.{◌≡◌}
+use mathlib.Core.Bool.{false≢true}
+use Prim.Native.Nat.{ℕ, ◌-◌, ◌≤◌, ◌<◌}
+use native.Mathlib.Omega.{arith}
+use borrow.Author.Tests.{leb-true}
+use lib.Arith.{lt_of_le-ne}
+use Rattle.level.specs.Level.{SpanSeen}
+use Rattle.level.proofs.Turns.{seen_start, seen_more, seen_all}
+use Rattle.level.proofs.None.{level_none}
+use borrow.Author.Rules.{rules}
+use Rattle.level.proofs.level.Given as goal
+
+abbrev pub invariant-loop-i : goal.invariant-loop-i
+invariant-loop-i l = (1 ≤ l.i) × (l.i ≤ l.d) × (l.hi < 100000) × (l.lo < 100000) × SpanSeen l.a l.d l.s l.lo l.hi l.i
+
+abbrev pub decreases-loop-i : goal.decreases-loop-i
+decreases-loop-i l = l.d - l.i

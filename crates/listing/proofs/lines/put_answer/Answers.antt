@@ -1,0 +1,78 @@
+-- Each kind has its case of `answer_text`, and what the solver answers can be printed.
+use mathlib.Core.Path.{subst}
+use Rattle.text.proofs.Laws.{written_none, written_as}
+use Rattle.records.specs.declared.Kind.{Kind}
+use Rattle.records.specs.Records.{Whole}
+use Rattle.listing.proofs.Asked.{polynomial_prints, quadratic_prints, crank_prints, contact_prints, formula_prints}
+use Rattle.listing.proofs.Asked.{polynomial_text_is, quadratic_text_is, crank_text_is, contact_text, formula_text, unknown_text}
+use borrow.Author.Rules.{rules}
+use Rattle.listing.proofs.lines.put_answer.Goals as goal
+
+pub polynomial_at-requires : goal.polynomial_at-requires
+polynomial_at-requires c =
+    subst (λ (k : Kind). Whole k c.args.s.now c.args.at) c.in-Polynomial.is c.requires.1
+
+pub put_polynomial-requires : goal.put_polynomial-requires
+put_polynomial-requires c =
+    (c.requires.0, polynomial_prints c.args.s.now c.args.at c.polynomial_at.result c.polynomial_at.ensures)
+
+pub quadratic_at-requires : goal.quadratic_at-requires
+quadratic_at-requires c =
+    subst (λ (k : Kind). Whole k c.args.s.now c.args.at) c.in-Quadratic.is c.requires.1
+
+pub put_quadratic-requires : goal.put_quadratic-requires
+put_quadratic-requires c =
+    (c.requires.0, quadratic_prints c.args.s.now c.args.at c.quadratic_at.result c.quadratic_at.ensures)
+
+pub crank_at-requires : goal.crank_at-requires
+crank_at-requires c =
+    subst (λ (k : Kind). Whole k c.args.s.now c.args.at) c.in-Crank.is c.requires.1
+
+pub put_crank-requires : goal.put_crank-requires
+put_crank-requires c =
+    (c.requires.0, crank_prints c.args.s.now c.args.at c.crank_at.result c.crank_at.ensures)
+
+pub contact_at-requires : goal.contact_at-requires
+contact_at-requires c =
+    subst (λ (k : Kind). Whole k c.args.s.now c.args.at) c.in-Contact.is c.requires.1
+
+pub put_polynomial-requires-in-Contact : goal.put_polynomial-requires-in-Contact
+put_polynomial-requires-in-Contact c =
+    (c.requires.0, contact_prints c.args.s.now c.args.at c.contact_at.result c.contact_at.ensures)
+
+pub formula_at-requires : goal.formula_at-requires
+formula_at-requires c =
+    subst (λ (k : Kind). Whole k c.args.s.now c.args.at) c.in-Formula.is c.requires.1
+
+pub put_polynomial-requires-in-Formula : goal.put_polynomial-requires-in-Formula
+put_polynomial-requires-in-Formula c =
+    (c.requires.0, formula_prints c.args.s.now c.args.at c.formula_at.result c.formula_at.ensures)
+
+pub returns-in-Polynomial : goal.returns-in-Polynomial
+returns-in-Polynomial c =
+    written_as (polynomial_text_is c.args.s.now c.args.at _ _ c.in-Polynomial.is c.polynomial_at.ensures)
+    c.put_polynomial.ensures
+
+pub returns-in-Quadratic : goal.returns-in-Quadratic
+returns-in-Quadratic c =
+    written_as (quadratic_text_is c.args.s.now c.args.at _ _ c.in-Quadratic.is c.quadratic_at.ensures)
+    c.put_quadratic.ensures
+
+pub returns-in-Crank : goal.returns-in-Crank
+returns-in-Crank c =
+    written_as (crank_text_is c.args.s.now c.args.at _ _ c.in-Crank.is c.crank_at.ensures)
+    c.put_crank.ensures
+
+pub returns-in-Contact : goal.returns-in-Contact
+returns-in-Contact c =
+    written_as (contact_text c.args.s.now c.args.at _ _ c.in-Contact.is c.contact_at.ensures)
+    c.put_polynomial-in-Contact.ensures
+
+pub returns-in-Formula : goal.returns-in-Formula
+returns-in-Formula c =
+    written_as (formula_text c.args.s.now c.args.at _ _ c.in-Formula.is c.formula_at.ensures)
+    c.put_polynomial-in-Formula.ensures
+
+pub returns-in-Unknown : goal.returns-in-Unknown
+returns-in-Unknown c =
+    written_as (unknown_text c.args.s.now c.args.at _ c.in-Unknown.is) (written_none c.args.out.now c.args.w)

@@ -1,0 +1,12 @@
+use mathlib.Core.Path.{◌≡◌, sym, ap, ◌∙◌, subst}
+use Prim.Native.Nat.{◌-◌, ◌≤◌}
+use Rattle.order.specs.Order.{order_of, falling_of, falls, Places}
+use Rattle.order.proofs.Laws.{order_turn, order_none, order_places}
+use borrow.Author.Rules.{rules}
+use Rattle.order.proofs.falling.Given as goal
+
+abbrev pub invariant-loop-i : goal.invariant-loop-i
+invariant-loop-i l = (l.i ≤ l.n) × (l.at ≡ order_of falls l.key l.i)
+
+abbrev pub decreases-loop-i : goal.decreases-loop-i
+decreases-loop-i l = l.n - l.i

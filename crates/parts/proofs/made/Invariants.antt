@@ -1,0 +1,12 @@
+use mathlib.Core.Path.{sym, ◌∙◌}
+use Prim.Native.Nat.{◌-◌, ◌≤◌}
+use native.Mathlib.Omega.{arith}
+use Rattle.parts.proofs.Joins.{Made, made_none_yet, made_next, large, all_made}
+use borrow.Author.Rules.{rules}
+use Rattle.parts.proofs.made.Given as goal
+
+abbrev pub invariant-loop-k : goal.invariant-loop-k
+invariant-loop-k l = (l.k ≤ l.end) × Made l.op l.a l.b l.k l.r
+
+abbrev pub decreases-loop-k : goal.decreases-loop-k
+decreases-loop-k l = l.end - l.k

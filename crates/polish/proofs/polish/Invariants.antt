@@ -1,0 +1,13 @@
+use mathlib.Core.Path.{◌≡◌, refl, sym, ◌∙◌}
+use Prim.Native.Nat.{◌-◌, ◌≤◌}
+use Rattle.horner.specs.Horner.{value_slope_compensated_of}
+use Rattle.polish.specs.Polish.{polish_of}
+use Rattle.polish.proofs.Laws.{turns_from, turns_over, ends_flat, ends_long, ends_still, ends_held, ends_small, goes_on}
+use borrow.Author.Rules.{rules}
+use Rattle.polish.proofs.polish.Given as goal
+
+abbrev pub invariant-loop-k : goal.invariant-loop-k
+invariant-loop-k l = (l.k ≤ 4) × (l.at ≡ value_slope_compensated_of l.f l.d l.y) × (turns_from l.f l.d l.gap (4 - l.k) l.y ≡ polish_of 4 l.f l.d l.gap l.y0)
+
+abbrev pub decreases-loop-k : goal.decreases-loop-k
+decreases-loop-k l = 4 - l.k

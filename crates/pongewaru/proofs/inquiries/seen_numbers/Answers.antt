@@ -1,0 +1,5 @@
+use borrow.Author.Rules.{rules}
+use Rattle.pongewaru.proofs.inquiries.seen_numbers.Goals as goal
+
+pub returns : goal.returns
+returns c = c.shown_numbers.ensures

@@ -1,0 +1,7 @@
+-- Number by number.
+use borrow.Author.Rules.{rules}
+use Rattle.pongewaru.proofs.Feeding.{shown_is}
+use Rattle.pongewaru.proofs.inquiries.shown_numbers.Goals as goal
+
+pub returns : goal.returns
+returns c = shown_is _ _ _ _ _ _ c.flag-asks.ensures c.root_numbers-list.ensures

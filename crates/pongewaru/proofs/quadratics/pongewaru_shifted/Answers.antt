@@ -1,0 +1,11 @@
+-- All the numbers of the answer, or none.
+use mathlib.Core.Path.{ap, ◌∙◌}
+use Rattle.pongewaru.specs.Quadratics.{solution_numbers}
+use Rattle.lent_bytes.proofs.Whole.{stored_as}
+use borrow.Author.Rules.{rules}
+use Rattle.pongewaru.proofs.quadratics.pongewaru_shifted.Goals as goal
+
+pub returns : goal.returns
+returns c =
+    stored_as (rw c.solution-s.ensures at (c.solution_numbers.ensures
+    ∙ ap solution_numbers c.shifted.ensures)) c.store.ensures

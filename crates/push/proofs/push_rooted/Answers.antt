@@ -1,0 +1,26 @@
+-- `push_rooted` is its definition, by what the factor is.
+use Rattle.push.specs.Quadratic.{push_factor_in, push_rooted_in}
+use Rattle.push.proofs.Laws.{double_is, is_apart, is_complex}
+use borrow.Author.Rules.{rules}
+use Rattle.push.proofs.push_rooted.Goals as goal
+
+pub returns-then-within : goal.returns-then-within
+unfolding push_rooted_in push_factor_in
+returns-then-within c =
+    rw (double_is c.args.poly _ _ _ c.args.s c.within.ensures c.if-within.true
+    c.double_at-y.ensures)
+    (rw c.keep-roots.ensures)
+
+pub returns-then-s : goal.returns-then-s
+unfolding push_rooted_in push_factor_in
+returns-then-s c =
+    rw (is_apart c.args.poly _ _ _ c.args.s
+    c.within.ensures c.if-within.false c.if-s.true c.far_by-q.ensures)
+    (rw (c.keep-roots-then-s.ensures, c.keep.ensures))
+
+pub returns : goal.returns
+unfolding push_rooted_in push_factor_in
+returns c =
+    rw (is_complex c.args.poly _ _ _ c.args.s c.within.ensures c.if-within.false
+    c.if-s.false)
+    (rw c.push-pairs.ensures)

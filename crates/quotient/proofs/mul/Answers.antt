@@ -1,0 +1,6 @@
+use Rattle.quotient.proofs.InPlace.{mul_is}
+use borrow.Author.Rules.{rules}
+use Rattle.quotient.proofs.mul.Goals as goal
+
+pub returns : goal.returns
+returns c = mul_is _ _ _ c.mul_in_place.ensures

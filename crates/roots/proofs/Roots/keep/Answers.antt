@@ -1,0 +1,5 @@
+use borrow.Author.Rules.{rules}
+use Rattle.roots.proofs.Roots.keep.Goals as goal
+
+pub returns : goal.returns
+returns c = rw (← c.new.ensures) c.keep_root.ensures

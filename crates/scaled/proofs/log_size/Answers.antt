@@ -1,0 +1,17 @@
+-- By the place and the degree.
+use mir.Facts.{to_z-of_z}
+use borrow.Author.Tests.{le-leb, lt-leb}
+use Rattle.scaled.proofs.Signed.{read}
+use Rattle.scaled.specs.Scaled.{log_size_of}
+use borrow.Author.Rules.{rules}
+use Rattle.scaled.proofs.log_size.Goals as goal
+
+pub returns-then-i-d : goal.returns-then-i-d
+unfolding log_size_of
+returns-then-i-d c =
+    let f = c.ranges in
+    rw (le-leb _ _ c.if-i-d.true, read _ c.shift.type_inv, c.shift.ensures, to_z-of_z f.e, to_z-of_z f.top)
+
+pub returns : goal.returns
+unfolding log_size_of
+returns c = rw (lt-leb _ _ c.if-i-d.false, c.infinity.ensures)

@@ -1,0 +1,30 @@
+-- By the digits of the two coefficients.
+use native.Mathlib.Omega.{arith}
+use Rattle.decode.proofs.Class.{decoded_normal}
+use Rattle.scaled.proofs.Needed.{reach_none, reach_same, reach_more}
+use borrow.Author.Rules.{rules}
+use Rattle.scaled.proofs.reach.Goals as goal
+
+pub returns-then-n-eq0 : goal.returns-then-n-eq0
+returns-then-n-eq0 c = reach_none _ _ _ _ _ c.normal_of-n.ensures c.if-n-eq0.true
+
+pub overflow_add-t : goal.overflow_add-t
+overflow_add-t c = omega (arith, (decoded_normal _ _ _ c.normal_of-n.ensures c.if-n-eq0.false).reach)
+
+pub overflow_add-result : goal.overflow_add-result
+overflow_add-result c =
+    omega (arith, (decoded_normal _ _ _ c.normal_of-n.ensures c.if-n-eq0.false).reach)
+
+pub returns-then-n-w : goal.returns-then-n-w
+returns-then-n-w c =
+    let p = c.requires in
+    reach_same _ _ _ _ _ _ c.normal_of-n.ensures c.if-n-eq0.false p.w_in_range p.k_high p.j_in_range.0 c.if-n-w.true
+
+pub overflow_add-result-2 : goal.overflow_add-result-2
+overflow_add-result-2 c =
+    omega (arith, (decoded_normal _ _ _ c.normal_of-n.ensures c.if-n-eq0.false).reach)
+
+pub returns : goal.returns
+returns c =
+    let p = c.requires in
+    reach_more _ _ _ _ _ _ c.normal_of-n.ensures c.if-n-eq0.false p.w_in_range p.k_high p.j_in_range.0 c.if-n-w.false

@@ -1,0 +1,7 @@
+use Rattle.scaled.specs.Scaled.{sizes_of}
+use borrow.Author.Rules.{rules}
+use Rattle.scaled.proofs.sizes.Goals as goal
+
+pub returns : goal.returns
+unfolding sizes_of
+returns c = cc

@@ -1,0 +1,7 @@
+use Rattle.split.specs.Hull.{mag_of}
+use borrow.Author.Rules.{rules}
+use Rattle.split.proofs.mag.Goals as goal
+
+pub returns : goal.returns
+unfolding mag_of
+returns c = rw c.width.ensures

@@ -1,0 +1,36 @@
+-- It is the search of `nearest` by the test of squares.
+use Rattle.std.proofs.Common.{◌+◌, ◌*◌, ◌^◌, sym, ◌∙◌, arith, le-leb}
+use Rattle.nearest.proofs.Search.{Halving, begin, turn, end}
+use Rattle.sqrt.specs.Root.{square_le}
+use Rattle.sqrt.proofs.Squares.{top_word}
+use Rattle.sqrt.proofs.search_root.Goals as goal
+
+pub loop-k-init : goal.loop-k-init
+loop-k-init c = begin _ (le-leb 0 (c.args.hi * 2 ^ 64 + c.args.lo) (omega arith)) (top_word c.args.hi c.args.lo c.requires c.ranges.lo.fits)
+
+pub overflow_sub-k : goal.overflow_sub-k
+overflow_sub-k c = c.loop-k-test.true
+
+pub overflow_shl-s : goal.overflow_shl-s
+overflow_shl-s c = (turn c.loop-k.invariant c.loop-k-test.true).shift
+
+pub overflow_add-s : goal.overflow_add-s
+overflow_add-s c = (turn c.loop-k.invariant c.loop-k-test.true).fits
+
+pub within-requires : goal.within-requires
+within-requires c = tt
+
+pub loop-k-smaller-then-within : goal.loop-k-smaller-then-within
+loop-k-smaller-then-within c = (turn c.loop-k.invariant c.loop-k-test.true).less
+
+pub loop-k-preserved-then-within : goal.loop-k-preserved-then-within
+loop-k-preserved-then-within c = (turn c.loop-k.invariant c.loop-k-test.true).raised (sym c.within.ensures ∙ c.if-within.true)
+
+pub loop-k-smaller : goal.loop-k-smaller
+loop-k-smaller c = (turn c.loop-k.invariant c.loop-k-test.true).less
+
+pub loop-k-preserved : goal.loop-k-preserved
+loop-k-preserved c = (turn c.loop-k.invariant c.loop-k-test.true).kept (sym c.within.ensures ∙ c.if-within.false)
+
+pub returns : goal.returns
+returns c = end c.loop-k.invariant c.loop-k-test.false

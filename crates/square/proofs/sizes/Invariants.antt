@@ -1,0 +1,14 @@
+use mathlib.Core.Path.{◌≡◌, sym, ◌∙◌}
+use Prim.Native.Nat.{◌-◌, ◌≤◌}
+use native.Mathlib.Nat.{sub-zero}
+use lib.ListN.{length}
+use Rattle.facts.specs.Count.{count_up, up_turn, up_end}
+use Rattle.square.specs.Square.{size_sum_step, size_sum_of}
+use borrow.Author.Rules.{rules}
+use Rattle.square.proofs.sizes.Given as goal
+
+abbrev pub invariant-loop-i : goal.invariant-loop-i
+invariant-loop-i l = (l.i ≤ length l.l) × (count_up (length l.l) (size_sum_step l.l) (length l.l - l.i) l.a ≡ size_sum_of l.l l.acc)
+
+abbrev pub decreases-loop-i : goal.decreases-loop-i
+decreases-loop-i l = length l.l - l.i

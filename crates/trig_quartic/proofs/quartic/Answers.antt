@@ -1,0 +1,7 @@
+use Rattle.trig_quartic.specs.Crank.{quartic_of}
+use borrow.Author.Rules.{rules}
+use Rattle.trig_quartic.proofs.quartic.Goals as goal
+
+pub returns : goal.returns
+unfolding quartic_of
+returns c = cc
