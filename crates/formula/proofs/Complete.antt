@@ -11,8 +11,9 @@ use lib.Ieee.Bits.{is_true}
 use lib.Ieee.Fits.{and_l, and_r}
 use Rattle.formula.specs.Grammar.{is_digit, all_digits, is_number, Number, Sign, plus, minus, Power, plain, power, sign_byte}
 use Rattle.formula.specs.Grammar.{Sum, term, join, Term, factor, times, Factor, number, letter, bracket, power_text, sum_text, term_text, factor_text}
-use Rattle.formula.specs.Reading.{Read, fails, reads, and_then, if_some, after, after_sign, digits_of, behind_digits, checked, number_of, read_digit, read_power}
-use Rattle.formula.specs.Reading.{read_number, read_unit, read_closed, read_sum, more_terms, read_term, more_factors, read_factor, whole, reading_of}
+use Rattle.formula.specs.Reading.{Read, fails, reads, and_then, if_some, after, after_sign, digits_of, behind_digits, checked, number_of, read_digit}
+use Rattle.formula.specs.Reading.{read_power, read_number, read_unit, read_closed, read_sum, more_terms, read_term, more_factors, read_factor}
+use Rattle.formula.specs.Reading.{whole, reading_of}
 use Rattle.formula.proofs.Sound.{digits_are}
 
 -- no digit and no ^ comes next
@@ -88,7 +89,8 @@ times_step a b rest (suc g) l r =
 pub factors_end : (g : ℕ) (a : Term) (s : List ℕ) → 1 ≤ g → after 42 s ≡ none → more_factors g a s ≡ reads a s
 unfolding read_factor
 factors_end zero a s l e = absurd (omega arith)
-factors_end (suc g) a s l e = ap (λ (o : Option (List ℕ)). if_some o (reads a s) (λ u. and_then (read_factor g u) (λ b rest. more_factors g (times a b) rest))) e
+factors_end (suc g) a s l e =
+    ap (λ (o : Option (List ℕ)). if_some o (reads a s) (λ u. and_then (read_factor g u) (λ b rest. more_factors g (times a b) rest))) e
 
 sign_read : (g : Sign) (u : List ℕ) → after_sign (sign_byte g ∷ u) ≡ some (g, u)
 sign_read plus u = refl
@@ -139,7 +141,8 @@ mutual
   sum_then (join a g b) rest e n f h =
       let s = sign_byte g ∷ term_text b ++ rest in
       let same = append_assoc (sum_text a) (sign_byte g ∷ term_text b) rest in
-      let w = sum_then a s (sign_ends g (term_text b ++ rest)) (sign_no_times g (term_text b ++ rest)) f (subst (λ (x : List ℕ). 3 * length x + 3 ≤ f) same h) in
+      let k = subst (λ (x : List ℕ). 3 * length x + 3 ≤ f) same h in
+      let w = sum_then a s (sign_ends g (term_text b ++ rest)) (sign_no_times g (term_text b ++ rest)) f k in
       let v = join_step a g b rest w.0 w.1 (λ m l. let t = term_then b rest e m l in t.2 ∙ factors_end t.0 b rest (omega (arith, t.1)) n) in
       (v.0, v.1, ap (λ (x : List ℕ). read_sum f x) same ∙ w.2 ∙ v.2)
 

@@ -261,6 +261,7 @@ module _ (s : List ℕ) (at : ℕ) where
     inr (refl, (letter, ap by_letter (after_true s at 116 e), λ p. ap (powered_of p) (sym v.0))),
   )
 
-  pub unit_number : is_at s at 116 ≡ false → (c : Cursor) → Ahead s at c × Based s c (read_number (drop at s)) → Ahead s at c × Based s c (read_unit (drop at s))
+  pub unit_number : is_at s at 116 ≡ false → (c : Cursor) → Ahead s at c × Based s c (read_number (drop at s))
+      → Ahead s at c × Based s c (read_unit (drop at s))
   unfolding by_letter
   unit_number e c w = (w.0, subst (Based s c) (sym (ap by_letter (after_false s at 116 e))) w.1)

@@ -130,7 +130,8 @@ repeated_judged xs p (exact q) (suc k) h =
     subst (λ (ys : List (List ℤ)). Judged ys (repeated p (suc k)) (power_of (exact q) (suc k))) (append_assoc xs (products p k) (repeated p (suc k) ∷ []))
     (join_last Product (xs ++ products p k) (repeated p k) p (power_of (exact q) k) q (repeated_judged xs p (exact q) k h) h.2)
 
-powered_judged : (a : Power) (xs : List (List ℤ)) (p : List ℤ) (v : Value) → Judged xs p v → Judged (xs ++ power_parts a p) (power_polynomial a p) (powered_of a v)
+powered_judged : (a : Power) (xs : List (List ℤ)) (p : List ℤ) (v : Value) → Judged xs p v
+    → Judged (xs ++ power_parts a p) (power_polynomial a p) (powered_of a v)
 powered_judged plain xs p v h = subst⁻¹ (λ (ys : List (List ℤ)). Judged ys p v) (append-nil xs) h
 powered_judged (power d t) xs p v h = repeated_judged xs p v (d - 48) h
 
@@ -155,7 +156,8 @@ mutual
 
   pub sum_judged : (a : Sum) → Judged (sum_parts a) (sum_polynomial a) (sum_of a)
   sum_judged (term a) = term_judged a
-  sum_judged (join a g b) = sign_judged g (sum_parts a) (term_parts b) (sum_polynomial a) (term_polynomial b) (sum_of a) (term_of b) (sum_judged a) (term_judged b)
+  sum_judged (join a g b) =
+      sign_judged g (sum_parts a) (term_parts b) (sum_polynomial a) (term_polynomial b) (sum_of a) (term_of b) (sum_judged a) (term_judged b)
 
   term_judged : (a : Term) → Judged (term_parts a) (term_polynomial a) (term_of a)
   term_judged (factor a) = factor_judged a

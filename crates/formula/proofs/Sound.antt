@@ -8,8 +8,9 @@ use lib.Dec.{T, eqb, eqb→eq}
 use lib.ListN.{length}
 use Rattle.formula.specs.Grammar.{is_digit, is_number, Number, Sign, plus, minus, Power, plain, power, sign_byte, power_text, sum_text, term_text, factor_text}
 use Rattle.formula.specs.Grammar.{Sum, term, join, Term, factor, times, Factor, number, letter, bracket}
-use Rattle.formula.specs.Reading.{Read, fails, reads, and_then, if_some, after, after_sign, digits_of, behind_digits, checked, number_of, read_digit, read_power}
-use Rattle.formula.specs.Reading.{read_number, read_unit, read_closed, read_sum, more_terms, read_term, more_factors, read_factor, whole, reading_of}
+use Rattle.formula.specs.Reading.{Read, fails, reads, and_then, if_some, after, after_sign, digits_of, behind_digits, checked, number_of, read_digit}
+use Rattle.formula.specs.Reading.{read_power, read_number, read_unit, read_closed, read_sum, more_terms, read_term, more_factors, read_factor}
+use Rattle.formula.specs.Reading.{whole, reading_of}
 
 -- ---- what was read and what is left are the text s
 abbrev Held : {A : Type 0} → (A → List ℕ) → List ℕ → Read A → Type 0

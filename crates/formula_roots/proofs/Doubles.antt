@@ -9,7 +9,7 @@ use native.Mathlib.Omega.{arith}
 use lib.Dec.{T, eqb, eqb→eq, lit≤}
 use lib.ListN.{length, get_or, length-map}
 use lib.IntN.{ℤ, pos, negsuc, nat_abs}
-use lib.Ieee.{Float, nan, fin, binary64, up, down, eq, of_bits, of_int}
+use lib.Ieee.{Float, nan, inf, fin, binary64, up, down, eq, of_bits, of_int}
 use lib.Ieee.Exact.{HasValue}
 use lib.Ieee.Back.{round_whole}
 use lib.Ieee.Fits.{down_pos, and_l}
@@ -38,16 +38,22 @@ whole_double (negsuc n) h = round_whole binary64 true (suc n) h
 
 value_finite : (x : Float) (s : Bool) (n : ℕ) → HasValue x s n 1 → is_finite_of x ≡ true
 unfolding is_finite_of
+value_finite nan s n v = elim v [ ]
+value_finite (inf t) s n v = elim v [ ]
 value_finite (fin t m e) s n v = refl
 
 value_level : (x : Float) (s : Bool) (n : ℕ) → HasValue x s n 1 → eq x zero64 ≡ true → n ≡ 0
 unfolding eq of_bits
+value_level nan s n v h = elim v [ ]
+value_level (inf t) s n v h = elim v [ ]
 value_level (fin t m e) s n v h =
     let level = and_l (eqb (m * up e * 1) (0 * down e)) (beq t false || eqb (m * up e * 1) 0) (subst T (sym h) tt) in
     eq_of_mul-eq-mul_right (down e) (down_pos e) n 0 (sym v.1 ∙ eqb→eq _ _ level)
 
 zero_level : (x : Float) → HasValue x false 0 1 → eq x zero64 ≡ true
 unfolding eq of_bits
+zero_level nan v = elim v [ ]
+zero_level (inf t) v = elim v [ ]
 zero_level (fin t m e) v = rw (eq-eqb (m * up e * 1) (0 * down e) v.1, v.0)
 
 whole_finite : (x : Float) (z : ℤ) → Whole x z → is_finite_of x ≡ true

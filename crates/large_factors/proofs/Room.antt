@@ -42,4 +42,5 @@ all_room f (x ∷ l) h = let w = with_degree f x (omega arith) in (w.0, all_room
 -- the loop over the sorted units, which may end before the last
 pub large_room : (out : Factors) → degree_of out ≤ 4 → RoomForAll no_factors (sorted_by no_smaller (factor_units_of out))
 large_room out D =
-    all_room no_factors (sorted_by no_smaller (factor_units_of out)) (omega (arith, sum_sorted no_smaller unit_degree (factor_units_of out), units_degrees out))
+    all_room no_factors (sorted_by no_smaller (factor_units_of out))
+    (omega (arith, sum_sorted no_smaller unit_degree (factor_units_of out), units_degrees out))

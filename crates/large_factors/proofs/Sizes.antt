@@ -51,4 +51,5 @@ from_sized want least f (x ∷ l) S = either_way Sized (ends_of x (degree_of f) 
 
 pub large_sized : (f : Factors) (want : ℕ) (threshold : Float) → Sized (large_of f want threshold)
 unfolding large_of
-large_sized f want threshold = from_sized want (mul binary64 threshold epsilon64) no_factors (sorted_by no_smaller (factor_units_of f)) (none_sized no_factors refl)
+large_sized f want threshold =
+    from_sized want (mul binary64 threshold epsilon64) no_factors (sorted_by no_smaller (factor_units_of f)) (none_sized no_factors refl)

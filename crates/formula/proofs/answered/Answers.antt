@@ -1,6 +1,5 @@
 -- The number of the refusal, or the coefficients one by one.
 use Rattle.formula.proofs.Answers.{answer_refused, answer_is}
-use borrow.Author.Rules.{rules}
 use Rattle.formula.proofs.answered.Goals as goal
 
 pub returns-then-a-ne0 : goal.returns-then-a-ne0

@@ -11,7 +11,8 @@ returns-then-not-inner c =
 
 pub returns-then-is_at : goal.returns-then-is_at
 returns-then-is_at c =
-    let is = closed_shut _ c.args.inner (c.requires.inner_next_high, c.requires.sound) (not-false _ c.if-not-inner.false) (sym c.is_at.ensures ∙ c.if-is_at.true) in
+    let is-shut = sym c.is_at.ensures ∙ c.if-is_at.true in
+    let is = closed_shut _ c.args.inner (c.requires.inner_next_high, c.requires.sound) (not-false _ c.if-not-inner.false) is-shut in
     record { ahead = is.0; closed = is.1 }
 
 pub returns : goal.returns

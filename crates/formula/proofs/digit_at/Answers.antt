@@ -1,7 +1,6 @@
 -- Behind the text, below 0, or by 9.
 use borrow.Author.Tests.{lt-ltb, le-ltb, le-leb, lt-leb}
 use Rattle.formula.specs.Readers.{digit_at}
-use borrow.Author.Rules.{rules}
 use Rattle.formula.proofs.digit_at.Goals as goal
 
 pub returns-then-s-i-lt48 : goal.returns-then-s-i-lt48

@@ -1,7 +1,6 @@
 -- Inside the text or behind it.
 use borrow.Author.Tests.{lt-ltb, le-ltb}
 use Rattle.formula.specs.Readers.{is_at}
-use borrow.Author.Rules.{rules}
 use Rattle.formula.proofs.is_at.Goals as goal
 
 pub returns-then-i-s : goal.returns-then-i-s

@@ -2,10 +2,8 @@
 use mathlib.Core.Path.{sym, ◌∙◌}
 use Prim.Native.Nat.{◌-◌}
 use native.Mathlib.Omega.{arith}
-use lib.ListN.{length}
 use Rattle.formula.proofs.Bytes.{digit_inside}
-use Rattle.formula.proofs.Factors.{Counted, counted_none, counted_small, counted_next, number_long, number_none, number_some}
-use borrow.Author.Rules.{rules}
+use Rattle.formula.proofs.Factors.{counted_none, counted_small, counted_next, number_long, number_none, number_some}
 use Rattle.formula.proofs.number.Goals as goal
 
 pub returns-then-i-at-eq9 : goal.returns-then-i-at-eq9

@@ -1,6 +1,5 @@
 -- By the byte.
 use mathlib.Core.Path.{sym, ◌∙◌}
-use borrow.Author.Rules.{rules}
 use Rattle.formula.proofs.operator_at.Goals as goal
 
 pub returns-then-is_at : goal.returns-then-is_at

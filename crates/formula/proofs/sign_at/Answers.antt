@@ -1,7 +1,6 @@
 -- By the first byte, else by the second.
 use mathlib.Core.Path.{sym, ◌∙◌}
 use Rattle.formula.specs.Readers.{sign_at}
-use borrow.Author.Rules.{rules}
 use Rattle.formula.proofs.sign_at.Goals as goal
 
 pub returns-then-is_at : goal.returns-then-is_at

@@ -3,7 +3,6 @@ use mathlib.Core.Path.{sym, ◌∙◌}
 use native.Mathlib.Omega.{arith}
 use Rattle.formula.proofs.Bytes.{at_inside}
 use Rattle.formula.proofs.Factors.{unit_letter, unit_number}
-use borrow.Author.Rules.{rules}
 use Rattle.formula.proofs.unit.Goals as goal
 
 pub overflow_add-result : goal.overflow_add-result

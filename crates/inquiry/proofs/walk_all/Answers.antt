@@ -37,7 +37,7 @@ finished-requires-2 c =
     let pre = c.requires in
     let its = c.ordered-its.ensures in
     let same = ap multiplicities its.0 ∙ multiplicities_by_value (list_of c.pairs-w.result.items) in
-    (pre.0, pre.1, ((let h = c.ordered-its.type-inv in search (rules, length_mapped)), omega (arith, its.1, walk.1.1)), omega (arith, same, walk.2))
+    (pre.0, pre.1, ((let h = c.ordered-its.type_inv in search (rules, length_mapped)), omega (arith, its.1, walk.1.1)), omega (arith, same, walk.2))
 
 pub returns : goal.returns
 returns c =

@@ -11,7 +11,8 @@ use Rattle.large_factors.proofs.take_large.Given as goal
 
 abbrev pub invariant-loop-i : goal.invariant-loop-i
 invariant-loop-i l =
-    (l.i ≤ l.n) × Sized l.out × (large_from l.want l.least l.out (drop l.i (in_order l.at l.order l.n)) ≡ large_from l.want l.least no_factors (in_order l.at l.order l.n))
+    let units = in_order l.at l.order l.n in
+    (l.i ≤ l.n) × Sized l.out × (large_from l.want l.least l.out (drop l.i units) ≡ large_from l.want l.least no_factors units)
 
 abbrev pub decreases-loop-i : goal.decreases-loop-i
 decreases-loop-i l = l.n - l.i

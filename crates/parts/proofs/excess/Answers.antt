@@ -1,6 +1,5 @@
 -- By the lower words, with one borrowed from the upper ones or none.
 use Rattle.parts.proofs.Words.{excess_plain, excess_apart, excess_borrow, excess_far}
-use borrow.Author.Rules.{rules}
 use Rattle.parts.proofs.excess.Goals as goal
 
 pub returns-then-a_hi-b_hi : goal.returns-then-a_hi-b_hi

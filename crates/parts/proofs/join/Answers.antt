@@ -1,7 +1,6 @@
 -- By the numbers of the operands, and by the length of what is made.
 use mathlib.Core.Path.{sym, ◌∙◌}
 use Rattle.parts.proofs.Joins.{high, join_left, join_right, join_both}
-use borrow.Author.Rules.{rules}
 use Rattle.parts.proofs.join.Goals as goal
 
 pub returns-then-a-ne0 : goal.returns-then-a-ne0

@@ -1,10 +1,7 @@
 -- The loop's invariant: the coefficients from t^n on are zeros.
-use mathlib.Core.Path.{◌≡◌}
-use Prim.Native.Nat.{ℕ, ◌≤◌}
+use Prim.Native.Nat.{◌≤◌}
 use native.Mathlib.Omega.{arith}
 use lib.Dec.{lit≤}
-use lib.IntN.{pos}
-use Rattle.parts.specs.Part.{coefficient_in}
 use Rattle.parts.proofs.Entries.{coefficient_none, ended, one_zero_more, length_is, length_none}
 use borrow.Author.Rules.{rules}
 use Rattle.parts.proofs.len.Goals as goal

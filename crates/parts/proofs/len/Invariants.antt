@@ -1,11 +1,7 @@
 use mathlib.Core.Path.{◌≡◌}
 use Prim.Native.Nat.{ℕ, ◌≤◌}
-use native.Mathlib.Omega.{arith}
-use lib.Dec.{lit≤}
 use lib.IntN.{pos}
 use Rattle.parts.specs.Part.{coefficient_in}
-use Rattle.parts.proofs.Entries.{coefficient_none, ended, one_zero_more, length_is, length_none}
-use borrow.Author.Rules.{rules}
 use Rattle.parts.proofs.len.Given as goal
 
 abbrev pub invariant-loop-n : goal.invariant-loop-n

@@ -1,8 +1,5 @@
-use mathlib.Core.Path.{sym, ◌∙◌}
 use Prim.Native.Nat.{◌-◌, ◌≤◌}
-use native.Mathlib.Omega.{arith}
-use Rattle.parts.proofs.Joins.{Made, made_none_yet, made_next, large, all_made}
-use borrow.Author.Rules.{rules}
+use Rattle.parts.proofs.Joins.{Made}
 use Rattle.parts.proofs.made.Given as goal
 
 abbrev pub invariant-loop-k : goal.invariant-loop-k

@@ -1,7 +1,6 @@
 -- By the operator.
 use native.Mathlib.Omega.{arith}
 use Rattle.parts.proofs.Sums.{read_small, sum_raised, difference_raised}
-use borrow.Author.Rules.{rules}
 use Rattle.parts.proofs.made_at.Goals as goal
 
 pub overflow_add-a : goal.overflow_add-a

@@ -1,5 +1,4 @@
 -- By the operator.
-use borrow.Author.Rules.{rules}
 use Rattle.parts.proofs.made_len.Goals as goal
 
 pub returns-in-Sum : goal.returns-in-Sum

@@ -4,7 +4,7 @@ use Prim.Native.Nat.{◌-◌, ◌≤◌}
 use native.Mathlib.Omega.{arith}
 use lib.Dec.{lit≤}
 use Rattle.parts.specs.Value.{power_of}
-use Rattle.parts.specs.Part.{value_in, Sound}
+use Rattle.parts.specs.Part.{value_in}
 use Rattle.parts.proofs.Joins.{power_refused, power_none, power_next}
 use borrow.Author.Rules.{rules}
 use Rattle.parts.proofs.power.Goals as goal

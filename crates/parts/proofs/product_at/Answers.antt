@@ -1,9 +1,9 @@
 -- The loop's invariant: the products before the i-th are added up. Those that the loop leaves out are zeros.
-use Prim.Native.Nat.{◌+◌, ◌-◌, ◌≤◌}
+use Prim.Native.Nat.{◌+◌, ◌-◌}
 use native.Mathlib.Omega.{arith}
 use Rattle.parts.specs.Part.{words_of}
 use Rattle.parts.proofs.Words.{within_more, upper_product}
-use Rattle.parts.proofs.Sums.{read_small, Added, added_none, added_turn, product_raised}
+use Rattle.parts.proofs.Sums.{read_small, added_none, added_turn, product_raised}
 use borrow.Author.Rules.{rules}
 use Rattle.parts.proofs.product_at.Goals as goal
 

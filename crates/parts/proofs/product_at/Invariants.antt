@@ -1,9 +1,5 @@
 use Prim.Native.Nat.{◌+◌, ◌-◌, ◌≤◌}
-use native.Mathlib.Omega.{arith}
-use Rattle.parts.specs.Part.{words_of}
-use Rattle.parts.proofs.Words.{within_more, upper_product}
-use Rattle.parts.proofs.Sums.{read_small, Added, added_none, added_turn, product_raised}
-use borrow.Author.Rules.{rules}
+use Rattle.parts.proofs.Sums.{Added}
 use Rattle.parts.proofs.product_at.Given as goal
 
 abbrev pub invariant-loop-i : goal.invariant-loop-i

@@ -3,4 +3,4 @@ use Rattle.parts.proofs.Entries.{refused_is}
 use Rattle.parts.proofs.refused.Goals as goal
 
 pub returns : goal.returns
-returns c = record { value = (refused_is c.args.number c.requires).0; sound = (refused_is c.args.number c.requires).1 }
+returns c = let is = refused_is c.args.number c.requires in record { value = is.0; sound = is.1 }

@@ -2,7 +2,6 @@
 use native.Mathlib.Omega.{arith}
 use Rattle.parts.specs.Part.{words_of}
 use Rattle.parts.proofs.Words.{upper_sum, words_sum}
-use borrow.Author.Rules.{rules}
 use Rattle.parts.proofs.with_product.Goals as goal
 
 pub overflow_add-s : goal.overflow_add-s

@@ -31,7 +31,7 @@ logs-requires c =
 pub with_logs-poly-requires : goal.with_logs-poly-requires
 with_logs-poly-requires c =
     let r = room _ _ _ _ _ c.trimmed-n.ensures.0 c.leading_zeros-zeros.ensures c.refusal-number.ensures c.if-number-ne0.false in
-    (search rules, c.logs.ensures.0)
+    record { d_high = search rules; l_high = c.logs.ensures.0 }
 
 pub finished-requires : goal.finished-requires
 finished-requires c =

@@ -11,7 +11,9 @@ use Rattle.listing.proofs.Texts.{root_length, count_length, each_short}
 use Rattle.listing.proofs.lines.put_roots.Given as goal
 
 abbrev pub invariant-loop-i : goal.invariant-loop-i
-invariant-loop-i l = (l.i ≤ l.len) × (l.next ≤ l.initial.next + 22 * l.i) × Written l.initial.out l.initial.next (flat_map root_text (take l.i l.root)) l.out l.next
+invariant-loop-i l =
+    (l.i ≤ l.len) × (l.next ≤ l.initial.next + 22 * l.i)
+    × Written l.initial.out l.initial.next (flat_map root_text (take l.i l.root)) l.out l.next
 
 abbrev pub decreases-loop-i : goal.decreases-loop-i
 decreases-loop-i l = l.len - l.i

@@ -14,3 +14,11 @@ returns-in-One c = rw c.in-One.is (one_finite _ c.is_finite.ensures)
 pub returns-in-Linear : goal.returns-in-Linear
 unfolding values_of
 returns-in-Linear c = rw c.in-Linear.is (one_finite _ c.is_finite-in-Linear.ensures)
+
+pub returns-in-Degenerate : goal.returns-in-Degenerate
+unfolding values_of
+returns-in-Degenerate c = rw c.in-Degenerate.is
+
+pub returns-in-Empty : goal.returns-in-Empty
+unfolding values_of
+returns-in-Empty c = rw c.in-Empty.is

@@ -13,3 +13,11 @@ returns-in-One c = rw c.in-One.is
 pub returns-in-Linear : goal.returns-in-Linear
 unfolding shifted_of
 returns-in-Linear c = rw c.in-Linear.is
+
+pub returns-in-Degenerate : goal.returns-in-Degenerate
+unfolding shifted_of
+returns-in-Degenerate c = rw c.in-Degenerate.is
+
+pub returns-in-Empty : goal.returns-in-Empty
+unfolding shifted_of
+returns-in-Empty c = rw c.in-Empty.is

@@ -31,3 +31,7 @@ pub returns-else-met-2 : goal.returns-else-met-2
 unfolding touching_at_of
 returns-else-met-2 c =
     simp (c.in-Empty.is, sym c.touches_finite-met.ensures ∙ c.if-met-2.false)
+
+pub returns-in-Degenerate : goal.returns-in-Degenerate
+unfolding touching_at_of
+returns-in-Degenerate c = rw c.in-Degenerate.is
