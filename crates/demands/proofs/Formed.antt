@@ -69,10 +69,10 @@ module _ (reply : ℕ → Bool) where
   brush_so m b n e = rw (ne_eqb m 1 n, e)
 
   -- ---- pairs
-  reach_same : (m r : Float) (l : List Formed) → reach_of m r (map kinded l) ≡ reach_of m r (map item_of l)
+  reach_same : (m : Float) (l : List Formed) (r : Float) → reach_of m r (map kinded l) ≡ reach_of m r (map item_of l)
   unfolding reach_of
-  reach_same m r [] = refl
-  reach_same m r (f ∷ l) = reach_same m _ l
+  reach_same m [] r = refl
+  reach_same m (f ∷ l) r = reach_same m l _
 
   apart_same : (b y : Float) (l : List Formed) → all_apart b y (map kinded l) ≡ all_apart b y (map item_of l)
   unfolding all_apart
@@ -144,7 +144,7 @@ module _ (reply : ℕ → Bool) where
     turn_so : (n : ℕ) (its : List Formed) (p : Pair) → let s = paired_by reply poly tol (n, its) (sought_by its p) in
         numbered reply n (pair_turn poly tol (map kinded its) p) ≡ (s.0, map kinded s.1)
     unfolding pair_turn
-    turn_so n its p = rw (reach_same p.centre p.half its) (pair_so n its (sought_by its p))
+    turn_so n its p = rw (reach_same p.centre its p.half) (pair_so n its (sought_by its p))
 
     pairs_so : (ps : List Pair) (n : ℕ) (its : List Formed)
         → let s = pairs_by reply poly tol (n, its) ps in numbered reply n (each (pair_turn poly tol) (map kinded its) ps) ≡ (s.0, map kinded s.1)

@@ -208,7 +208,7 @@ demands = record {
   polishing = record { run = polishing };
   simple_roots = simple_roots;
   entries = record { every = λ tol. agree given stated (table tol) (all_rows tol) };
-  hall_file = record { example = example; empty = empty; is_too_long = is_too_long; room = listing_fits };
+  hall_file = record { example = example; empty = empty; too_long = is_too_long; room = listing_fits };
   pin_contacts = pin_contacts;
   kinds = kinds;
   typed_formulas = typed_formulas;

@@ -1,7 +1,7 @@
 -- A number of the format is its own rounding, so 0 - x is exact, and abs may be computed by it.
 use mathlib.Core.Path.{◌≡◌, refl, sym, ap, subst, ◌∙◌}
 use mathlib.Core.Bool.{Bool, true, false, ◌&&◌, ◌||◌, true≢false, false≢true}
-use Prim.Native.Nat.{ℕ, zero, suc, ◌+◌, ◌*◌, ◌%◌, ◌^◌, ◌<◌, ◌≤◌}
+use Prim.Native.Nat.{ℕ, zero, suc, ◌+◌, ◌*◌, ◌%◌, ◌^◌, ◌<◌}
 use native.Mathlib.Nat.{mul_assoc, mul_left_comm, mul-one, one-mul, zero-mul, zero-add, pow-suc, pow-succ'}
 use native.Mathlib.Nat.{lt_irrefl, zero-lt-suc, mul-pos, eq_of_mul-eq-mul_right, mul-lt-mul_of_pos_right, lt_of_mul-lt-mul_right, mul_right_comm}
 use native.Mathlib.Omega.{arith}

@@ -3,7 +3,6 @@ use mathlib.Core.Path.{refl}
 use Prim.Native.Nat.{◌-◌, ◌^◌}
 use native.Mathlib.Omega.{arith}
 use Rattle.angle.proofs.Levels.{filled, top_lt}
-use borrow.Author.Rules.{rules}
 use Rattle.angle.proofs.less.Goals as goal
 
 pub overflow_sub-hi : goal.overflow_sub-hi

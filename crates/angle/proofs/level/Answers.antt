@@ -1,7 +1,6 @@
 -- One more than the size of v, or one less it.
 use native.Mathlib.Omega.{arith}
 use Rattle.angle.proofs.Levels.{part_lt, top_lt, level_above, level_below, level_is}
-use borrow.Author.Rules.{rules}
 use Rattle.angle.proofs.level.Goals as goal
 
 pub less-requires : goal.less-requires

@@ -5,7 +5,6 @@ use borrow.Author.Tests.{not-true}
 use Rattle.nearest.proofs.Digits.{at_least_not_nan}
 use Rattle.nearest.proofs.ByTest.{half_of_floor, floor_bounds}
 use Rattle.angle.proofs.Cosine.{monotone, sized}
-use borrow.Author.Rules.{rules}
 use Rattle.std.proofs.Common.{ap, not}
 use Rattle.angle.proofs.near_cos.Goals as goal
 

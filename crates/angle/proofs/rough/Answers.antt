@@ -2,7 +2,6 @@
 use native.Mathlib.Omega.{arith}
 use Rattle.ldexp.proofs.Pack.{pack_not_nan}
 use Rattle.nearest.proofs.Digits.{at_least_not_nan}
-use borrow.Author.Rules.{rules}
 use Rattle.angle.proofs.rough.Goals as goal
 
 pub float_to_bits-r : goal.float_to_bits-r

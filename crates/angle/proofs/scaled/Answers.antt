@@ -1,7 +1,6 @@
 -- By the place of k.
 use native.Mathlib.Omega.{arith}
 use Rattle.angle.proofs.Levels.{bit_pos, none, low, mid, high}
-use borrow.Author.Rules.{rules}
 use Rattle.angle.proofs.scaled.Goals as goal
 
 pub returns-then-k-lt903 : goal.returns-then-k-lt903

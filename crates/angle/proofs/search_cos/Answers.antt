@@ -1,8 +1,8 @@
 -- It is the search of `nearest` by the test for c.
 use mathlib.Core.Path.{sym, ◌∙◌}
 use native.Mathlib.Omega.{arith}
-use Rattle.nearest.proofs.Search.{Halving, begin, turn, end}
-use Rattle.angle.specs.Parts.{value, cos_le}
+use Rattle.nearest.proofs.Search.{begin, turn, end}
+use Rattle.angle.specs.Parts.{value}
 use Rattle.angle.proofs.Cosine.{half_passes, one_fails}
 use Rattle.angle.proofs.search_cos.Goals as goal
 

@@ -1,8 +1,5 @@
-use mathlib.Core.Path.{sym, ◌∙◌}
-use native.Mathlib.Omega.{arith}
-use Rattle.nearest.proofs.Search.{Halving, begin, turn, end}
+use Rattle.nearest.proofs.Search.{Halving}
 use Rattle.angle.specs.Parts.{value, cos_le}
-use Rattle.angle.proofs.Cosine.{half_passes, one_fails}
 use Rattle.angle.proofs.search_cos.Given as goal
 
 abbrev pub invariant-loop-k : goal.invariant-loop-k

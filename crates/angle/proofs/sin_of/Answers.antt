@@ -7,7 +7,6 @@ use Rattle.nearest.proofs.ByTest.{half_bounds}
 use Rattle.sqrt.proofs.Squares.{monotone, words}
 use Rattle.angle.specs.Third.{sin_of}
 use Rattle.angle.proofs.Sine.{sin_one, sin_is}
-use borrow.Author.Rules.{rules}
 use Rattle.angle.proofs.sin_of.Goals as goal
 
 pub returns-then-m-eq9007199254740992 : goal.returns-then-m-eq9007199254740992

@@ -1,7 +1,6 @@
 -- The product has 107 digits, or four times it has 107 or 108.
 use native.Mathlib.Omega.{arith}
 use Rattle.angle.proofs.Sine.{square_long, square_short, four_fits}
-use borrow.Author.Rules.{rules}
 use Rattle.angle.proofs.sine_square.Goals as goal
 
 pub returns-then-p-ge4398046511104 : goal.returns-then-p-ge4398046511104

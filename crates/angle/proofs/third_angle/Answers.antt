@@ -4,7 +4,6 @@ use lib.Dec.{lit<}
 use lib.Ieee.{of_bits, div}
 use Rattle.angle.specs.Third.{sin_of}
 use Rattle.angle.proofs.Cases.{both}
-use borrow.Author.Rules.{rules}
 use Rattle.angle.proofs.third_angle.Goals as goal
 
 pub returns-then-m-eq0 : goal.returns-then-m-eq0

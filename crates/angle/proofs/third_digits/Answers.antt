@@ -8,7 +8,6 @@ use Rattle.decode.proofs.Class.{decoded_normal}
 use Rattle.nearest.specs.Greatest.{NearestHalf}
 use Rattle.angle.specs.Parts.{cos_le}
 use Rattle.angle.proofs.Cases.{digits_zero, digits_none, digits_inside, digits_above, digits_one}
-use borrow.Author.Rules.{rules}
 use Rattle.angle.proofs.third_digits.Goals as goal
 
 pub returns-then-v : goal.returns-then-v

@@ -1,7 +1,6 @@
 -- The two products, one word apart.
 use native.Mathlib.Omega.{arith}
 use Rattle.angle.proofs.Words.{upper_lt, times_is}
-use borrow.Author.Rules.{rules}
 use Rattle.angle.proofs.times.Goals as goal
 
 pub add-s-requires : goal.add-s-requires

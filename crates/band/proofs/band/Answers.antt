@@ -1,5 +1,4 @@
 use Rattle.band.specs.Band.{band_of}
-use borrow.Author.Rules.{rules}
 use Rattle.band.proofs.band.Goals as goal
 
 pub returns : goal.returns

@@ -1,5 +1,4 @@
 use Rattle.band.specs.Band.{base_of}
-use borrow.Author.Rules.{rules}
 use Rattle.band.proofs.base_band.Goals as goal
 
 pub returns : goal.returns

@@ -1,5 +1,4 @@
 use Rattle.band.specs.Band.{budget_of}
-use borrow.Author.Rules.{rules}
 use Rattle.band.proofs.budget.Goals as goal
 
 pub returns : goal.returns

@@ -1,7 +1,6 @@
 -- `kth_root` is its definition: each number is an arm of it.
 use borrow.Author.Tests.{ne_eqb}
 use Rattle.band.specs.Band.{kth_root_of}
-use borrow.Author.Rules.{rules}
 use Rattle.band.proofs.kth_root.Goals as goal
 
 pub returns-then-k-eq2 : goal.returns-then-k-eq2

@@ -1,8 +1,6 @@
 -- `magnitude` is its definition: the places left, from the present sum, give the result.
-use mathlib.Core.Path.{◌≡◌, sym, ◌∙◌}
-use Prim.Native.Nat.{◌≤◌}
-use Rattle.facts.specs.Count.{count_down, down_turn, down_end}
-use Rattle.horner.specs.Loops.{at_place}
+use mathlib.Core.Path.{sym, ◌∙◌}
+use Rattle.facts.specs.Count.{down_turn, down_end}
 use Rattle.band.specs.Band.{magnitude_step, magnitude_of}
 use borrow.Author.Rules.{rules}
 use Rattle.band.proofs.magnitude.Goals as goal

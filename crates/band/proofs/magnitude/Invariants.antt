@@ -1,9 +1,8 @@
-use mathlib.Core.Path.{◌≡◌, sym, ◌∙◌}
+use mathlib.Core.Path.{◌≡◌}
 use Prim.Native.Nat.{◌≤◌}
-use Rattle.facts.specs.Count.{count_down, down_turn, down_end}
+use Rattle.facts.specs.Count.{count_down}
 use Rattle.horner.specs.Loops.{at_place}
 use Rattle.band.specs.Band.{magnitude_step, magnitude_of}
-use borrow.Author.Rules.{rules}
 use Rattle.band.proofs.magnitude.Given as goal
 
 abbrev pub invariant-loop-i : goal.invariant-loop-i

@@ -1,5 +1,4 @@
 use Rattle.band.specs.Band.{noise_of}
-use borrow.Author.Rules.{rules}
 use Rattle.band.proofs.noise.Goals as goal
 
 pub returns : goal.returns

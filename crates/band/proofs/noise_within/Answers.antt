@@ -1,7 +1,6 @@
 -- `noise_within` is its definition, by whether the radius is finite.
 use mathlib.Core.Path.{sym, ◌∙◌}
 use Rattle.band.specs.Band.{noise_within}
-use borrow.Author.Rules.{rules}
 use Rattle.band.proofs.noise_within.Goals as goal
 
 pub returns-then-is_finite : goal.returns-then-is_finite

@@ -1,8 +1,7 @@
 -- `radius` is its definition: the turns left, from the present radius, give the result.
-use mathlib.Core.Path.{◌≡◌, sym, ◌∙◌}
-use Prim.Native.Nat.{◌+◌, ◌-◌, ◌≤◌}
-use Rattle.facts.specs.Count.{count_up, up_turn, up_end}
-use Rattle.band.specs.Band.{radius_step, radius_of}
+use mathlib.Core.Path.{sym, ◌∙◌}
+use Rattle.facts.specs.Count.{up_turn, up_end}
+use Rattle.band.specs.Band.{radius_of}
 use borrow.Author.Rules.{rules}
 use Rattle.band.proofs.radius.Goals as goal
 

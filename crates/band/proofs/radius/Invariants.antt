@@ -1,8 +1,7 @@
-use mathlib.Core.Path.{◌≡◌, sym, ◌∙◌}
+use mathlib.Core.Path.{◌≡◌}
 use Prim.Native.Nat.{◌+◌, ◌-◌, ◌≤◌}
-use Rattle.facts.specs.Count.{count_up, up_turn, up_end}
+use Rattle.facts.specs.Count.{count_up}
 use Rattle.band.specs.Band.{radius_step, radius_of}
-use borrow.Author.Rules.{rules}
 use Rattle.band.proofs.radius.Given as goal
 
 abbrev pub invariant-loop-k : goal.invariant-loop-k

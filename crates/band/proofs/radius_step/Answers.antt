@@ -1,5 +1,4 @@
 use Rattle.band.specs.Band.{radius_step}
-use borrow.Author.Rules.{rules}
 use Rattle.band.proofs.radius_step.Goals as goal
 
 pub returns-then-tk : goal.returns-then-tk

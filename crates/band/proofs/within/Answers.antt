@@ -1,7 +1,6 @@
 use mathlib.Core.Path.{sym}
 use Rattle.band.specs.Band.{within_band_of}
 use Rattle.band.proofs.Laws.{noise_decides}
-use borrow.Author.Rules.{rules}
 use Rattle.band.proofs.within.Goals as goal
 
 pub returns-then-half-base : goal.returns-then-half-base

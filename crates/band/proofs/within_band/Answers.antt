@@ -1,7 +1,6 @@
 -- `within_band` is its definition: f, d and unit suffice.
 use mathlib.Core.Path.{◌∙◌}
 use Rattle.band.proofs.Laws.{same_within}
-use borrow.Author.Rules.{rules}
 use Rattle.band.proofs.within_band.Goals as goal
 
 pub returns : goal.returns

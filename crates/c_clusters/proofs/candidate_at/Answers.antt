@@ -6,7 +6,6 @@ use lib.ListN.{get_or}
 use lib.Ieee.{Float}
 use Rattle.roots.specs.Roots.{root}
 use Rattle.c_clusters.specs.Clustering.{candidate_at}
-use borrow.Author.Rules.{rules}
 use Rattle.c_clusters.proofs.candidate_at.Goals as goal
 
 pub overflow_cast-multiplicity : goal.overflow_cast-multiplicity

@@ -1,6 +1,5 @@
 -- Candidate by candidate.
 use Rattle.c_clusters.proofs.Polynomials.{four_candidates, four_bytes}
-use borrow.Author.Rules.{rules}
 use Rattle.c_clusters.proofs.candidates_at.Goals as goal
 
 pub returns : goal.returns

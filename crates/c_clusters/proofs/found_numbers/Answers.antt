@@ -3,7 +3,6 @@ use native.Mathlib.Omega.{arith}
 use lib.Ieee.{of_int}
 use Rattle.float.proofs.Whole.{whole_exact}
 use Rattle.c_clusters.specs.Clustering.{root_numbers, found_numbers}
-use borrow.Author.Rules.{rules}
 use Rattle.c_clusters.proofs.found_numbers.Goals as goal
 
 pub returns : goal.returns

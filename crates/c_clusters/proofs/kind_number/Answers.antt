@@ -1,4 +1,3 @@
-use borrow.Author.Rules.{rules}
 use mathlib.Core.Path.{ap}
 use Rattle.lent_bytes.specs.Numbers.{number}
 use Rattle.c_clusters.proofs.kind_number.Goals as goal

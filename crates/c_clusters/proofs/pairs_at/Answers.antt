@@ -1,6 +1,5 @@
 -- Double by double.
 use Rattle.c_clusters.specs.Clustering.{pairs_at}
-use borrow.Author.Rules.{rules}
 use Rattle.c_clusters.proofs.pairs_at.Goals as goal
 
 pub returns : goal.returns

@@ -4,7 +4,6 @@ use lib.Ieee.{of_bits, div}
 use Rattle.lent_bytes.proofs.Five.{accepted}
 use Rattle.lent_bytes.proofs.Whole.{is_other, is_given}
 use Rattle.c_clusters.specs.Clustering.{turning_or_nan}
-use borrow.Author.Rules.{rules}
 use Rattle.c_clusters.proofs.pongewaru_extremum.Goals as goal
 
 pub returns-then-lacks_five : goal.returns-then-lacks_five

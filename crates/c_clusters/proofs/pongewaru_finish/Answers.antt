@@ -6,7 +6,6 @@ use Rattle.lent_bytes.proofs.Five.{accepted}
 use Rattle.lent_bytes.proofs.Whole.{lacking, held}
 use Rattle.c_clusters.specs.Clustering.{candidates_at, root_numbers}
 use Rattle.c_clusters.proofs.Polynomials.{holding, finish_fits}
-use borrow.Author.Rules.{rules}
 use Rattle.c_clusters.proofs.pongewaru_finish.Goals as goal
 
 pub returns-then-lacks_five : goal.returns-then-lacks_five

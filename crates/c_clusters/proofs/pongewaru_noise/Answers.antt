@@ -2,7 +2,6 @@
 use lib.Ieee.{of_bits, div}
 use Rattle.lent_bytes.proofs.Five.{accepted}
 use Rattle.lent_bytes.proofs.Whole.{is_other, is_given}
-use borrow.Author.Rules.{rules}
 use Rattle.c_clusters.proofs.pongewaru_noise.Goals as goal
 
 pub returns-then-lacks_five : goal.returns-then-lacks_five

@@ -1,7 +1,6 @@
 -- It is of the polynomial, where there is one.
 use Rattle.lent_bytes.proofs.Five.{accepted}
 use Rattle.lent_bytes.proofs.Whole.{is_other, is_given}
-use borrow.Author.Rules.{rules}
 use Rattle.c_clusters.proofs.pongewaru_within_band.Goals as goal
 
 pub returns-then-lacks_five : goal.returns-then-lacks_five

@@ -1,5 +1,4 @@
 -- Number by number.
-use borrow.Author.Rules.{rules}
 use native.Mathlib.Omega.{arith}
 use Rattle.float.proofs.Whole.{whole_exact}
 use Rattle.c_clusters.specs.Clustering.{root_numbers}

@@ -2,7 +2,6 @@
 use mathlib.Core.Path.{refl, sym}
 use borrow.Author.Tests.{lt-ltb, le-ltb}
 use Rattle.lent_bytes.proofs.Whole.{lacking, held}
-use borrow.Author.Rules.{rules}
 use Rattle.c_leaves.proofs.pongewaru_leaf_log2_five.Goals as goal
 
 pub returns-then-a-lt40 : goal.returns-then-a-lt40

@@ -2,7 +2,6 @@
 use mathlib.Core.Path.{ap}
 use Rattle.c_leaves.specs.Numbers.{angle_numbers}
 use Rattle.lent_bytes.proofs.Whole.{stored_as}
-use borrow.Author.Rules.{rules}
 use Rattle.c_leaves.proofs.pongewaru_leaf_third_angle.Goals as goal
 
 pub returns : goal.returns

@@ -5,7 +5,6 @@ use Rattle.decode.proofs.Class.{decoded_irregular, decoded_regular, decoded_norm
 use Rattle.nearest.proofs.Powers.{half_digits}
 use Rattle.cbrt.proofs.Cubes.{cubes, root_of}
 use Rattle.cbrt.proofs.Cases.{root_special, root_positive, root_negative}
-use borrow.Author.Rules.{rules}
 use Rattle.cbrt.proofs.cbrt.Goals as goal
 
 pub returns-then-n-eq0 : goal.returns-then-n-eq0

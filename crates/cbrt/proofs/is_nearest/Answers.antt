@@ -1,7 +1,6 @@
 use mathlib.Core.Bool.{false≢true}
 use mathlib.Core.Path.{sym, ◌∙◌}
 use borrow.Author.Tests.{not-true}
-use borrow.Author.Rules.{rules}
 use Rattle.cbrt.proofs.is_nearest.Goals as goal
 
 pub returns-then-within : goal.returns-then-within

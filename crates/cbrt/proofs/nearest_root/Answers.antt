@@ -7,7 +7,6 @@ use Rattle.nearest.proofs.Powers.{from_floor}
 use Rattle.nearest.proofs.Digits.{at_least_not_nan}
 use Rattle.cbrt.specs.Root.{cube_le}
 use Rattle.cbrt.proofs.Cubes.{cubes, shifted_lt}
-use borrow.Author.Rules.{rules}
 use Rattle.cbrt.proofs.nearest_root.Goals as goal
 
 pub float_to_bits-guess : goal.float_to_bits-guess

@@ -3,8 +3,7 @@ use mathlib.Core.Path.{sym, ◌∙◌}
 use Prim.Native.Nat.{◌*◌, ◌^◌}
 use native.Mathlib.Omega.{arith}
 use borrow.Author.Tests.{le-leb}
-use Rattle.nearest.proofs.Search.{Halving, begin, turn, end}
-use Rattle.cbrt.specs.Root.{cube_le}
+use Rattle.nearest.proofs.Search.{begin, turn, end}
 use Rattle.cbrt.proofs.Cubes.{top_cube}
 use Rattle.cbrt.proofs.search_root.Goals as goal
 

@@ -1,10 +1,6 @@
-use mathlib.Core.Path.{sym, ◌∙◌}
 use Prim.Native.Nat.{◌*◌, ◌^◌}
-use native.Mathlib.Omega.{arith}
-use borrow.Author.Tests.{le-leb}
-use Rattle.nearest.proofs.Search.{Halving, begin, turn, end}
+use Rattle.nearest.proofs.Search.{Halving}
 use Rattle.cbrt.specs.Root.{cube_le}
-use Rattle.cbrt.proofs.Cubes.{top_cube}
 use Rattle.cbrt.proofs.search_root.Given as goal
 
 abbrev pub invariant-loop-k : goal.invariant-loop-k

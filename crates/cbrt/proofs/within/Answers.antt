@@ -4,7 +4,6 @@ use mathlib.Core.Logic.{◌⊎◌, inl, inr}
 use Prim.Native.Nat.{ℕ, ◌^◌, ◌<◌}
 use native.Mathlib.Omega.{arith}
 use Rattle.cbrt.proofs.Words.{product_lt, square_lt, upper_lt, square_upper, within_is}
-use borrow.Author.Rules.{rules}
 use Rattle.cbrt.proofs.within.Goals.{then-q-eq0, else-q-eq0}
 use Rattle.cbrt.proofs.within.Goals as goal
 
@@ -42,7 +41,7 @@ returns c =
     let a = c.add-sum in
     let rests : ((q.result.lo ≡ 0) × (c.if-q-eq0.rest ≡ 0)) ⊎ ((0 < q.result.lo) × (c.if-q-eq0.rest ≡ 1)) =
     elim c.if-q-eq0.branch [
-      then-q-eq0 w ↦ inl (w.if-q-eq0.true, w.rest-is)
+      | then-q-eq0 w ↦ inl (w.if-q-eq0.true, w.rest-is)
       | else-q-eq0 w ↦ inr (positive q.result.lo w.if-q-eq0.false, w.rest-is)
     ] in
     c.at_most.ensures

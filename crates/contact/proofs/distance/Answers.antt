@@ -1,6 +1,5 @@
 -- The formula as it stands.
 use Rattle.contact.specs.Contact.{distance_of}
-use borrow.Author.Rules.{rules}
 use Rattle.contact.proofs.distance.Goals as goal
 
 pub returns : goal.returns

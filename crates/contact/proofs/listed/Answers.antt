@@ -1,15 +1,11 @@
 -- The inquiry has the replies of the definition to its first questions, until it asks no more.
-use mathlib.Core.Path.{◌≡◌, ap}
-use Prim.Native.Nat.{◌-◌}
+use mathlib.Core.Path.{ap}
 use native.Mathlib.Omega.{arith}
 use Rattle.touching.specs.declared.Replies.{Replies}
-use Rattle.inquiry.specs.Inquiry.{asked_of}
-use Rattle.inquiry.specs.Start.{real_roots_touching, fresh_by, given}
 use Rattle.inquiry.proofs.Theorem.{start_few}
-use Rattle.inquiry.proofs.Loop.{Along, brief_has, along_start, along_room, along_next, along_end}
+use Rattle.inquiry.proofs.Loop.{brief_has, along_start, along_room, along_next, along_end}
 use Rattle.contact.specs.Contact.{touches_of}
 use Rattle.contact.proofs.Answer.{listed_is}
-use borrow.Author.Rules.{rules}
 use Rattle.contact.proofs.listed.Goals as goal
 
 pub loop-shown-init : goal.loop-shown-init

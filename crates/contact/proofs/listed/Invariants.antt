@@ -1,14 +1,9 @@
-use mathlib.Core.Path.{◌≡◌, ap}
+use mathlib.Core.Path.{◌≡◌}
 use Prim.Native.Nat.{◌-◌}
-use native.Mathlib.Omega.{arith}
-use Rattle.touching.specs.declared.Replies.{Replies}
 use Rattle.inquiry.specs.Inquiry.{asked_of}
 use Rattle.inquiry.specs.Start.{real_roots_touching, fresh_by, given}
-use Rattle.inquiry.proofs.Theorem.{start_few}
-use Rattle.inquiry.proofs.Loop.{Along, brief_has, along_start, along_room, along_next, along_end}
+use Rattle.inquiry.proofs.Loop.{Along}
 use Rattle.contact.specs.Contact.{touches_of}
-use Rattle.contact.proofs.Answer.{listed_is}
-use borrow.Author.Rules.{rules}
 use Rattle.contact.proofs.listed.Given as goal
 
 abbrev pub invariant-loop-shown : goal.invariant-loop-shown

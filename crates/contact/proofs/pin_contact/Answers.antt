@@ -1,7 +1,6 @@
 -- By its three tests.
 use Rattle.contact.proofs.Answer.{is_not_finite, no_circle, coefficients_not_finite, listed_so}
 use Rattle.contact.proofs.Theorem.{holds}
-use borrow.Author.Rules.{rules}
 use Rattle.contact.proofs.pin_contact.Goals as goal
 
 pub returns-then-all_finite-2 : goal.returns-then-all_finite-2

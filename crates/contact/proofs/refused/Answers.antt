@@ -1,5 +1,4 @@
 -- The number, and zeros.
-use borrow.Author.Rules.{rules}
 use Rattle.contact.proofs.refused.Goals as goal
 
 pub returns : goal.returns

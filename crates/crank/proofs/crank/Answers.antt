@@ -8,7 +8,6 @@ use Rattle.crank.specs.declared.CrankAnswer.{CrankAnswer}
 use Rattle.crank.specs.Crank.{trig_quartic_of, crank_of}
 use Rattle.crank.proofs.Answer.{answer_listed, answer_refused}
 use Rattle.crank.proofs.Theorem.{cranks}
-use borrow.Author.Rules.{rules}
 use Rattle.crank.proofs.crank.Goals as goal
 
 with_demand : (confusion a2 b2 c1 d1 e : Float) (r : CrankAnswer) → r ≡ crank_of confusion a2 b2 c1 d1 e

@@ -1,7 +1,6 @@
 use mathlib.Core.Path.{refl}
 use borrow.Author.Tests.{eq-eqb, ne_eqb}
 use Rattle.facts.specs.Cond.{if_taken, if_left}
-use borrow.Author.Rules.{rules}
 use Rattle.crank.proofs.refusal.Goals as goal
 
 pub returns-then-equation-eq0 : goal.returns-then-equation-eq0

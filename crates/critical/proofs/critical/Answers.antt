@@ -1,10 +1,7 @@
 -- `critical` is its definition: the turns left, from the present place, give the result.
-use mathlib.Core.Path.{◌≡◌, refl, sym, ◌∙◌}
-use Prim.Native.Nat.{◌-◌, ◌≤◌}
+use mathlib.Core.Path.{refl, sym, ◌∙◌}
 use borrow.Author.Tests.{not-true, not-false}
-use Rattle.facts.specs.Turns.{turns_of, turns_stop, turns_go, turns_end}
-use Rattle.horner.specs.Taylor.{derivs12_of}
-use Rattle.critical.specs.Critical.{critical_next}
+use Rattle.facts.specs.Turns.{turns_stop, turns_go, turns_end}
 use Rattle.critical.proofs.Laws.{critical_flat, critical_outside, critical_held, critical_moved}
 use borrow.Author.Rules.{rules}
 use Rattle.std.proofs.Common.{ap, not}

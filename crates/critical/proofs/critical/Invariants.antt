@@ -1,12 +1,8 @@
-use mathlib.Core.Path.{◌≡◌, refl, sym, ◌∙◌}
+use mathlib.Core.Path.{◌≡◌}
 use Prim.Native.Nat.{◌-◌, ◌≤◌}
-use borrow.Author.Tests.{not-true, not-false}
-use Rattle.facts.specs.Turns.{turns_of, turns_stop, turns_go, turns_end}
+use Rattle.facts.specs.Turns.{turns_of}
 use Rattle.horner.specs.Taylor.{derivs12_of}
 use Rattle.critical.specs.Critical.{critical_next}
-use Rattle.critical.proofs.Laws.{critical_flat, critical_outside, critical_held, critical_moved}
-use borrow.Author.Rules.{rules}
-use Rattle.std.proofs.Common.{ap, not}
 use Rattle.critical.proofs.critical.Given as goal
 
 abbrev pub invariant-loop-k : goal.invariant-loop-k

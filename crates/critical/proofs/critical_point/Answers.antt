@@ -1,6 +1,5 @@
 -- `critical_point` is its definition: f and d suffice.
 use Rattle.critical.specs.Critical.{critical_point_of}
-use borrow.Author.Rules.{rules}
 use Rattle.critical.proofs.critical_point.Goals as goal
 
 pub returns : goal.returns

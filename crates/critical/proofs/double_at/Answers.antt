@@ -1,6 +1,5 @@
 use Rattle.band.specs.Band.{noise_of, band_of}
 use Rattle.critical.specs.Critical.{critical_point_of}
-use borrow.Author.Rules.{rules}
 use Rattle.critical.proofs.double_at.Goals as goal
 
 pub returns : goal.returns

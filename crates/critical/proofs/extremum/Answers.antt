@@ -1,7 +1,6 @@
 -- `extremum` is its definition, by whether the last step is within the band.
 use mathlib.Core.Path.{sym}
 use Rattle.critical.specs.Critical.{extremum_of}
-use borrow.Author.Rules.{rules}
 use Rattle.critical.proofs.extremum.Goals as goal
 
 pub returns-then-abs-base_band : goal.returns-then-abs-base_band

@@ -1,4 +1,3 @@
-
 use Rattle.cubic.proofs.cardano.Goals as goal
 
 pub returns-then-a : goal.returns-then-a

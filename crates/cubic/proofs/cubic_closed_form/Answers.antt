@@ -1,5 +1,4 @@
 use mathlib.Core.Path.{sym, ◌∙◌}
-use borrow.Author.Rules.{rules}
 use Rattle.cubic.specs.Cubic.{depressed_roots_of, cubic_closed_form_of}
 use Rattle.cubic.proofs.cubic_closed_form.Goals as goal
 

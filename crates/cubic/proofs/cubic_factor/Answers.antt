@@ -1,5 +1,4 @@
 -- `cubic_factor` is its definition, over what its steps give; the closed form gives one root or three.
-use borrow.Author.Rules.{rules}
 use Rattle.cubic.specs.Cubic.{cubic_factor_of}
 use Rattle.cubic.proofs.Laws.{counts}
 use Rattle.cubic.proofs.cubic_factor.Goals as goal

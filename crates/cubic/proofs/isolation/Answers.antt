@@ -1,5 +1,4 @@
 -- `isolation` is its definition, over what `abs` and `min` give.
-use borrow.Author.Rules.{rules}
 use Rattle.cubic.proofs.isolation.Goals as goal
 
 pub returns : goal.returns

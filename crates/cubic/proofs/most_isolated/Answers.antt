@@ -1,7 +1,6 @@
 -- `most_isolated` is its definition: a single root is the one, and of three the tests decide as `max_by` does.
 use mathlib.Core.Path.{sym, ◌∙◌}
 use mathlib.Core.Bool.{true, false}
-use borrow.Author.Rules.{rules}
 use Rattle.cubic.proofs.Laws.{three, only_root, of_three}
 use Rattle.cubic.proofs.most_isolated.Goals as goal
 

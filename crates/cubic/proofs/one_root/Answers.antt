@@ -1,5 +1,4 @@
 -- `one_root` is its definition, over what the leaves and `cardano` give.
-use borrow.Author.Rules.{rules}
 use Rattle.cubic.specs.Cubic.{one_root_of}
 use Rattle.cubic.proofs.one_root.Goals as goal
 

@@ -1,4 +1,3 @@
-
 use Rattle.cubic.proofs.over_or.Goals as goal
 
 pub returns-then-z : goal.returns-then-z

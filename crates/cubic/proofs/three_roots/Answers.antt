@@ -1,5 +1,4 @@
 -- `three_roots` is its definition, over what the leaves give, with the constant for 0.5 * 3f64.sqrt().
-use borrow.Author.Rules.{rules}
 use Rattle.cubic.specs.Cubic.{three_roots_of}
 use Rattle.cubic.proofs.Laws.{half_root_three}
 use Rattle.cubic.proofs.three_roots.Goals as goal

@@ -7,7 +7,6 @@ use lib.Ieee.{of_bits}
 use Rattle.decode.proofs.Class.{decoded_irregular, decoded_regular, decoded_normal}
 use Rattle.decode.proofs.Highest.{exponent_zero, exponent_irregular, exponent_is}
 use Rattle.decode.proofs.Difference.{machine_fits, machine_is}
-use borrow.Author.Rules.{rules}
 use Rattle.decode.proofs.exponent.Goals as goal
 
 short : (k : ℕ) → k < 2098 → k < 2 ^ 31

@@ -2,7 +2,6 @@
 use native.Mathlib.Omega.{arith}
 use Rattle.decode.proofs.Fields.{pattern, shifted}
 use Rattle.decode.proofs.Class.{nan_none, self_not_nan, top_none, field_digits, fraction_none, fraction_digits}
-use borrow.Author.Rules.{rules}
 use Rattle.decode.proofs.normal_of.Goals as goal
 
 pub returns-then-x : goal.returns-then-x

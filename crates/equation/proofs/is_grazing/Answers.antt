@@ -1,5 +1,4 @@
 use Rattle.equation.specs.Quadratic.{is_grazing_of}
-use borrow.Author.Rules.{rules}
 use Rattle.equation.proofs.is_grazing.Goals as goal
 
 pub returns : goal.returns

@@ -1,5 +1,4 @@
 use Rattle.equation.specs.Quadratic.{linear_of}
-use borrow.Author.Rules.{rules}
 use Rattle.equation.proofs.linear.Goals as goal
 
 pub returns-then-abs-confusion : goal.returns-then-abs-confusion

@@ -1,5 +1,4 @@
 use Rattle.equation.proofs.Solving.{is_not_finite, answered, answer_is_not_finite}
-use borrow.Author.Rules.{rules}
 use Rattle.equation.proofs.quadratic.Goals as goal
 
 pub returns-then-is_finite : goal.returns-then-is_finite

@@ -1,6 +1,5 @@
 use mathlib.Core.Path.{sym, ◌∙◌}
 use Rattle.equation.specs.Quadratic.{quadratic_centre_of}
-use borrow.Author.Rules.{rules}
 use Rattle.equation.proofs.quadratic_centre.Goals as goal
 
 pub returns-then-is_finite : goal.returns-then-is_finite

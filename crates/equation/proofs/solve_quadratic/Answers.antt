@@ -1,7 +1,6 @@
 -- A law for each way out, the two roots of the definition being one.
 use Rattle.equation.proofs.Solving.{solved_one, solved_empty, solved_two}
 use Rattle.equation.specs.Quadratic.{solve_quadratic_of}
-use borrow.Author.Rules.{rules}
 use Rattle.equation.proofs.solve_quadratic.Goals as goal
 
 pub returns-then-abs-angular : goal.returns-then-abs-angular

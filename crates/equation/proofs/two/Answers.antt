@@ -1,5 +1,4 @@
 use Rattle.equation.specs.Quadratic.{two_of}
-use borrow.Author.Rules.{rules}
 use Rattle.equation.proofs.two.Goals as goal
 
 pub returns : goal.returns

@@ -1,5 +1,4 @@
 use Rattle.factorize.specs.Factorize.{cubic_factors_of}
-use borrow.Author.Rules.{rules}
 use Rattle.factorize.proofs.cubic_factors.Goals as goal
 
 pub returns : goal.returns

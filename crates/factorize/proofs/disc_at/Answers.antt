@@ -1,5 +1,4 @@
 -- `factorize::disc_at` is its definition, by whether there is such a factor.
-use borrow.Author.Rules.{rules}
 use borrow.Author.Tests.{lt-ltb, le-ltb}
 use Rattle.facts.specs.Cond.{if_taken, if_left}
 use mathlib.Core.Path.{refl}

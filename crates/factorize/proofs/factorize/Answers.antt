@@ -1,5 +1,4 @@
 -- `factorize::factorize` is its definition: the factors of what `factorize_rooted` gives.
-use borrow.Author.Rules.{rules}
 use Rattle.factorize.proofs.Discs.{the_factors}
 use Rattle.factorize.proofs.factorize.Goals as goal
 

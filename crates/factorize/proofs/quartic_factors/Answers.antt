@@ -3,7 +3,6 @@ use mathlib.Core.Path.{ap, ◌∙◌}
 use Rattle.factorize.specs.Discs.{rooted_of}
 use Rattle.factorize.proofs.Ways.{peeled, in_pairs}
 use Rattle.factorize.proofs.Discs.{is_far, in_two}
-use borrow.Author.Rules.{rules}
 use Rattle.factorize.proofs.quartic_factors.Goals as goal
 
 pub returns-in-At : goal.returns-in-At

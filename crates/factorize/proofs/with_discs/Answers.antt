@@ -1,4 +1,3 @@
-use borrow.Author.Rules.{rules}
 use Rattle.factorize.specs.Discs.{rooted_of}
 use Rattle.factorize.proofs.with_discs.Goals as goal
 

@@ -1,7 +1,6 @@
 -- `behind_one` goes by where the first stands.
 use mathlib.Core.Path.{sym, ◌∙◌}
 use Rattle.facts.specs.Sort.{inserted_by}
-use borrow.Author.Rules.{rules}
 use Rattle.finish.proofs.behind_one.Goals as goal
 
 pub returns-then-total_le : goal.returns-then-total_le

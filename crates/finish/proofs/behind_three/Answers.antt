@@ -1,7 +1,6 @@
 -- `behind_three` goes by where the first stands.
 use mathlib.Core.Path.{sym, ◌∙◌}
 use Rattle.finish.proofs.Places.{put_before, put_behind}
-use borrow.Author.Rules.{rules}
 use Rattle.finish.proofs.behind_three.Goals as goal
 
 pub returns-then-total_le : goal.returns-then-total_le

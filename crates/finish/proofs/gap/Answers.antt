@@ -1,5 +1,4 @@
 -- `gap` is the smaller of the two.
-use borrow.Author.Rules.{rules}
 use Rattle.finish.proofs.gap.Goals as goal
 
 pub returns : goal.returns

@@ -1,5 +1,4 @@
 use Rattle.finish.specs.Finish.{is_near_of}
-use borrow.Author.Rules.{rules}
 use Rattle.finish.proofs.is_near.Goals as goal
 
 pub returns : goal.returns

@@ -1,5 +1,4 @@
 use Rattle.finish.specs.Finish.{join_of}
-use borrow.Author.Rules.{rules}
 use Rattle.finish.proofs.join.Goals as goal
 
 pub returns : goal.returns

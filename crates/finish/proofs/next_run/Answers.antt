@@ -1,6 +1,5 @@
 use mathlib.Core.Path.{sym, ◌∙◌}
 use Rattle.finish.proofs.Runs.{next_joined, next_ended}
-use borrow.Author.Rules.{rules}
 use Rattle.finish.proofs.next_run.Goals as goal
 
 pub returns-then-is_near : goal.returns-then-is_near

@@ -2,7 +2,6 @@
 use mathlib.Core.Path.{◌≡◌, refl}
 use native.Mathlib.Omega.{arith}
 use Rattle.finish.proofs.Places.{none_polished, polished_is, all_polished}
-use borrow.Author.Rules.{rules}
 use Rattle.finish.proofs.polished.Goals as goal
 
 pub returns-then-o-eq0 : goal.returns-then-o-eq0

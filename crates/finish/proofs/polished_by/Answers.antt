@@ -1,6 +1,5 @@
 use borrow.Author.Tests.{ne_eqb}
 use Rattle.finish.specs.Finish.{polished_at}
-use borrow.Author.Rules.{rules}
 use Rattle.finish.proofs.polished_by.Goals as goal
 
 pub returns-then-r-ne1 : goal.returns-then-r-ne1

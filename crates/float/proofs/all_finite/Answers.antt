@@ -1,11 +1,8 @@
 -- `all_finite` is its definition: the numbers left, with what was found so far, give the result.
-use mathlib.Core.Path.{◌≡◌, refl}
-use mathlib.Core.Bool.{◌&&◌}
-use Prim.Native.Nat.{◌-◌, ◌≤◌}
-use lib.ListN.{length, drop, drop_of_length-le}
+use mathlib.Core.Path.{refl}
+use lib.ListN.{drop, drop_of_length-le}
 use lib.Ieee.{nan}
 use Rattle.facts.specs.Lists.{drop_next}
-use Rattle.float.specs.Methods.{all_finite_of}
 use Rattle.float.proofs.Finite.{finite_turn, finite_end}
 use borrow.Author.Rules.{rules}
 use Rattle.float.proofs.all_finite.Goals as goal

@@ -1,12 +1,8 @@
-use mathlib.Core.Path.{◌≡◌, refl}
+use mathlib.Core.Path.{◌≡◌}
 use mathlib.Core.Bool.{◌&&◌}
 use Prim.Native.Nat.{◌-◌, ◌≤◌}
-use lib.ListN.{length, drop, drop_of_length-le}
-use lib.Ieee.{nan}
-use Rattle.facts.specs.Lists.{drop_next}
+use lib.ListN.{length, drop}
 use Rattle.float.specs.Methods.{all_finite_of}
-use Rattle.float.proofs.Finite.{finite_turn, finite_end}
-use borrow.Author.Rules.{rules}
 use Rattle.float.proofs.all_finite.Given as goal
 
 abbrev pub invariant-loop-i : goal.invariant-loop-i

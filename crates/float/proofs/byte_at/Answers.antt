@@ -1,5 +1,4 @@
 -- An element of a slice of bytes is below 256.
-use borrow.Author.Rules.{rules}
 use native.Mathlib.Omega.{arith}
 use mathlib.Core.Path.{refl}
 use Rattle.float.proofs.byte_at.Goals as goal

@@ -6,13 +6,13 @@ use Rattle.float.proofs.clamp.Goals as goal
 pub returns-then-y-hi : goal.returns-then-y-hi
 unfolding clamp_of
 returns-then-y-hi c = elim c.if-y-lo.branch [
-  then-y-lo w ↦ simp (w.if-y-lo.true, simp w.y-is at c.if-y-hi.true)
+  | then-y-lo w ↦ simp (w.if-y-lo.true, simp w.y-is at c.if-y-hi.true)
   | else-y-lo w ↦ simp (w.if-y-lo.false, simp w.y-is at c.if-y-hi.true)
 ]
 
 pub returns-else-y-hi : goal.returns-else-y-hi
 unfolding clamp_of
 returns-else-y-hi c = elim c.if-y-lo.branch [
-  then-y-lo w ↦ simp (w.if-y-lo.true, w.y-is, simp w.y-is at c.if-y-hi.false)
+  | then-y-lo w ↦ simp (w.if-y-lo.true, w.y-is, simp w.y-is at c.if-y-hi.false)
   | else-y-lo w ↦ simp (w.if-y-lo.false, w.y-is, simp w.y-is at c.if-y-hi.false)
 ]

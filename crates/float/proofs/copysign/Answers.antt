@@ -2,7 +2,6 @@
 use mathlib.Core.Path.{sym, ap, ◌∙◌}
 use lib.Ieee.{neg}
 use Rattle.float.proofs.Zero.{sign_on, sign_off}
-use borrow.Author.Rules.{rules}
 use Rattle.float.proofs.copysign.Goals as goal
 
 pub returns-then-is_sign_negative : goal.returns-then-is_sign_negative

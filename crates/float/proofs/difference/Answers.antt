@@ -1,6 +1,5 @@
 -- Whole numbers up to 2 ^ 53 are doubles, and so are their negatives.
 use native.Mathlib.Omega.{arith}
-use borrow.Author.Rules.{rules}
 use Rattle.float.proofs.Whole.{difference_up, difference_down, whole_exact}
 use Rattle.float.proofs.difference.Goals as goal
 

@@ -1,5 +1,4 @@
 -- The two calls, one after the other.
-use borrow.Author.Rules.{rules}
 use mathlib.Core.Path.{ap, ◌∙◌}
 use lib.Ieee.{binary64, of_bits}
 use Rattle.float.specs.Bytes.{f64_at}

@@ -1,8 +1,6 @@
 -- The floor is at least low and below high; a turn halves what lies between.
-use Prim.Native.Nat.{◌-◌, ◌<◌, ◌≤◌}
 use native.Mathlib.Omega.{arith}
 use borrow.Author.Rules.{rules}
-use Rattle.float.specs.Floor.{floor_of}
 use Rattle.float.proofs.RoundDown.{reached, missed, floor_below}
 use Rattle.float.proofs.floor.Goals as goal
 

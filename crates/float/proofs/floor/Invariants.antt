@@ -1,8 +1,5 @@
 use Prim.Native.Nat.{◌-◌, ◌<◌, ◌≤◌}
-use native.Mathlib.Omega.{arith}
-use borrow.Author.Rules.{rules}
 use Rattle.float.specs.Floor.{floor_of}
-use Rattle.float.proofs.RoundDown.{reached, missed, floor_below}
 use Rattle.float.proofs.floor.Given as goal
 
 abbrev pub invariant-loop-low : goal.invariant-loop-low

@@ -1,5 +1,4 @@
 -- The test is `nan_bits`, and a pattern that it picks reads as the one NaN, which 0 / 0 is.
-use borrow.Author.Rules.{rules}
 use mathlib.Core.Path.{sym, ◌∙◌}
 use Rattle.float.proofs.Bits.{above_infinity, up_to_infinity, zero_over_zero}
 use Rattle.float.proofs.from_bits.Goals as goal

@@ -1,6 +1,5 @@
 -- The pattern is no NaN's.
 use lib.Ieee.{nan_bits}
-use borrow.Author.Rules.{rules}
 use Rattle.float.proofs.infinity.Goals as goal
 
 pub float_from_bits-result : goal.float_from_bits-result

@@ -1,6 +1,5 @@
 -- Finite is between the infinities.
 use mathlib.Core.Path.{◌∙◌}
-use borrow.Author.Rules.{rules}
 use Rattle.float.proofs.Zero.{finite_is}
 use Rattle.float.proofs.is_finite.Goals as goal
 

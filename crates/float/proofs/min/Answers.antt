@@ -1,5 +1,4 @@
 -- The definition is what `pick` ensures.
-use borrow.Author.Rules.{rules}
 use Rattle.float.specs.Methods.{min_of}
 use Rattle.float.proofs.min.Goals as goal
 

@@ -1,6 +1,5 @@
 -- Each way out settles the test `second || is_nan x`.
 use mathlib.Core.Path.{sym, ◌∙◌}
-use borrow.Author.Rules.{rules}
 use Rattle.float.proofs.pick.Goals as goal
 
 pub returns-then-is_nan : goal.returns-then-is_nan

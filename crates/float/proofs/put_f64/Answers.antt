@@ -1,5 +1,4 @@
 -- The two calls, one after the other.
-use borrow.Author.Rules.{rules}
 use Rattle.float.proofs.put_f64.Goals as goal
 
 pub returns : goal.returns

@@ -1,11 +1,9 @@
 -- Each turn stores the lowest byte that is left; what is left, stored from at + i on, makes the whole.
-use mathlib.Core.Path.{◌≡◌, refl, sym, ◌∙◌}
-use Prim.Native.Nat.{◌+◌, ◌-◌, ◌≤◌}
+use mathlib.Core.Path.{refl, sym, ◌∙◌}
 use native.Mathlib.Nat.{add-zero}
 use borrow.Author.Rules.{rules}
-use lib.ListN.{length, length-set}
-use lib.Seq.{sets}
-use Rattle.float.specs.Bytes.{low_bytes, bytes_of}
+use lib.ListN.{length-set}
+use Rattle.float.specs.Bytes.{bytes_of}
 use Rattle.float.proofs.Bytes.{put_turn, put_end}
 use Rattle.float.proofs.put_u64.Goals as goal
 

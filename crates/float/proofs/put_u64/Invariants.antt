@@ -1,11 +1,8 @@
-use mathlib.Core.Path.{◌≡◌, refl, sym, ◌∙◌}
+use mathlib.Core.Path.{◌≡◌}
 use Prim.Native.Nat.{◌+◌, ◌-◌, ◌≤◌}
-use native.Mathlib.Nat.{add-zero}
-use borrow.Author.Rules.{rules}
-use lib.ListN.{length, length-set}
+use lib.ListN.{length}
 use lib.Seq.{sets}
 use Rattle.float.specs.Bytes.{low_bytes, bytes_of}
-use Rattle.float.proofs.Bytes.{put_turn, put_end}
 use Rattle.float.proofs.put_u64.Given as goal
 
 abbrev pub invariant-loop-i : goal.invariant-loop-i

@@ -1,5 +1,4 @@
 -- The NaN is picked out by `is_nan`; every other double has bits of its own.
-use borrow.Author.Rules.{rules}
 use mathlib.Core.Path.{sym, subst, ◌∙◌}
 use mathlib.Core.Bool.{Bool, not}
 use lib.Dec.{T}

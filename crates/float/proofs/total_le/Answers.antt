@@ -1,7 +1,6 @@
 -- Each way out is one term of the definition.
 use mathlib.Core.Path.{sym, ◌∙◌}
 use Rattle.float.specs.Methods.{total_le_of}
-use borrow.Author.Rules.{rules}
 use Rattle.float.proofs.total_le.Goals as goal
 
 pub returns-then-is_nan : goal.returns-then-is_nan

@@ -17,7 +17,7 @@ factor-returns t c =
     let byte = c.is_at.ensures in
     let a = c.args in
     let base : Base a.s.now a.at c.if-is_at.base = elim c.if-is_at.branch [
-      factor-then-is_at w ↦ subst (Base a.s.now a.at) (sym w.base-is)
+      | factor-then-is_at w ↦ subst (Base a.s.now a.at) (sym w.base-is)
           (base_bracket _ _ _ _ (sym byte ∙ w.if-is_at.true) w.sum-inner.ensures w.closed-base.ensures.ahead w.closed-base.ensures.closed)
       | factor-else-is_at w ↦ subst (Base a.s.now a.at) (sym w.base-is)
           (base_unit _ _ _ (sym byte ∙ w.if-is_at.false) w.unit-base.ensures.ahead w.unit-base.ensures.based)

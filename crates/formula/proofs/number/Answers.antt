@@ -1,6 +1,5 @@
 -- The loop's invariant: n is the value of the digits passed, of which there are at most nine.
 use mathlib.Core.Path.{sym, ◌∙◌}
-use Prim.Native.Nat.{◌-◌}
 use native.Mathlib.Omega.{arith}
 use Rattle.formula.proofs.Bytes.{digit_inside}
 use Rattle.formula.proofs.Factors.{counted_none, counted_small, counted_next, number_long, number_none, number_some}

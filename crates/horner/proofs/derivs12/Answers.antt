@@ -1,10 +1,9 @@
 -- `derivs12` is its definition: the places left, from the present sums, give the result.
-use mathlib.Core.Path.{◌≡◌, refl, sym, ◌∙◌}
-use Prim.Native.Nat.{◌-◌, ◌≤◌}
+use mathlib.Core.Path.{refl, sym, ◌∙◌}
+use Prim.Native.Nat.{◌-◌}
 use native.Mathlib.Omega.{arith}
 use borrow.Author.Rules.{rules}
 use borrow.Author.Tests.{le-leb, lt-leb}
-use Rattle.horner.specs.Loops.{down_to}
 use Rattle.horner.specs.Taylor.{derivs_step, derivs12_of}
 use Rattle.horner.proofs.Loops.{down_to_turn, down_to_end, small_exact}
 use Rattle.horner.proofs.derivs12.Goals as goal

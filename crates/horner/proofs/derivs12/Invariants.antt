@@ -1,11 +1,7 @@
-use mathlib.Core.Path.{◌≡◌, refl, sym, ◌∙◌}
-use Prim.Native.Nat.{◌-◌, ◌≤◌}
-use native.Mathlib.Omega.{arith}
-use borrow.Author.Rules.{rules}
-use borrow.Author.Tests.{le-leb, lt-leb}
+use mathlib.Core.Path.{◌≡◌}
+use Prim.Native.Nat.{◌≤◌}
 use Rattle.horner.specs.Loops.{down_to}
 use Rattle.horner.specs.Taylor.{derivs_step, derivs12_of}
-use Rattle.horner.proofs.Loops.{down_to_turn, down_to_end, small_exact}
 use Rattle.horner.proofs.derivs12.Given as goal
 
 abbrev pub invariant-loop-i : goal.invariant-loop-i

@@ -1,5 +1,4 @@
 -- `discriminant` is its definition, over what `two_prod` gives.
-use borrow.Author.Rules.{rules}
 use Rattle.horner.specs.Product.{discriminant_of}
 use Rattle.horner.proofs.discriminant.Goals as goal
 

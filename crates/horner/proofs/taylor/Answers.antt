@@ -1,10 +1,8 @@
 -- `taylor` is its definition: the places left, done to the present array, end the sweep, and the sweeps left give the result.
-use mathlib.Core.Path.{◌≡◌, refl, sym, ◌∙◌}
-use Prim.Native.Nat.{◌-◌, ◌≤◌}
+use mathlib.Core.Path.{refl, sym, ◌∙◌}
 use native.Mathlib.Nat.{sub-zero}
 use borrow.Author.Rules.{rules}
-use Rattle.facts.specs.Count.{count_up, up_turn, up_end}
-use Rattle.horner.specs.Loops.{down_to}
+use Rattle.facts.specs.Count.{up_turn, up_end}
 use Rattle.horner.specs.Taylor.{taylor_step, sweep_of, taylor_of}
 use Rattle.horner.proofs.Loops.{down_to_turn, down_to_end}
 use Rattle.horner.proofs.taylor.Goals as goal

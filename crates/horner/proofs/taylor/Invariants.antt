@@ -1,11 +1,8 @@
-use mathlib.Core.Path.{◌≡◌, refl, sym, ◌∙◌}
+use mathlib.Core.Path.{◌≡◌}
 use Prim.Native.Nat.{◌-◌, ◌≤◌}
-use native.Mathlib.Nat.{sub-zero}
-use borrow.Author.Rules.{rules}
-use Rattle.facts.specs.Count.{count_up, up_turn, up_end}
+use Rattle.facts.specs.Count.{count_up}
 use Rattle.horner.specs.Loops.{down_to}
 use Rattle.horner.specs.Taylor.{taylor_step, sweep_of, taylor_of}
-use Rattle.horner.proofs.Loops.{down_to_turn, down_to_end}
 use Rattle.horner.proofs.taylor.Given as goal
 
 abbrev pub invariant-loop-i : goal.invariant-loop-i

@@ -1,5 +1,4 @@
 -- `two_prod` is its definition, with the halves that the two calls give.
-use borrow.Author.Rules.{rules}
 use Rattle.horner.specs.Product.{product_error, two_prod_of}
 use Rattle.horner.proofs.two_prod.Goals as goal
 

@@ -1,9 +1,7 @@
 -- `value_slope` is its definition: the turns left, from the present value and slope, give the result.
-use mathlib.Core.Path.{◌≡◌, refl, sym, ◌∙◌}
-use Prim.Native.Nat.{◌≤◌}
+use mathlib.Core.Path.{refl, sym, ◌∙◌}
 use borrow.Author.Rules.{rules}
-use Rattle.facts.specs.Count.{count_down, down_turn, down_end}
-use Rattle.horner.specs.Loops.{at_place}
+use Rattle.facts.specs.Count.{down_turn, down_end}
 use Rattle.horner.specs.Horner.{horner_step, value_slope_of}
 use Rattle.horner.proofs.value_slope.Goals as goal
 

@@ -1,7 +1,6 @@
-use mathlib.Core.Path.{◌≡◌, refl, sym, ◌∙◌}
+use mathlib.Core.Path.{◌≡◌}
 use Prim.Native.Nat.{◌≤◌}
-use borrow.Author.Rules.{rules}
-use Rattle.facts.specs.Count.{count_down, down_turn, down_end}
+use Rattle.facts.specs.Count.{count_down}
 use Rattle.horner.specs.Loops.{at_place}
 use Rattle.horner.specs.Horner.{horner_step, value_slope_of}
 use Rattle.horner.proofs.value_slope.Given as goal

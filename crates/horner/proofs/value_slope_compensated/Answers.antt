@@ -1,9 +1,7 @@
 -- `value_slope_compensated` is its definition: the turns left, from the present locals, end at the definition's.
-use mathlib.Core.Path.{◌≡◌, refl, ap, sym, ◌∙◌}
-use Prim.Native.Nat.{◌≤◌}
+use mathlib.Core.Path.{refl, ap, sym, ◌∙◌}
 use borrow.Author.Rules.{rules}
-use Rattle.facts.specs.Count.{count_down, down_turn, down_end}
-use Rattle.horner.specs.Loops.{at_place}
+use Rattle.facts.specs.Count.{down_turn, down_end}
 use Rattle.horner.specs.Product.{two_prod_of}
 use Rattle.horner.specs.Horner.{sum_error, compensated_step, compensated_of, corrected, value_slope_compensated_of}
 use Rattle.horner.proofs.value_slope_compensated.Goals as goal

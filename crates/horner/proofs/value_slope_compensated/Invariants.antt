@@ -1,10 +1,8 @@
-use mathlib.Core.Path.{◌≡◌, refl, ap, sym, ◌∙◌}
+use mathlib.Core.Path.{◌≡◌}
 use Prim.Native.Nat.{◌≤◌}
-use borrow.Author.Rules.{rules}
-use Rattle.facts.specs.Count.{count_down, down_turn, down_end}
+use Rattle.facts.specs.Count.{count_down}
 use Rattle.horner.specs.Loops.{at_place}
-use Rattle.horner.specs.Product.{two_prod_of}
-use Rattle.horner.specs.Horner.{sum_error, compensated_step, compensated_of, corrected, value_slope_compensated_of}
+use Rattle.horner.specs.Horner.{compensated_step, compensated_of}
 use Rattle.horner.proofs.value_slope_compensated.Given as goal
 
 abbrev pub invariant-loop-i : goal.invariant-loop-i

@@ -1,11 +1,6 @@
 -- `counted_in` is its definition: what is left of the roots, and of the sum, decides.
-use mathlib.Core.Path.{◌≡◌, refl, sym, ◌∙◌}
-use Prim.Native.Nat.{◌-◌, ◌≤◌}
-use lib.ListN.{drop}
+use mathlib.Core.Path.{refl, sym, ◌∙◌}
 use borrow.Author.Rules.{rules}
-use Rattle.roots.specs.Roots.{list_of}
-use Rattle.roots.specs.Listed.{Fits}
-use Rattle.inquiry.specs.Inquiry.{counted_in}
 use Rattle.inquiry.proofs.Sound.{count_none, count_over, count_go, count_end}
 use Rattle.inquiry.proofs.counted_in.Goals as goal
 
@@ -23,13 +18,12 @@ returns-then-left-m c =
     c.if-left-m.true) ∙ c.loop-k.invariant.2
 
 pub loop-k-preserved : goal.loop-k-preserved
-loop-k-preserved c =
-    (
-      search rules,
-      c.loop-k.invariant.1,
-      sym (count_go c.args.roots c.loop-k.k c.loop-k.invariant.1
-          c.loop-k.left (search rules) c.if-m-eq0.false c.if-left-m.false) ∙ c.loop-k.invariant.2,
-    )
+loop-k-preserved c = (
+  search rules,
+  c.loop-k.invariant.1,
+  sym (count_go c.args.roots c.loop-k.k c.loop-k.invariant.1
+      c.loop-k.left (search rules) c.if-m-eq0.false c.if-left-m.false) ∙ c.loop-k.invariant.2,
+)
 
 pub returns : goal.returns
 returns c = sym (count_end c.args.roots c.loop-k.k c.loop-k.invariant.1 c.loop-k.left (search rules)) ∙ c.loop-k.invariant.2

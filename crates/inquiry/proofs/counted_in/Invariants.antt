@@ -1,11 +1,9 @@
-use mathlib.Core.Path.{◌≡◌, refl, sym, ◌∙◌}
+use mathlib.Core.Path.{◌≡◌}
 use Prim.Native.Nat.{◌-◌, ◌≤◌}
 use lib.ListN.{drop}
-use borrow.Author.Rules.{rules}
 use Rattle.roots.specs.Roots.{list_of}
 use Rattle.roots.specs.Listed.{Fits}
 use Rattle.inquiry.specs.Inquiry.{counted_in}
-use Rattle.inquiry.proofs.Sound.{count_none, count_over, count_go, count_end}
 use Rattle.inquiry.proofs.counted_in.Given as goal
 
 abbrev pub invariant-loop-k : goal.invariant-loop-k

@@ -1,4 +1,3 @@
-use borrow.Author.Rules.{rules}
 use Rattle.inquiry.proofs.nothing.Goals as goal
 
 pub returns : goal.returns

@@ -2,7 +2,6 @@
 use mathlib.Core.Path.{sym, ap}
 use Rattle.touching.proofs.Lists.{reply_cons, reply_nil}
 use Rattle.inquiry.specs.Inquiry.{over_by}
-use borrow.Author.Rules.{rules}
 use Rattle.inquiry.proofs.over.Goals as goal
 
 pub returns-then-used-replies : goal.returns-then-used-replies

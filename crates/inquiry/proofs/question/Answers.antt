@@ -1,6 +1,5 @@
 use Rattle.asking.specs.Asking.{left_by}
 use Rattle.inquiry.specs.Inquiry.{shown, over_by}
-use borrow.Author.Rules.{rules}
 use Rattle.inquiry.proofs.question.Goals as goal
 
 pub returns : goal.returns

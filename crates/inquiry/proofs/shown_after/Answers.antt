@@ -1,4 +1,3 @@
-use borrow.Author.Rules.{rules}
 use mathlib.Core.Path.{ap, ◌∙◌}
 use Rattle.inquiry.specs.Inquiry.{seen_of}
 use Rattle.inquiry.proofs.Logs.{shown_is}

@@ -1,5 +1,4 @@
 use Rattle.inquiry.specs.Start.{start_of}
-use borrow.Author.Rules.{rules}
 use Rattle.inquiry.proofs.start.Goals as goal
 
 pub returns : goal.returns

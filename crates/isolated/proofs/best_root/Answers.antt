@@ -1,5 +1,4 @@
 -- `best_root` is its definition: the four roots judged in turn, over the six distances.
-use borrow.Author.Rules.{rules}
 use Rattle.isolated.proofs.Laws.{in_turn}
 use Rattle.isolated.proofs.best_root.Goals as goal
 

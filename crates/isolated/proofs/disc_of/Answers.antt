@@ -1,4 +1,3 @@
-use borrow.Author.Rules.{rules}
 use Rattle.isolated.specs.Isolated.{disc_of}
 use Rattle.isolated.proofs.disc_of.Goals as goal
 

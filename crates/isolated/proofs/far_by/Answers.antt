@@ -1,4 +1,3 @@
-use borrow.Author.Rules.{rules}
 use Rattle.isolated.specs.Isolated.{far_by}
 use Rattle.isolated.proofs.far_by.Goals as goal
 

@@ -1,4 +1,3 @@
-use borrow.Author.Rules.{rules}
 use Rattle.isolated.specs.Isolated.{far_root_of, far_by}
 use Rattle.isolated.proofs.far_root.Goals as goal
 

@@ -1,5 +1,4 @@
 -- `greatest` is its definition, over what `max` gives.
-use borrow.Author.Rules.{rules}
 use Rattle.isolated.proofs.greatest.Goals as goal
 
 pub returns : goal.returns

@@ -1,5 +1,4 @@
 -- `is_better` is the test of its parts, by the part that decides and by whether there is a best so far.
-use borrow.Author.Rules.{rules}
 use Rattle.isolated.specs.Isolated.{is_better_of}
 use Rattle.isolated.proofs.is_better.Goals as goal
 

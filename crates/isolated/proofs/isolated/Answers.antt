@@ -1,5 +1,4 @@
 -- `isolated` is its definition, from what it calls.
-use borrow.Author.Rules.{rules}
 use Rattle.isolated.proofs.Laws.{is_lone}
 use Rattle.isolated.proofs.isolated.Goals as goal
 

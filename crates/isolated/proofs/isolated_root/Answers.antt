@@ -1,6 +1,5 @@
 -- `isolated_root` is its definition, a field of what `isolated` gives.
 use mathlib.Core.Path.{ap}
-use borrow.Author.Rules.{rules}
 use Rattle.isolated.specs.declared.Pairing.{Pairing}
 use Rattle.isolated.specs.Isolated.{isolated_of}
 use Rattle.isolated.proofs.isolated_root.Goals as goal

@@ -1,5 +1,4 @@
 use mathlib.Core.Path.{sym, ◌∙◌}
-use borrow.Author.Rules.{rules}
 use Rattle.isolated.specs.Isolated.{judged_of}
 use Rattle.isolated.proofs.judge.Goals as goal
 

@@ -1,5 +1,4 @@
 -- `least` is its definition, over what `min` gives.
-use borrow.Author.Rules.{rules}
 use Rattle.isolated.proofs.least.Goals as goal
 
 pub returns : goal.returns

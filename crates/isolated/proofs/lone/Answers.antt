@@ -1,5 +1,4 @@
 -- `lone` is its definition: it tells the variants apart.
-use borrow.Author.Rules.{rules}
 use Rattle.isolated.proofs.lone.Goals as goal
 
 pub returns-in-Root : goal.returns-in-Root

@@ -1,5 +1,4 @@
 -- `peel_root` is its definition, over what `refine_peel` gives.
-use borrow.Author.Rules.{rules}
 use Rattle.isolated.specs.Isolated.{peel_root_of}
 use Rattle.isolated.proofs.peel_root.Goals as goal
 

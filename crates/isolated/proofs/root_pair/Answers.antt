@@ -1,5 +1,4 @@
 -- `root_pair` is its definition: each way out of the test on the discriminant is an arm of it.
-use borrow.Author.Rules.{rules}
 use Rattle.isolated.proofs.Laws.{real_pair, complex_pair}
 use Rattle.isolated.proofs.root_pair.Goals as goal
 

@@ -1,6 +1,5 @@
 use native.Mathlib.Omega.{arith}
 use Rattle.large_factors.proofs.Added.{quad_split, quad_whole}
-use borrow.Author.Rules.{rules}
 use Rattle.large_factors.proofs.add_quad.Goals as goal
 
 pub add_real-requires : goal.add_real-requires

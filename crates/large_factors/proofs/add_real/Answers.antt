@@ -1,4 +1,3 @@
-use borrow.Author.Rules.{rules}
 use Rattle.large_factors.proofs.add_real.Goals as goal
 
 pub returns : goal.returns

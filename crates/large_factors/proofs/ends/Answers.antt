@@ -1,6 +1,5 @@
 use borrow.Author.Tests.{le-leb, lt-leb}
 use Rattle.large_factors.specs.Large.{ends_of}
-use borrow.Author.Rules.{rules}
 use Rattle.large_factors.proofs.ends.Goals as goal
 
 pub returns-then-degree-want : goal.returns-then-degree-want

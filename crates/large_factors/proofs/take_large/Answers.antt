@@ -1,10 +1,6 @@
 -- `large::take_large` is its definition: what the units left make of the present factors is the result.
-use mathlib.Core.Path.{◌≡◌, ◌∙◌}
-use Prim.Native.Nat.{◌-◌, ◌≤◌}
+use mathlib.Core.Path.{◌∙◌}
 use native.Mathlib.Omega.{arith}
-use lib.ListN.{drop}
-use Rattle.factors.specs.Factors.{no_factors, Sized}
-use Rattle.large_factors.specs.Large.{large_from, in_order}
 use Rattle.large_factors.proofs.Sizes.{unit_sized, none_sized}
 use Rattle.large_factors.proofs.Taken.{take_none, take_ends, take_more, take_all}
 use borrow.Author.Rules.{rules}
@@ -28,14 +24,13 @@ returns-then-ends c =
     c.ends.ensures (search rules) c.loop-i-test.true c.if-ends.true ∙ c.loop-i.invariant.2
 
 pub loop-i-preserved : goal.loop-i-preserved
-loop-i-preserved c =
-    (
-      search rules,
-      unit_sized _ _ _ c.with_unit-out.ensures c.loop-i.invariant.1,
-      take_more c.args.at c.args.order c.args.n c.requires.n_high c.loop-i.i _ _ _ _
-          c.degree.ensures _ c.ends.ensures (search rules) c.loop-i-test.true _ c.if-ends.false
-          c.with_unit-out.ensures ∙ c.loop-i.invariant.2,
-    )
+loop-i-preserved c = (
+  search rules,
+  unit_sized _ _ _ c.with_unit-out.ensures c.loop-i.invariant.1,
+  take_more c.args.at c.args.order c.args.n c.requires.n_high c.loop-i.i _ _ _ _
+      c.degree.ensures _ c.ends.ensures (search rules) c.loop-i-test.true _ c.if-ends.false
+      c.with_unit-out.ensures ∙ c.loop-i.invariant.2,
+)
 
 pub returns : goal.returns
 returns c =

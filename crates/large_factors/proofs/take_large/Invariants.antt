@@ -1,12 +1,8 @@
-use mathlib.Core.Path.{◌≡◌, ◌∙◌}
+use mathlib.Core.Path.{◌≡◌}
 use Prim.Native.Nat.{◌-◌, ◌≤◌}
-use native.Mathlib.Omega.{arith}
 use lib.ListN.{drop}
 use Rattle.factors.specs.Factors.{no_factors, Sized}
 use Rattle.large_factors.specs.Large.{large_from, in_order}
-use Rattle.large_factors.proofs.Sizes.{unit_sized, none_sized}
-use Rattle.large_factors.proofs.Taken.{take_none, take_ends, take_more, take_all}
-use borrow.Author.Rules.{rules}
 use Rattle.large_factors.proofs.take_large.Given as goal
 
 abbrev pub invariant-loop-i : goal.invariant-loop-i

@@ -1,11 +1,8 @@
-use mathlib.Core.Path.{◌≡◌, refl, ap, ◌∙◌}
+use mathlib.Core.Path.{◌≡◌}
 use Prim.Native.Nat.{◌+◌, ◌-◌, ◌≤◌}
-use native.Mathlib.Omega.{arith}
 use mathlib.Core.List.{◌++◌}
-use Rattle.facts.specs.Lists.{length_mapped}
 use Rattle.large_factors.specs.Large.{no_units, all_added}
-use Rattle.large_factors.proofs.Added.{reals, splits, reals_room, real_added, reals_all, splits_room, quad_added, splits_all, units_are}
-use borrow.Author.Rules.{rules}
+use Rattle.large_factors.proofs.Added.{reals, splits}
 use Rattle.large_factors.proofs.units_of.Given as goal
 
 abbrev pub invariant-loop-i : goal.invariant-loop-i

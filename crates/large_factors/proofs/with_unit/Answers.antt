@@ -1,7 +1,6 @@
 use mathlib.Core.Path.{sym, ◌∙◌}
 use Rattle.facts.specs.Cond.{if_taken, if_left}
 use Rattle.large_factors.specs.Large.{with_unit}
-use borrow.Author.Rules.{rules}
 use Rattle.large_factors.proofs.with_unit.Goals as goal
 
 pub returns-then-is_nan : goal.returns-then-is_nan

@@ -1,6 +1,5 @@
 -- By the sign and the size of k.
 use mathlib.Core.Path.{sym, ap, ◌∙◌}
-use borrow.Author.Rules.{rules}
 use lib.IntN.{ℤ}
 use mir.Facts.{to_z-of_z}
 use Rattle.ldexp.specs.Scale.{ldexp_of}

@@ -1,6 +1,5 @@
 -- By the larger of p and q.
 use mathlib.Core.Path.{ap, ◌∙◌}
-use borrow.Author.Rules.{rules}
 use lib.IntN.{ℤ}
 use Rattle.ldexp.specs.Scale.{ldexp_of}
 use Rattle.ldexp.proofs.Chain.{minus_up, minus_down}

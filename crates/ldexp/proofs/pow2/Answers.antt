@@ -1,6 +1,5 @@
 -- By the sign and the size of k.
 use mathlib.Core.Path.{sym, ap, ◌∙◌, subst}
-use borrow.Author.Rules.{rules}
 use lib.IntN.{ℤ, pos, negsuc}
 use lib.Signed.{◌≤ℤ◌}
 use mir.Facts.{to_z-of_z}

@@ -1,7 +1,6 @@
 -- The field 1023 ± n stands for 2^±n.
 use native.Mathlib.Omega.{arith}
 use Rattle.ldexp.proofs.Pack.{pack_not_nan, power_up, power_down}
-use borrow.Author.Rules.{rules}
 use Rattle.ldexp.proofs.power.Goals as goal
 
 pub float_from_bits-result : goal.float_from_bits-result

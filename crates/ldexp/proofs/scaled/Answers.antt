@@ -1,5 +1,5 @@
 -- The loop's invariant: what is left to do to y gives the whole result.
-use mathlib.Core.Path.{◌≡◌, refl, sym, ap, ◌∙◌}
+use mathlib.Core.Path.{refl, sym, ap, ◌∙◌}
 use native.Mathlib.Omega.{arith}
 use Prim.Native.Nat.{◌-◌}
 use lib.Ieee.{Float, binary64, mul}

@@ -1,9 +1,5 @@
-use mathlib.Core.Path.{◌≡◌, refl, sym, ap, ◌∙◌}
-use native.Mathlib.Omega.{arith}
-use Prim.Native.Nat.{◌-◌}
-use lib.Ieee.{Float, binary64, mul}
+use mathlib.Core.Path.{◌≡◌}
 use Rattle.ldexp.specs.Scale.{times_power_of}
-use Rattle.ldexp.proofs.Chain.{all_steady, all_last, all_step, by_sign}
 use Rattle.ldexp.proofs.scaled.Given as goal
 
 abbrev pub invariant-loop-k : goal.invariant-loop-k

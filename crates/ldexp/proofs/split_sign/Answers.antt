@@ -8,7 +8,7 @@ use mir.Syntax.{w32, w64}
 use mir.Val.{Fits, SFits, to_z, of_z}
 use mir.Facts.{to_z-of_z}
 use Rattle.ldexp.specs.Scale.{signed}
-use Rattle.ldexp.proofs.Sign.{flipped, below, not_below, cast_pos}
+use Rattle.ldexp.proofs.Sign.{below, not_below, cast_pos}
 use Rattle.ldexp.proofs.split_sign.Goals as goal
 
 -- `-1 - k`, read back from its bits

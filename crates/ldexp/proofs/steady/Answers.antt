@@ -3,7 +3,6 @@ use mathlib.Core.Path.{sym, ◌∙◌, subst}
 use lib.Dec.{T}
 use borrow.Author.Tests.{not-true}
 use Rattle.ldexp.proofs.Chain.{steady_zero, steady_special}
-use borrow.Author.Rules.{rules}
 use Rattle.ldexp.proofs.steady.Goals as goal
 
 pub returns-then-x : goal.returns-then-x

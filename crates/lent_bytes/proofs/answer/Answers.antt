@@ -1,6 +1,5 @@
 -- The whole answer, or the refusal.
 use mathlib.Core.Path.{refl, sym}
-use borrow.Author.Rules.{rules}
 use Rattle.lent_bytes.proofs.Whole.{answered_as, refused}
 use Rattle.lent_bytes.proofs.answer.Goals as goal
 

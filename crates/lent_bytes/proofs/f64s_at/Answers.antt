@@ -2,8 +2,8 @@
 use native.Mathlib.Omega.{arith}
 use mathlib.Core.Path.{◌≡◌, refl, ap, subst, ◌∙◌}
 use mathlib.Core.List.{List, ◌++◌}
-use Prim.Native.Nat.{ℕ, ◌≤◌, ◌-◌}
-use lib.ListN.{length, set, replicate, length-set}
+use Prim.Native.Nat.{ℕ, ◌-◌}
+use lib.ListN.{set, replicate, length-set}
 use lib.Ieee.{Float}
 use Rattle.float.specs.Literals.{zero64}
 use Rattle.lent_bytes.specs.Bytes.{f64s_at}

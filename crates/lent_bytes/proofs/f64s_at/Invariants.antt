@@ -1,12 +1,9 @@
-use native.Mathlib.Omega.{arith}
-use mathlib.Core.Path.{◌≡◌, refl, ap, subst, ◌∙◌}
-use mathlib.Core.List.{List, ◌++◌}
-use Prim.Native.Nat.{ℕ, ◌≤◌, ◌-◌}
-use lib.ListN.{length, set, replicate, length-set}
-use lib.Ieee.{Float}
+use mathlib.Core.Path.{◌≡◌}
+use mathlib.Core.List.{◌++◌}
+use Prim.Native.Nat.{◌≤◌, ◌-◌}
+use lib.ListN.{length, replicate}
 use Rattle.float.specs.Literals.{zero64}
 use Rattle.lent_bytes.specs.Bytes.{f64s_at}
-use Rattle.lent_bytes.proofs.Doubles.{f64s_none, f64s_next}
 use Rattle.lent_bytes.proofs.f64s_at.Given as goal
 
 abbrev pub invariant-loop-i : goal.invariant-loop-i

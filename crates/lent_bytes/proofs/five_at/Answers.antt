@@ -1,6 +1,5 @@
 -- Double by double.
 use Rattle.lent_bytes.specs.Bytes.{f64s_at}
-use borrow.Author.Rules.{rules}
 use Rattle.lent_bytes.proofs.five_at.Goals as goal
 
 pub returns : goal.returns

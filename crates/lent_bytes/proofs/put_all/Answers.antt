@@ -1,12 +1,12 @@
 -- After i turns the first i doubles are stored.
 use native.Mathlib.Omega.{arith}
-use Prim.Native.Nat.{◌+◌, ◌*◌, ◌≤◌, ◌<◌, ◌-◌}
-use lib.ListN.{length, take, get_or}
+use Prim.Native.Nat.{◌+◌, ◌*◌, ◌<◌}
+use lib.ListN.{length, get_or}
 use lib.Ieee.{nan, binary64, to_bits}
 use Rattle.float.proofs.Bytes.{length_bytes}
 use Rattle.text.specs.Written.{Written}
 use Rattle.text.proofs.Laws.{written_length, flat_none, written_flat, flat_all}
-use Rattle.lent_bytes.specs.Bytes.{double_bytes, doubles_bytes}
+use Rattle.lent_bytes.specs.Bytes.{double_bytes}
 use Rattle.lent_bytes.proofs.put_all.Goals as goal
 
 pub loop-i-init : goal.loop-i-init

@@ -1,11 +1,7 @@
-use native.Mathlib.Omega.{arith}
-use Prim.Native.Nat.{◌+◌, ◌*◌, ◌≤◌, ◌<◌, ◌-◌}
-use lib.ListN.{length, take, get_or}
-use lib.Ieee.{nan, binary64, to_bits}
-use Rattle.float.proofs.Bytes.{length_bytes}
+use Prim.Native.Nat.{◌*◌, ◌≤◌, ◌-◌}
+use lib.ListN.{length, take}
 use Rattle.text.specs.Written.{Written}
-use Rattle.text.proofs.Laws.{written_length, flat_none, written_flat, flat_all}
-use Rattle.lent_bytes.specs.Bytes.{double_bytes, doubles_bytes}
+use Rattle.lent_bytes.specs.Bytes.{doubles_bytes}
 use Rattle.lent_bytes.proofs.put_all.Given as goal
 
 abbrev pub invariant-loop-i : goal.invariant-loop-i

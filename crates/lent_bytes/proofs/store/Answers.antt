@@ -1,7 +1,6 @@
 -- All the bytes, or none.
 use native.Mathlib.Omega.{arith}
 use mathlib.Core.Path.{refl}
-use borrow.Author.Rules.{rules}
 use Rattle.lent_bytes.proofs.Whole.{are_too_few, all_stored}
 use Rattle.lent_bytes.proofs.store.Goals as goal
 

@@ -1,4 +1,3 @@
-use borrow.Author.Rules.{rules}
 use mathlib.Core.Path.{◌∙◌}
 use Rattle.float.specs.Literals.{zero64}
 use Rattle.lent_coefficients.proofs.Reading.{read_at, read_none}

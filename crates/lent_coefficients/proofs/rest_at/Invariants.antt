@@ -1,12 +1,9 @@
-use borrow.Author.Rules.{rules}
-use native.Mathlib.Omega.{arith}
-use mathlib.Core.Path.{◌≡◌, refl, sym, ◌∙◌}
+use mathlib.Core.Path.{◌≡◌}
 use mathlib.Core.List.{foldl}
 use Prim.Native.Nat.{◌/◌, ◌-◌}
 use lib.ListN.{length, drop}
 use Rattle.poly.specs.Short.{rest_with, rest_of}
 use Rattle.lent_coefficients.specs.Coefficients.{coefficients_at}
-use Rattle.lent_coefficients.proofs.Reading.{rest_next, rest_end}
 use Rattle.lent_coefficients.proofs.rest_at.Given as goal
 
 abbrev pub invariant-loop-i : goal.invariant-loop-i

@@ -1,4 +1,3 @@
-use borrow.Author.Rules.{rules}
 use mathlib.Core.Path.{sym, ◌∙◌}
 use Rattle.poly.specs.Short.{rest_with}
 use Rattle.lent_coefficients.proofs.rest_with.Goals as goal

@@ -1,5 +1,4 @@
 -- Number by number.
-use borrow.Author.Rules.{rules}
 use Rattle.lent_coefficients.specs.Coefficients.{coefficients_at}
 use Rattle.lent_coefficients.proofs.Reading.{short_is}
 use Rattle.lent_coefficients.proofs.short_at.Goals as goal

@@ -1,11 +1,7 @@
 -- All coefficients are seen, and raised they lie in one window.
-use mathlib.Core.Path.{◌≡◌}
-use mathlib.Core.Bool.{false≢true}
-use Prim.Native.Nat.{ℕ, ◌-◌, ◌≤◌, ◌<◌}
 use native.Mathlib.Omega.{arith}
 use borrow.Author.Tests.{leb-true}
 use lib.Arith.{lt_of_le-ne}
-use Rattle.level.specs.Level.{SpanSeen}
 use Rattle.level.proofs.Turns.{seen_start, seen_more, seen_all}
 use Rattle.level.proofs.None.{level_none}
 use borrow.Author.Rules.{rules}

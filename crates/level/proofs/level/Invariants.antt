@@ -1,13 +1,5 @@
-use mathlib.Core.Path.{◌≡◌}
-use mathlib.Core.Bool.{false≢true}
-use Prim.Native.Nat.{ℕ, ◌-◌, ◌≤◌, ◌<◌}
-use native.Mathlib.Omega.{arith}
-use borrow.Author.Tests.{leb-true}
-use lib.Arith.{lt_of_le-ne}
+use Prim.Native.Nat.{◌-◌, ◌≤◌, ◌<◌}
 use Rattle.level.specs.Level.{SpanSeen}
-use Rattle.level.proofs.Turns.{seen_start, seen_more, seen_all}
-use Rattle.level.proofs.None.{level_none}
-use borrow.Author.Rules.{rules}
 use Rattle.level.proofs.level.Given as goal
 
 abbrev pub invariant-loop-i : goal.invariant-loop-i

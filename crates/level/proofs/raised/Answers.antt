@@ -2,7 +2,6 @@
 use Prim.Native.Nat.{ℕ, ◌*◌, ◌≤◌, ◌<◌}
 use native.Mathlib.Omega.{arith}
 use native.Mathlib.Nat.{le_of_lt, mul-le-mul}
-use borrow.Author.Rules.{rules}
 use Rattle.level.proofs.raised.Goals as goal
 
 small : (s i : ℕ) → s < 10000 → i ≤ 4 → s * i ≤ 10000 * 4

@@ -1,13 +1,11 @@
 -- A file that is too long has one line; else each turn stores the next line of the listing.
 use native.Mathlib.Omega.{arith}
 use mathlib.Core.Path.{ap, ◌∙◌}
-use Prim.Native.Nat.{◌-◌, ◌<◌}
-use lib.ListN.{length}
+use Prim.Native.Nat.{◌<◌}
 use Rattle.text.proofs.Laws.{written_as, written_length}
 use Rattle.listing.specs.Lines.{line_of}
 use Rattle.records.proofs.Places.{too_long_sound, record_sound}
-use Rattle.listing.proofs.Reading.{Sofar, sofar_none, sofar_short, sofar_next, sofar_all, falls, too_long}
-use borrow.Author.Rules.{rules}
+use Rattle.listing.proofs.Reading.{sofar_none, sofar_short, sofar_next, sofar_all, falls, too_long}
 use Rattle.listing.proofs.list_file.Goals as goal
 
 pub put_line-requires : goal.put_line-requires

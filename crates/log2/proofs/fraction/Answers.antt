@@ -1,5 +1,4 @@
 -- w reaches the threshold of n after the first loop and through the second, and does not reach the next one at the end.
-use Prim.Native.Nat.{◌+◌, ◌-◌, ◌^◌, ◌≤◌, ◌<◌}
 use native.Mathlib.Omega.{arith}
 use borrow.Author.Rules.{rules}
 use Rattle.log2.proofs.Reached.{not_first, reached, next_above, last_one}

@@ -1,7 +1,4 @@
 use Prim.Native.Nat.{◌+◌, ◌-◌, ◌^◌, ◌≤◌, ◌<◌}
-use native.Mathlib.Omega.{arith}
-use borrow.Author.Rules.{rules}
-use Rattle.log2.proofs.Reached.{not_first, reached, next_above, last_one}
 use Rattle.log2.proofs.fraction.Given as goal
 
 abbrev pub invariant-loop-n : goal.invariant-loop-n

@@ -1,5 +1,4 @@
 use Rattle.nearest.proofs.Digits.{at_least_not_nan}
-use borrow.Author.Rules.{rules}
 use Rattle.log2.proofs.guess_fraction.Goals as goal
 
 pub float_to_bits-result : goal.float_to_bits-result

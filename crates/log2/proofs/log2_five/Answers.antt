@@ -1,6 +1,5 @@
 -- Each of the five is.
 use mathlib.Core.Path.{refl}
-use borrow.Author.Rules.{rules}
 use Rattle.log2.proofs.log2_five.Goals as goal
 
 pub returns : goal.returns

@@ -2,7 +2,6 @@ use native.Mathlib.Omega.{arith}
 use lib.Ieee.{of_bits, div, neg}
 use Rattle.decode.proofs.Class.{decoded_normal}
 use Rattle.log2.proofs.Cases.{log_zero, log_negative, log_special, log_positive, place, place_fits}
-use borrow.Author.Rules.{rules}
 use Rattle.log2.proofs.log2_in.Goals as goal
 
 pub returns-then-x : goal.returns-then-x

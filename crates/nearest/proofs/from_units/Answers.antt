@@ -2,7 +2,6 @@
 use native.Mathlib.Omega.{arith}
 use Rattle.ldexp.proofs.Pack.{pack_not_nan}
 use Rattle.nearest.proofs.Rounding.{pack}
-use borrow.Author.Rules.{rules}
 use Rattle.nearest.proofs.from_units.Goals as goal
 
 pub float_from_bits-result : goal.float_from_bits-result

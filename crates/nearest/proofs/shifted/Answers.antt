@@ -1,6 +1,5 @@
 -- 53 digits shifted by at most two fit a word.
 use Rattle.nearest.proofs.Digits.{shift_is}
-use borrow.Author.Rules.{rules}
 use Rattle.nearest.proofs.shifted.Goals as goal
 
 pub returns : goal.returns

@@ -1,7 +1,6 @@
 -- By where k lies.
 use borrow.Author.Tests.{lt-ltb, le-ltb, ne_eqb, eq-eqb, le-leb, lt-leb}
 use Rattle.order.specs.Order.{entry_of}
-use borrow.Author.Rules.{rules}
 use Rattle.order.proofs.entry.Goals as goal
 
 pub returns-then-k-p : goal.returns-then-k-p

@@ -1,7 +1,6 @@
 -- Each turn sorts one number more.
 use mathlib.Core.Path.{◌≡◌, sym, ap, ◌∙◌, subst}
-use Prim.Native.Nat.{◌-◌, ◌≤◌}
-use Rattle.order.specs.Order.{order_of, falling_of, falls, Places}
+use Rattle.order.specs.Order.{order_of, falling_of, Places}
 use Rattle.order.proofs.Laws.{order_turn, order_none, order_places}
 use borrow.Author.Rules.{rules}
 use Rattle.order.proofs.falling.Goals as goal

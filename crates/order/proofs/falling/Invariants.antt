@@ -1,8 +1,6 @@
-use mathlib.Core.Path.{◌≡◌, sym, ap, ◌∙◌, subst}
+use mathlib.Core.Path.{◌≡◌}
 use Prim.Native.Nat.{◌-◌, ◌≤◌}
-use Rattle.order.specs.Order.{order_of, falling_of, falls, Places}
-use Rattle.order.proofs.Laws.{order_turn, order_none, order_places}
-use borrow.Author.Rules.{rules}
+use Rattle.order.specs.Order.{order_of, falls}
 use Rattle.order.proofs.falling.Given as goal
 
 abbrev pub invariant-loop-i : goal.invariant-loop-i

@@ -1,10 +1,8 @@
 -- Each turn passes one number that stands before i.
 use borrow.Author.Rules.{rules}
-use mathlib.Core.Path.{◌≡◌, sym, ◌∙◌}
+use mathlib.Core.Path.{sym, ◌∙◌}
 use native.Mathlib.Nat.{sub-zero}
-use Prim.Native.Nat.{◌-◌, ◌≤◌}
-use lib.ListN.{get_or}
-use Rattle.order.specs.Order.{keys_before, falls, first_from, insertion_of}
+use Rattle.order.specs.Order.{insertion_of}
 use Rattle.order.proofs.Laws.{first_go, first_stop, first_end}
 use Rattle.order.proofs.place.Goals as goal
 

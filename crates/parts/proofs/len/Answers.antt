@@ -1,5 +1,4 @@
 -- The loop's invariant: the coefficients from t^n on are zeros.
-use Prim.Native.Nat.{◌≤◌}
 use native.Mathlib.Omega.{arith}
 use lib.Dec.{lit≤}
 use Rattle.parts.proofs.Entries.{coefficient_none, ended, one_zero_more, length_is, length_none}

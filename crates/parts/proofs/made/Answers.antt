@@ -1,6 +1,5 @@
 -- The loop's invariant: the coefficients below t^k are made, and none is too large.
 use mathlib.Core.Path.{sym, ◌∙◌}
-use Prim.Native.Nat.{◌-◌}
 use native.Mathlib.Omega.{arith}
 use Rattle.parts.proofs.Joins.{made_none_yet, made_next, large, all_made}
 use borrow.Author.Rules.{rules}

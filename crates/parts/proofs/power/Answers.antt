@@ -1,6 +1,5 @@
 -- The loop's invariant: i products are made.
 use mathlib.Core.Path.{◌≡◌, ap, ◌∙◌}
-use Prim.Native.Nat.{◌-◌, ◌≤◌}
 use native.Mathlib.Omega.{arith}
 use lib.Dec.{lit≤}
 use Rattle.parts.specs.Value.{power_of}

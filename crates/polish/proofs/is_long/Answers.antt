@@ -1,5 +1,4 @@
 use Rattle.polish.specs.Polish.{is_long_of}
-use borrow.Author.Rules.{rules}
 use Rattle.polish.proofs.is_long.Goals as goal
 
 pub returns-then-abs-gap : goal.returns-then-abs-gap

@@ -1,5 +1,4 @@
 use Rattle.polish.specs.Polish.{is_small_of}
-use borrow.Author.Rules.{rules}
 use Rattle.polish.proofs.is_small.Goals as goal
 
 pub returns : goal.returns

@@ -1,9 +1,7 @@
 -- `polish` is its definition: the turns left, from the present place, lead to the result.
-use mathlib.Core.Path.{◌≡◌, refl, sym, ◌∙◌}
-use Prim.Native.Nat.{◌-◌, ◌≤◌}
-use Rattle.horner.specs.Horner.{value_slope_compensated_of}
+use mathlib.Core.Path.{refl, sym, ◌∙◌}
 use Rattle.polish.specs.Polish.{polish_of}
-use Rattle.polish.proofs.Laws.{turns_from, turns_over, ends_flat, ends_long, ends_still, ends_held, ends_small, goes_on}
+use Rattle.polish.proofs.Laws.{turns_over, ends_flat, ends_long, ends_still, ends_held, ends_small, goes_on}
 use borrow.Author.Rules.{rules}
 use Rattle.polish.proofs.polish.Goals as goal
 

@@ -1,9 +1,8 @@
-use mathlib.Core.Path.{◌≡◌, refl, sym, ◌∙◌}
+use mathlib.Core.Path.{◌≡◌}
 use Prim.Native.Nat.{◌-◌, ◌≤◌}
 use Rattle.horner.specs.Horner.{value_slope_compensated_of}
 use Rattle.polish.specs.Polish.{polish_of}
-use Rattle.polish.proofs.Laws.{turns_from, turns_over, ends_flat, ends_long, ends_still, ends_held, ends_small, goes_on}
-use borrow.Author.Rules.{rules}
+use Rattle.polish.proofs.Laws.{turns_from}
 use Rattle.polish.proofs.polish.Given as goal
 
 abbrev pub invariant-loop-k : goal.invariant-loop-k

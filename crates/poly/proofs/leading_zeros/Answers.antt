@@ -1,10 +1,7 @@
 -- Each turn passes a zero.
-use mathlib.Core.Path.{◌≡◌, sym, ◌∙◌}
-use Prim.Native.Nat.{◌+◌, ◌-◌, ◌≤◌}
+use mathlib.Core.Path.{sym, ◌∙◌}
 use borrow.Author.Rules.{rules}
 use native.Mathlib.Nat.{zero-add}
-use lib.ListN.{length, drop}
-use Rattle.poly.specs.Coefficients.{zeros_of}
 use Rattle.poly.proofs.Coefficients.{zeros_stop, zeros_go, zeros_end}
 use Rattle.poly.proofs.leading_zeros.Goals as goal
 

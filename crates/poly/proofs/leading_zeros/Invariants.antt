@@ -1,10 +1,7 @@
-use mathlib.Core.Path.{◌≡◌, sym, ◌∙◌}
+use mathlib.Core.Path.{◌≡◌}
 use Prim.Native.Nat.{◌+◌, ◌-◌, ◌≤◌}
-use borrow.Author.Rules.{rules}
-use native.Mathlib.Nat.{zero-add}
 use lib.ListN.{length, drop}
 use Rattle.poly.specs.Coefficients.{zeros_of}
-use Rattle.poly.proofs.Coefficients.{zeros_stop, zeros_go, zeros_end}
 use Rattle.poly.proofs.leading_zeros.Given as goal
 
 abbrev pub invariant-loop-i : goal.invariant-loop-i

@@ -1,5 +1,4 @@
 use Rattle.poly.specs.Coefficients.{middle_of}
-use borrow.Author.Rules.{rules}
 use Rattle.poly.proofs.middle.Goals as goal
 
 pub returns : goal.returns

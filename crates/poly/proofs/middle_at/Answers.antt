@@ -1,7 +1,6 @@
 -- By whether place i is in the range.
 use borrow.Author.Tests.{lt-ltb, le-ltb}
 use Rattle.poly.specs.Coefficients.{middle_at}
-use borrow.Author.Rules.{rules}
 use Rattle.poly.proofs.middle_at.Goals as goal
 
 pub returns-then-i-to : goal.returns-then-i-to

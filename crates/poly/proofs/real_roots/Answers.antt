@@ -5,6 +5,7 @@ use Prim.Native.Nat.{◌≤◌}
 use lib.IntN.{ℤ}
 use lib.Ieee.{Float}
 use mir.Facts.{to_z-of_z}
+use mir.Syntax.{w32}
 use Rattle.roots.specs.Roots.{list_of, roots_of}
 use Rattle.roots.specs.Listed.{Within}
 use Rattle.poly.specs.declared.Solved.{Solved}
@@ -28,4 +29,4 @@ returns c =
     with_demand _ _ _
     (answer_is _ _ _ _ c.solve_by-s.ensures.1
     (c.unscaled_all.ensures
-    ∙ ap (λ (z : ℤ). roots_of (unscaled_all z (list_of c.solve_by-s.result.roots))) (to_z-of_z (search rules))))
+    ∙ ap (λ (z : ℤ). roots_of (unscaled_all z (list_of c.solve_by-s.result.roots))) (to_z-of_z {w = w32} (search rules))))

@@ -1,5 +1,4 @@
 -- Zeros all over.
-use borrow.Author.Rules.{rules}
 use Rattle.poly.proofs.refused.Goals as goal
 
 pub returns : goal.returns

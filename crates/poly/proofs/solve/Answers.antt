@@ -1,6 +1,5 @@
 -- Solved with all logarithms.
 use mathlib.Core.Path.{refl}
-use borrow.Author.Rules.{rules}
 use Rattle.poly.proofs.solve.Goals as goal
 
 pub returns : goal.returns

@@ -1,4 +1,3 @@
-use borrow.Author.Rules.{rules}
 use Rattle.poly.proofs.solve_brief.Goals as goal
 
 pub returns : goal.returns

@@ -1,9 +1,7 @@
 -- Each turn drops a zero.
-use mathlib.Core.Path.{◌≡◌, refl, sym, ◌∙◌}
-use Prim.Native.Nat.{◌≤◌}
+use mathlib.Core.Path.{refl, sym, ◌∙◌}
 use borrow.Author.Rules.{rules}
-use lib.ListN.{length}
-use Rattle.poly.specs.Coefficients.{trimmed_from, trimmed_of}
+use Rattle.poly.specs.Coefficients.{trimmed_of}
 use Rattle.poly.proofs.Coefficients.{trim_stop, trim_go, trim_end}
 use Rattle.poly.proofs.trimmed.Goals as goal
 

@@ -1,9 +1,7 @@
-use mathlib.Core.Path.{◌≡◌, refl, sym, ◌∙◌}
+use mathlib.Core.Path.{◌≡◌}
 use Prim.Native.Nat.{◌≤◌}
-use borrow.Author.Rules.{rules}
 use lib.ListN.{length}
 use Rattle.poly.specs.Coefficients.{trimmed_from, trimmed_of}
-use Rattle.poly.proofs.Coefficients.{trim_stop, trim_go, trim_end}
 use Rattle.poly.proofs.trimmed.Given as goal
 
 abbrev pub invariant-loop-n : goal.invariant-loop-n

@@ -3,7 +3,6 @@ use mathlib.Core.Path.{refl}
 use borrow.Author.Tests.{lt-ltb, le-ltb}
 use mir.Facts.{to_z-of_z}
 use Rattle.facts.specs.Cond.{if_taken, if_left}
-use borrow.Author.Rules.{rules}
 use Rattle.poly.proofs.unscaled_at.Goals as goal
 
 pub returns-then-k-s : goal.returns-then-k-s

@@ -2,7 +2,6 @@
 use mathlib.Core.Path.{refl}
 use borrow.Author.Tests.{lt-ltb, le-ltb}
 use Rattle.facts.specs.Cond.{if_taken, if_left}
-use borrow.Author.Rules.{rules}
 use Rattle.poly.proofs.with_lin.Goals as goal
 
 pub returns-then-k-f : goal.returns-then-k-f

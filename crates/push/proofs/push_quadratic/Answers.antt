@@ -1,7 +1,6 @@
 -- `push_quadratic` is its definition: what `push_rooted` gives from the factor's own discriminant.
 use mathlib.Core.Path.{◌∙◌}
 use Rattle.push.proofs.Laws.{same_push}
-use borrow.Author.Rules.{rules}
 use Rattle.push.proofs.push_quadratic.Goals as goal
 
 pub returns : goal.returns

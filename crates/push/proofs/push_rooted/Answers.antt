@@ -1,7 +1,6 @@
 -- `push_rooted` is its definition, by what the factor is.
 use Rattle.push.specs.Quadratic.{push_factor_in, push_rooted_in}
 use Rattle.push.proofs.Laws.{double_is, is_apart, is_complex}
-use borrow.Author.Rules.{rules}
 use Rattle.push.proofs.push_rooted.Goals as goal
 
 pub returns-then-within : goal.returns-then-within

@@ -1,5 +1,4 @@
 use mathlib.Core.Path.{sym, ◌∙◌}
-use borrow.Author.Rules.{rules}
 use Rattle.quartic.specs.Quartic.{ferrari_of}
 use Rattle.quartic.proofs.ferrari.Goals as goal
 

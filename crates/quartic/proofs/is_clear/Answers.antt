@@ -1,5 +1,4 @@
 -- `is_clear` is the test of two parts: the first alone decides where it fails.
-use borrow.Author.Rules.{rules}
 use Rattle.quartic.specs.Quartic.{is_clear_of}
 use Rattle.quartic.proofs.is_clear.Goals as goal
 

@@ -1,5 +1,4 @@
 -- `largest` is its definition: the maximum over a single root, or over three.
-use borrow.Author.Rules.{rules}
 use Rattle.cubic.proofs.Laws.{three}
 use Rattle.quartic.proofs.Laws.{largest_one, largest_three}
 use Rattle.quartic.proofs.largest.Goals as goal

@@ -1,4 +1,3 @@
-use borrow.Author.Rules.{rules}
 use Rattle.quartic.specs.Quartic.{quartic_factor_of}
 use Rattle.quartic.proofs.quartic_factor.Goals as goal
 

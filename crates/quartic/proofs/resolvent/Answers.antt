@@ -1,5 +1,4 @@
 -- `resolvent` is its definition, over what its steps give; the closed form gives one root or three.
-use borrow.Author.Rules.{rules}
 use Rattle.quartic.specs.Quartic.{resolvent_of}
 use Rattle.cubic.proofs.Laws.{counts}
 use Rattle.quartic.proofs.resolvent.Goals as goal

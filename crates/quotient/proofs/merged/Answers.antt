@@ -1,10 +1,9 @@
 -- `quotient::merged` is its definition: the factors left, pushed onto the present ones, give the result.
-use mathlib.Core.Path.{◌≡◌, sym, ◌∙◌}
+use mathlib.Core.Path.{sym, ◌∙◌}
 use native.Mathlib.Nat.{sub-zero}
 use mir.Facts.{to_z-of_z}
 use Rattle.quotient.proofs.Merging.{doubled_fits, merged_is}
-use Rattle.facts.specs.Count.{count_up, up_turn, up_end}
-use Rattle.quotient.specs.Quotient.{back_lin, back_quad}
+use Rattle.facts.specs.Count.{up_turn, up_end}
 use borrow.Author.Rules.{rules}
 use Rattle.quotient.proofs.merged.Goals as goal
 
@@ -23,16 +22,15 @@ overflow_mul-e c =
     doubled_fits _ c.ranges.e c.requires.e_size
 
 pub loop-k-preserved : goal.loop-k-preserved
-loop-k-preserved c =
-    (
-      search rules,
-      rw (
-        c.push_quad-m.ensures,
-        c.ldexp-in-loop-k-2.ensures,
-        c.ldexp-in-loop-k.ensures,
-        to_z-of_z (doubled_fits _ c.ranges.e c.requires.e_size),
-      ) (sym (up_turn _ _ _ _ (search rules)) ∙ c.loop-k.invariant.1),
-    )
+loop-k-preserved c = (
+  search rules,
+  rw (
+    c.push_quad-m.ensures,
+    c.ldexp-in-loop-k-2.ensures,
+    c.ldexp-in-loop-k.ensures,
+    to_z-of_z (doubled_fits _ c.ranges.e c.requires.e_size),
+  ) (sym (up_turn _ _ _ _ (search rules)) ∙ c.loop-k.invariant.1),
+)
 
 pub returns : goal.returns
 returns c =

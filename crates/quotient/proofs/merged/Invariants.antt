@@ -1,13 +1,7 @@
-use mathlib.Core.Path.{◌≡◌, sym, ◌∙◌}
+use mathlib.Core.Path.{◌≡◌}
 use Prim.Native.Nat.{◌-◌, ◌≤◌}
-use native.Mathlib.Nat.{sub-zero}
-use mir.Syntax.{w32}
-use mir.Val.{to_z}
-use mir.Facts.{to_z-of_z}
-use Rattle.quotient.proofs.Merging.{doubled_fits, merged_is}
-use Rattle.facts.specs.Count.{count_up, up_turn, up_end}
+use Rattle.facts.specs.Count.{count_up}
 use Rattle.quotient.specs.Quotient.{back_lin, back_quad}
-use borrow.Author.Rules.{rules}
 use Rattle.quotient.proofs.merged.Given as goal
 
 abbrev pub invariant-loop-i : goal.invariant-loop-i

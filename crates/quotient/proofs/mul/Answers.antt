@@ -1,5 +1,4 @@
 use Rattle.quotient.proofs.InPlace.{mul_is}
-use borrow.Author.Rules.{rules}
 use Rattle.quotient.proofs.mul.Goals as goal
 
 pub returns : goal.returns

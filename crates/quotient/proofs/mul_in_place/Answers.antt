@@ -1,14 +1,11 @@
 -- `quotient::mul_in_place` makes the product: the terms left, on top of the present sum, give a coefficient; the coefficients left, put into the present
 -- array, give the product.
-use mathlib.Core.Path.{◌≡◌, ap, sym, ◌∙◌}
-use Prim.Native.Nat.{◌+◌, ◌-◌, ◌≤◌}
+use mathlib.Core.Path.{ap, sym, ◌∙◌}
 use native.Mathlib.Omega.{arith}
-use lib.ListN.{length}
-use Rattle.facts.specs.Arrays.{from_fn}
 use Rattle.facts.specs.Count.{count_down, down_turn, down_end}
-use Rattle.quotient.specs.Quotient.{product_term_of, next_at}
+use Rattle.quotient.specs.Quotient.{next_at}
 use Rattle.quotient.proofs.Terms.{term_there, none_before, none_after}
-use Rattle.quotient.proofs.InPlace.{put_next, all_placed, next_placed}
+use Rattle.quotient.proofs.InPlace.{all_placed, next_placed}
 use borrow.Author.Rules.{rules}
 use Rattle.quotient.proofs.mul_in_place.Goals as goal
 

@@ -1,13 +1,10 @@
-use mathlib.Core.Path.{◌≡◌, ap, sym, ◌∙◌}
+use mathlib.Core.Path.{◌≡◌}
 use Prim.Native.Nat.{◌+◌, ◌-◌, ◌≤◌}
-use native.Mathlib.Omega.{arith}
 use lib.ListN.{length}
 use Rattle.facts.specs.Arrays.{from_fn}
-use Rattle.facts.specs.Count.{count_down, down_turn, down_end}
+use Rattle.facts.specs.Count.{count_down}
 use Rattle.quotient.specs.Quotient.{product_term_of, next_at}
-use Rattle.quotient.proofs.Terms.{term_there, none_before, none_after}
-use Rattle.quotient.proofs.InPlace.{put_next, all_placed, next_placed}
-use borrow.Author.Rules.{rules}
+use Rattle.quotient.proofs.InPlace.{put_next}
 use Rattle.quotient.proofs.mul_in_place.Given as goal
 
 abbrev pub invariant-loop-j : goal.invariant-loop-j

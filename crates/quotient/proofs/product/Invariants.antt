@@ -1,12 +1,8 @@
-use mathlib.Core.Path.{◌≡◌, refl, ap, sym, ◌∙◌}
+use mathlib.Core.Path.{◌≡◌}
 use Prim.Native.Nat.{◌+◌, ◌-◌, ◌*◌, ◌≤◌}
-use native.Mathlib.Omega.{arith}
-use native.Mathlib.Nat.{sub-zero}
 use lib.ListN.{length}
-use Rattle.facts.specs.Count.{count_up, up_turn, up_end}
-use Rattle.quotient.specs.Quotient.{mul_lin, mul_quad, monic_one, product_of}
-use Rattle.quotient.proofs.InPlace.{mul_is}
-use borrow.Author.Rules.{rules}
+use Rattle.facts.specs.Count.{count_up}
+use Rattle.quotient.specs.Quotient.{mul_lin, mul_quad, monic_one}
 use Rattle.quotient.proofs.product.Given as goal
 
 abbrev pub invariant-loop-i : goal.invariant-loop-i

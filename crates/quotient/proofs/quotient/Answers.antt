@@ -1,10 +1,9 @@
 -- `quotient::quotient` is its definition: the products left, taken off the present number, give what is divided; the coefficients left, found from the
 -- present ones, give the quotient.
-use mathlib.Core.Path.{◌≡◌, sym, ◌∙◌}
-use Prim.Native.Nat.{◌+◌, ◌-◌, ◌≤◌, ◌<◌}
+use mathlib.Core.Path.{sym, ◌∙◌}
 use native.Mathlib.Nat.{sub-zero, add-sub_cancel}
-use Rattle.facts.specs.Count.{count_up, up_turn, up_end}
-use Rattle.quotient.specs.Quotient.{less_at, acc_of, quotient_step, quotient_of}
+use Rattle.facts.specs.Count.{up_turn, up_end}
+use Rattle.quotient.specs.Quotient.{acc_of, quotient_of}
 use borrow.Author.Rules.{rules}
 use Rattle.quotient.proofs.quotient.Goals as goal
 

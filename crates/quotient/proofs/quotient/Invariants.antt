@@ -1,9 +1,7 @@
-use mathlib.Core.Path.{◌≡◌, sym, ◌∙◌}
+use mathlib.Core.Path.{◌≡◌}
 use Prim.Native.Nat.{◌+◌, ◌-◌, ◌≤◌, ◌<◌}
-use native.Mathlib.Nat.{sub-zero, add-sub_cancel}
-use Rattle.facts.specs.Count.{count_up, up_turn, up_end}
-use Rattle.quotient.specs.Quotient.{less_at, acc_of, quotient_step, quotient_of}
-use borrow.Author.Rules.{rules}
+use Rattle.facts.specs.Count.{count_up}
+use Rattle.quotient.specs.Quotient.{less_at, quotient_step, quotient_of}
 use Rattle.quotient.proofs.quotient.Given as goal
 
 abbrev pub invariant-loop-j : goal.invariant-loop-j

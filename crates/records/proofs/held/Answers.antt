@@ -1,7 +1,6 @@
 -- Its test is that of `held_of`.
 use borrow.Author.Tests.{lt-ltb, le-ltb}
 use Rattle.records.specs.Records.{held_of}
-use borrow.Author.Rules.{rules}
 use Rattle.records.proofs.held.Goals as goal
 
 pub returns-then-s-at : goal.returns-then-s-at

@@ -1,7 +1,6 @@
 -- The second byte is looked at where the first is the mark's.
 use borrow.Author.Tests.{eq-eqb, ne_eqb}
 use Rattle.records.specs.Marks.{is_mark}
-use borrow.Author.Rules.{rules}
 use Rattle.records.proofs.is_mark.Goals as goal
 
 pub returns-then-s-at : goal.returns-then-s-at

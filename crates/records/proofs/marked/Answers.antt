@@ -1,7 +1,6 @@
 -- The mark that is compared is the kind's.
-use mathlib.Core.Path.{sym, ◌∙◌}
+use mathlib.Core.Path.{sym}
 use Rattle.records.specs.Marks.{marked_of}
-use borrow.Author.Rules.{rules}
 use Rattle.records.proofs.marked.Goals as goal
 
 pub returns-then-is_mark : goal.returns-then-is_mark

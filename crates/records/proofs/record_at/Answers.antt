@@ -3,7 +3,6 @@ use borrow.Author.Tests.{lt-ltb}
 use mathlib.Core.Path.{◌∙◌}
 use Rattle.records.specs.Records.{record_of, record_at}
 use Rattle.records.proofs.Places.{record_is}
-use borrow.Author.Rules.{rules}
 use Rattle.records.proofs.record_at.Goals as goal
 
 pub returns-then-s-at-lt2 : goal.returns-then-s-at-lt2

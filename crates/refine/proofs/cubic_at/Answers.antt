@@ -1,5 +1,4 @@
 -- `cubic_at` is its definition: the sums of sizes are the magnitudes.
-use Rattle.std.proofs.Common.{rules}
 use Rattle.refine.proofs.cubic_at.Goals as goal
 
 pub returns : goal.returns

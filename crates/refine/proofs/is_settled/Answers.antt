@@ -1,5 +1,4 @@
 use Rattle.refine.specs.Refine.{is_settled_of}
-use Rattle.std.proofs.Common.{rules}
 use Rattle.refine.proofs.is_settled.Goals as goal
 
 pub returns-then-current : goal.returns-then-current

@@ -1,5 +1,4 @@
 -- `jacobian4` is its definition, by the system.
-use Rattle.std.proofs.Common.{rules}
 use Rattle.refine.proofs.jacobian4.Goals as goal
 
 pub returns-in-Quartic : goal.returns-in-Quartic

@@ -1,8 +1,7 @@
 -- `newton_cubic` is its definition: the turns left, from the present place, give the result.
-use Rattle.std.proofs.Common.{◌≡◌, ◌-◌, ◌≤◌, sym, refl, ◌∙◌, rules}
-use Rattle.facts.specs.Turns.{turns_of, turns_stop, turns_go, turns_end}
-use Rattle.horner.specs.Horner.{value_slope_of}
-use Rattle.refine.specs.Newton.{newton_next, newton_cubic_of}
+use Rattle.std.proofs.Common.{sym, refl, ◌∙◌, rules}
+use Rattle.facts.specs.Turns.{turns_stop, turns_go, turns_end}
+use Rattle.refine.specs.Newton.{newton_cubic_of}
 use Rattle.refine.proofs.Laws.{newton_flat, newton_held, newton_moved}
 use Rattle.refine.proofs.newton_cubic.Goals as goal
 

@@ -1,8 +1,7 @@
-use Rattle.std.proofs.Common.{◌≡◌, ◌-◌, ◌≤◌, sym, refl, ◌∙◌, rules}
-use Rattle.facts.specs.Turns.{turns_of, turns_stop, turns_go, turns_end}
+use Rattle.std.proofs.Common.{◌≡◌, ◌-◌, ◌≤◌}
+use Rattle.facts.specs.Turns.{turns_of}
 use Rattle.horner.specs.Horner.{value_slope_of}
 use Rattle.refine.specs.Newton.{newton_next, newton_cubic_of}
-use Rattle.refine.proofs.Laws.{newton_flat, newton_held, newton_moved}
 use Rattle.refine.proofs.newton_cubic.Given as goal
 
 abbrev pub invariant-loop-k : goal.invariant-loop-k

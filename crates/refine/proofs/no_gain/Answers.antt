@@ -1,5 +1,4 @@
 use Rattle.refine.specs.Newton.{no_gain_of}
-use Rattle.std.proofs.Common.{rules}
 use Rattle.refine.proofs.no_gain.Goals as goal
 
 pub returns-then-abs : goal.returns-then-abs

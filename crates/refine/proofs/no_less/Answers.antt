@@ -1,5 +1,4 @@
 use Rattle.refine.specs.Refine.{no_less_of}
-use Rattle.std.proofs.Common.{rules}
 use Rattle.refine.proofs.no_less.Goals as goal
 
 pub returns-then-next-current : goal.returns-then-next-current

@@ -1,9 +1,7 @@
 -- `refine4` is its definition: before each turn, the turns left give the result.
-use Rattle.std.proofs.Common.{◌-◌, rules, ap, not}
+use Rattle.std.proofs.Common.{rules}
 use Rattle.square.proofs.Steps.{no_step4, a_step4}
-use Rattle.refine.specs.Refine.{refine_of}
-use Rattle.refine.specs.Systems.{system_of}
-use Rattle.refine.proofs.Laws.{Turn, known4, first_turn, after_turns, stop_settled, stop_stuck, stop_held, next_turn}
+use Rattle.refine.proofs.Laws.{known4, first_turn, after_turns, stop_settled, stop_stuck, stop_held, next_turn}
 use Rattle.refine.proofs.refine4.Goals as goal
 
 pub loop-k-init : goal.loop-k-init

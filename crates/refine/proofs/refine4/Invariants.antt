@@ -1,8 +1,7 @@
-use Rattle.std.proofs.Common.{◌-◌, rules, ap, not}
-use Rattle.square.proofs.Steps.{no_step4, a_step4}
+use Rattle.std.proofs.Common.{◌-◌}
 use Rattle.refine.specs.Refine.{refine_of}
 use Rattle.refine.specs.Systems.{system_of}
-use Rattle.refine.proofs.Laws.{Turn, known4, first_turn, after_turns, stop_settled, stop_stuck, stop_held, next_turn}
+use Rattle.refine.proofs.Laws.{Turn}
 use Rattle.refine.proofs.refine4.Given as goal
 
 abbrev pub invariant-loop-k : goal.invariant-loop-k

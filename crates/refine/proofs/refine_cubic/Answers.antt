@@ -1,9 +1,7 @@
 -- `refine_cubic` is its definition: before each turn, the turns left give the result.
-use Rattle.std.proofs.Common.{◌-◌, rules, ap, not}
+use Rattle.std.proofs.Common.{rules}
 use Rattle.square.proofs.Steps.{no_step3, a_step3}
-use Rattle.refine.specs.Refine.{refine_of}
-use Rattle.refine.specs.Systems.{cubic_system}
-use Rattle.refine.proofs.Laws.{Turn, known3, first_turn, after_turns, stop_settled, stop_stuck, stop_held, next_turn}
+use Rattle.refine.proofs.Laws.{known3, first_turn, after_turns, stop_settled, stop_stuck, stop_held, next_turn}
 use Rattle.refine.proofs.refine_cubic.Goals as goal
 
 pub loop-k-init : goal.loop-k-init

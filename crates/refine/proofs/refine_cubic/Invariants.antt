@@ -1,8 +1,7 @@
-use Rattle.std.proofs.Common.{◌-◌, rules, ap, not}
-use Rattle.square.proofs.Steps.{no_step3, a_step3}
+use Rattle.std.proofs.Common.{◌-◌}
 use Rattle.refine.specs.Refine.{refine_of}
 use Rattle.refine.specs.Systems.{cubic_system}
-use Rattle.refine.proofs.Laws.{Turn, known3, first_turn, after_turns, stop_settled, stop_stuck, stop_held, next_turn}
+use Rattle.refine.proofs.Laws.{Turn}
 use Rattle.refine.proofs.refine_cubic.Given as goal
 
 abbrev pub invariant-loop-k : goal.invariant-loop-k

@@ -1,4 +1,3 @@
-use Rattle.std.proofs.Common.{rules}
 use Rattle.refine.proofs.size2.Goals as goal
 
 pub returns : goal.returns

@@ -1,4 +1,3 @@
-use Rattle.std.proofs.Common.{rules}
 use Rattle.refine.proofs.size4.Goals as goal
 
 pub returns : goal.returns

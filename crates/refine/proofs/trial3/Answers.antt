@@ -1,5 +1,5 @@
 -- `trial3` is its definition, by what elimination gave.
-use Rattle.std.proofs.Common.{sym, ap, ◌∙◌, rules, not}
+use Rattle.std.proofs.Common.{sym, ap, ◌∙◌, not}
 use Rattle.square.specs.Step.{step3}
 use Rattle.square.proofs.Steps.{no_step3, a_step3}
 use Rattle.refine.proofs.Laws.{trial_none, trial_far, trial_there}

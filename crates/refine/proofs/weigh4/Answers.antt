@@ -1,7 +1,6 @@
 -- `weigh4` is its definition: each residual over its magnitude, and the norm of the four.
 use Rattle.refine.specs.Refine.{weighted_of, norm_of}
 use Rattle.refine.specs.Weighed.{weigh4_of}
-use Rattle.std.proofs.Common.{rules}
 use Rattle.refine.proofs.weigh4.Goals as goal
 
 pub returns : goal.returns

@@ -1,9 +1,9 @@
 -- `weigh_row` is its definition: the places left, done to the present row, give the result.
-use Rattle.std.proofs.Common.{◌≡◌, ◌-◌, length, sym, refl, ◌∙◌, rules}
+use Rattle.std.proofs.Common.{sym, refl, ◌∙◌, rules}
 use native.Mathlib.Nat.{sub-zero}
-use Rattle.facts.specs.Count.{count_up, up_turn, up_end}
+use Rattle.facts.specs.Count.{up_turn, up_end}
 use Rattle.facts.specs.Cond.{if_taken, if_left}
-use Rattle.refine.specs.Refine.{weigh_row_step, weigh_row_of}
+use Rattle.refine.specs.Refine.{weigh_row_of}
 use Rattle.refine.proofs.weigh_row.Goals as goal
 
 pub loop-i-init : goal.loop-i-init

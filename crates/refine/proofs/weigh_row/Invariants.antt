@@ -1,8 +1,6 @@
-use Rattle.std.proofs.Common.{◌≡◌, ◌-◌, length, sym, refl, ◌∙◌, rules}
-use native.Mathlib.Nat.{sub-zero}
-use Rattle.facts.specs.Count.{count_up, up_turn, up_end}
-use Rattle.facts.specs.Cond.{if_taken, if_left}
-use Rattle.refine.specs.Refine.{weigh_row_step, weigh_row_of}
+use Rattle.std.proofs.Common.{◌≡◌, ◌-◌, length}
+use Rattle.facts.specs.Count.{count_up}
+use Rattle.refine.specs.Refine.{weigh_row_step}
 use Rattle.refine.proofs.weigh_row.Given as goal
 
 abbrev pub invariant-loop-i : goal.invariant-loop-i

@@ -1,7 +1,6 @@
 -- `weigh_rows3` is its definition: each row is weighed in turn.
 use Rattle.facts.specs.Count.{count_up}
 use Rattle.refine.specs.Refine.{weigh_rows_of}
-use Rattle.std.proofs.Common.{rules}
 use Rattle.refine.proofs.weigh_rows3.Goals as goal
 
 pub returns : goal.returns

@@ -3,7 +3,6 @@ use mir.Facts.{to_z-of_z}
 use borrow.Author.Tests.{le-leb, lt-leb}
 use Rattle.scaled.proofs.Signed.{read}
 use Rattle.scaled.specs.Scaled.{coefficient_of}
-use borrow.Author.Rules.{rules}
 use Rattle.scaled.proofs.coefficient.Goals as goal
 
 pub returns-then-i-d : goal.returns-then-i-d

@@ -1,6 +1,5 @@
 use mir.Facts.{to_z-of_z}
 use Rattle.scaled.proofs.Built.{coefficients_are}
-use borrow.Author.Rules.{rules}
 use Rattle.scaled.proofs.coefficients.Goals as goal
 
 pub returns : goal.returns

@@ -1,6 +1,5 @@
 use mir.Facts.{to_z-of_z}
 use Rattle.scaled.proofs.Built.{no_logs, logs_are}
-use borrow.Author.Rules.{rules}
 use Rattle.scaled.proofs.log_sizes.Goals as goal
 
 pub returns-then-d-lt3 : goal.returns-then-d-lt3

@@ -1,5 +1,4 @@
 use Rattle.scaled.specs.Scaled.{monic_of}
-use borrow.Author.Rules.{rules}
 use Rattle.scaled.proofs.monic.Goals as goal
 
 pub returns : goal.returns

@@ -1,7 +1,6 @@
 -- By the place and the degree.
 use borrow.Author.Tests.{lt-ltb, le-ltb, eq-eqb, ne_eqb}
 use Rattle.scaled.specs.Scaled.{monic_at}
-use borrow.Author.Rules.{rules}
 use Rattle.scaled.proofs.monic_at.Goals as goal
 
 pub returns-then-i-d : goal.returns-then-i-d

@@ -2,7 +2,6 @@
 use native.Mathlib.Omega.{arith}
 use Rattle.decode.proofs.Class.{decoded_normal}
 use Rattle.scaled.proofs.Needed.{reach_none, reach_same, reach_more}
-use borrow.Author.Rules.{rules}
 use Rattle.scaled.proofs.reach.Goals as goal
 
 pub returns-then-n-eq0 : goal.returns-then-n-eq0

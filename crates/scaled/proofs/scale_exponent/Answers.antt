@@ -1,12 +1,11 @@
 -- The loop's invariant: k is the smallest that holds the first i coefficients.
 use mathlib.Core.Path.{◌∙◌}
-use Prim.Native.Nat.{◌-◌, ◌≤◌}
 use native.Mathlib.Omega.{arith}
 use lib.IntN.{pos}
 use borrow.Author.Rules.{rules}
 use Rattle.decode.proofs.Class.{decoded_irregular, decoded_regular, decoded_normal}
 use Rattle.scaled.proofs.Signed.{small_fits, less}
-use Rattle.scaled.proofs.Best.{Best, best_none, best_raised, best_kept, exponent_irregular, exponent_none, exponent_some}
+use Rattle.scaled.proofs.Best.{best_none, best_raised, best_kept, exponent_irregular, exponent_none, exponent_some}
 use Rattle.scaled.proofs.scale_exponent.Goals.{then-k-r, else-k-r}
 use Rattle.scaled.proofs.scale_exponent.Goals as goal
 
@@ -27,8 +26,8 @@ loop-i-preserved c =
     let h = c.loop-i.invariant.1 in (
       search rules,
       elim c.if-k-r.branch [
-      | then-k-r w ↦ best_raised _ _ _ _ _ _ _ n.value c.reach-r.ensures h _ w.k-is w.if-k-r.true
-      | else-k-r w ↦ best_kept _ _ _ _ _ _ _ n.value c.reach-r.ensures h _ w.k-is w.if-k-r.false
+        | then-k-r w ↦ best_raised _ _ _ _ _ _ _ n.value c.reach-r.ensures h _ w.k-is w.if-k-r.true
+        | else-k-r w ↦ best_kept _ _ _ _ _ _ _ n.value c.reach-r.ensures h _ w.k-is w.if-k-r.false
       ],
     )
 

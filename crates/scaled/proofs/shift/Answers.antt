@@ -1,5 +1,4 @@
 -- Small numbers, computed in an i32.
-use borrow.Author.Rules.{rules}
 use Rattle.scaled.specs.Scaled.{shift_of}
 use Rattle.scaled.proofs.Signed.{product, difference}
 use Rattle.scaled.proofs.shift.Goals as goal

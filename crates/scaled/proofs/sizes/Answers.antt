@@ -1,5 +1,4 @@
 use Rattle.scaled.specs.Scaled.{sizes_of}
-use borrow.Author.Rules.{rules}
 use Rattle.scaled.proofs.sizes.Goals as goal
 
 pub returns : goal.returns

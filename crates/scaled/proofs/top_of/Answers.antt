@@ -5,7 +5,6 @@ use Prim.Native.Nat.{◌≤◌, ◌^◌}
 use lib.IntN.{ℤ, nat_abs}
 use lib.Ieee.{Float, binary64, fits}
 use Rattle.decode.specs.Exponent.{exponent_of}
-use borrow.Author.Rules.{rules}
 use Rattle.scaled.specs.Scaled.{top_of}
 use Rattle.scaled.proofs.Signed.{product, sum, sum_is}
 use Rattle.scaled.proofs.Digits.{exponent_small}

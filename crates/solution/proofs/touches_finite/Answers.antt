@@ -1,6 +1,5 @@
 -- The reply decides where the vertex is finite.
 use mathlib.Core.Path.{sym, ◌∙◌}
-use borrow.Author.Rules.{rules}
 use Rattle.solution.proofs.touches_finite.Goals as goal
 
 pub returns-then-is_finite : goal.returns-then-is_finite

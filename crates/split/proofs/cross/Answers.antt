@@ -1,5 +1,4 @@
 use Rattle.split.specs.Hull.{cross_of}
-use borrow.Author.Rules.{rules}
 use Rattle.split.proofs.cross.Goals as goal
 
 pub returns : goal.returns

@@ -1,7 +1,6 @@
 -- By whether x is a NaN.
 use mathlib.Core.Path.{sym, ◌∙◌}
 use Rattle.split.specs.Gap.{exp2_of}
-use borrow.Author.Rules.{rules}
 use Rattle.split.proofs.exp2.Goals as goal
 
 pub returns-then-is_nan : goal.returns-then-is_nan

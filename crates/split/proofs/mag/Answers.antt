@@ -1,5 +1,4 @@
 use Rattle.split.specs.Hull.{mag_of}
-use borrow.Author.Rules.{rules}
 use Rattle.split.proofs.mag.Goals as goal
 
 pub returns : goal.returns

@@ -1,8 +1,7 @@
 -- The loop's invariant: the gaps among the first k points give the whole answer.
 use mathlib.Core.Path.{◌∙◌}
 use native.Mathlib.Omega.{arith}
-use borrow.Author.Rules.{rules}
-use Rattle.split.proofs.Gaps.{Seeking, seek_start, seek_edge, seek_next, gap_found, gap_next, gap_end}
+use Rattle.split.proofs.Gaps.{seek_start, seek_edge, seek_next, gap_found, gap_next, gap_end}
 use Rattle.split.proofs.magnitude_split.Goals as goal
 
 pub loop-k-init : goal.loop-k-init

@@ -1,12 +1,6 @@
-use mathlib.Core.Path.{◌≡◌, refl, sym, ap, ◌∙◌}
+use mathlib.Core.Path.{◌≡◌}
 use Prim.Native.Nat.{◌≤◌}
-use native.Mathlib.Omega.{arith}
-use lib.Ieee.{Float, le}
-use borrow.Author.Rules.{rules}
-use Rattle.float.specs.Literals.{zero64}
 use Rattle.split.specs.Hull.{popped_of}
-use Rattle.split.proofs.Dropped.{pop_go, pop_stop, pop_end}
-use Rattle.split.proofs.Rises.{last_two}
 use Rattle.split.proofs.popped.Given as goal
 
 abbrev pub invariant-loop-k : goal.invariant-loop-k

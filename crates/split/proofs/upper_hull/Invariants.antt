@@ -1,11 +1,7 @@
-use mathlib.Core.Path.{◌≡◌, sym, ◌∙◌}
-use mathlib.Core.Logic.{⊎_elim}
+use mathlib.Core.Path.{◌≡◌}
 use Prim.Native.Nat.{◌≤◌, ◌-◌, ◌+◌}
-use native.Mathlib.Nat.{sub-zero}
-use borrow.Author.Rules.{rules}
-use Rattle.facts.specs.Count.{count_up, up_end}
+use Rattle.facts.specs.Count.{count_up}
 use Rattle.split.specs.Hull.{hull_at, hull_step, hull_of, Rising}
-use Rattle.split.proofs.Rises.{none_rising, step_in, step_out, turned}
 use Rattle.split.proofs.upper_hull.Given as goal
 
 abbrev pub invariant-loop-i : goal.invariant-loop-i

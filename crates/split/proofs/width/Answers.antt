@@ -3,7 +3,6 @@ use Prim.Native.Nat.{ℕ, ◌-◌}
 use native.Mathlib.Omega.{arith}
 use lib.IntN.{pos}
 use lib.Ieee.{Float, binary64, of_bits, of_int}
-use borrow.Author.Rules.{rules}
 use Rattle.split.proofs.width.Goals as goal
 
 at : (k : ℕ) {n : ℕ} {x : Float} → x ≡ of_int binary64 (pos k) → n ≡ k → x ≡ of_int binary64 (pos n)

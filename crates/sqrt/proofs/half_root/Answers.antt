@@ -1,5 +1,5 @@
 -- The tests of the two middles say so, or the search.
-use Rattle.std.proofs.Common.{sym, ◌∙◌, arith, rules, ap, not}
+use Rattle.std.proofs.Common.{sym, ◌∙◌, arith, ap, not}
 use borrow.Author.Tests.{not-true}
 use Rattle.nearest.proofs.Digits.{at_least_not_nan}
 use Rattle.nearest.proofs.ByTest.{half_of_floor, floor_bounds}

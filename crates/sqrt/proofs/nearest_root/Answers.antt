@@ -1,5 +1,5 @@
 -- The rest says so, or the search.
-use Rattle.std.proofs.Common.{ℕ, ◌*◌, ◌^◌, refl, subst, arith, rules}
+use Rattle.std.proofs.Common.{ℕ, ◌*◌, ◌^◌, refl, subst, arith}
 use Rattle.nearest.specs.Greatest.{Floor, NearestHalf}
 use Rattle.nearest.proofs.Powers.{from_floor}
 use Rattle.sqrt.specs.Root.{square_le}

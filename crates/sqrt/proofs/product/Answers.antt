@@ -1,4 +1,4 @@
-use Rattle.std.proofs.Common.{arith, rules}
+use Rattle.std.proofs.Common.{arith}
 use Rattle.wide.proofs.Halves.{below}
 use Rattle.sqrt.proofs.product.Goals as goal
 

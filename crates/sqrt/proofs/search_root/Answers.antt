@@ -1,7 +1,6 @@
 -- It is the search of `nearest` by the test of squares.
 use Rattle.std.proofs.Common.{◌+◌, ◌*◌, ◌^◌, sym, ◌∙◌, arith, le-leb}
-use Rattle.nearest.proofs.Search.{Halving, begin, turn, end}
-use Rattle.sqrt.specs.Root.{square_le}
+use Rattle.nearest.proofs.Search.{begin, turn, end}
 use Rattle.sqrt.proofs.Squares.{top_word}
 use Rattle.sqrt.proofs.search_root.Goals as goal
 

@@ -1,7 +1,6 @@
-use Rattle.std.proofs.Common.{◌+◌, ◌*◌, ◌^◌, sym, ◌∙◌, arith, le-leb}
-use Rattle.nearest.proofs.Search.{Halving, begin, turn, end}
+use Rattle.std.proofs.Common.{◌+◌, ◌*◌, ◌^◌}
+use Rattle.nearest.proofs.Search.{Halving}
 use Rattle.sqrt.specs.Root.{square_le}
-use Rattle.sqrt.proofs.Squares.{top_word}
 use Rattle.sqrt.proofs.search_root.Given as goal
 
 abbrev pub invariant-loop-k : goal.invariant-loop-k

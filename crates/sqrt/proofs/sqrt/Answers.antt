@@ -1,4 +1,4 @@
-use Rattle.std.proofs.Common.{sym, refl, ◌∙◌, arith, rules}
+use Rattle.std.proofs.Common.{sym, refl, ◌∙◌, arith}
 use lib.Ieee.{of_bits, div}
 use Rattle.decode.proofs.Class.{decoded_irregular, decoded_regular, decoded_normal}
 use Rattle.nearest.proofs.Powers.{half_digits}

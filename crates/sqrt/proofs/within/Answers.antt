@@ -1,5 +1,5 @@
 -- The two words of the square are compared.
-use Rattle.std.proofs.Common.{ℕ, ◌+◌, ◌*◌, ◌^◌, leb, ap, ◌∙◌, rules}
+use Rattle.std.proofs.Common.{ℕ, ◌+◌, ◌*◌, ◌^◌, leb, ap, ◌∙◌}
 use Rattle.sqrt.proofs.within.Goals as goal
 
 pub returns : goal.returns

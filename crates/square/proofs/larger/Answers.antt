@@ -1,6 +1,5 @@
 -- `larger` is its definition: the sizes compared are those that `abs` gives.
 use Rattle.square.specs.Square.{larger_of}
-use borrow.Author.Rules.{rules}
 use Rattle.square.proofs.larger.Goals as goal
 
 pub returns-then-abs : goal.returns-then-abs

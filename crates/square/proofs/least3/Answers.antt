@@ -1,7 +1,6 @@
 -- `least3` is its definition: each row's sizes are added in turn.
 use Rattle.facts.specs.Count.{count_up}
 use Rattle.square.specs.Square.{scale_of, least_pivot_of}
-use borrow.Author.Rules.{rules}
 use Rattle.square.proofs.least3.Goals as goal
 
 pub returns : goal.returns

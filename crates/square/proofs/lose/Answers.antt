@@ -1,9 +1,7 @@
 -- `lose` is its definition: the places left, done to the present row, give the result.
-use mathlib.Core.Path.{◌≡◌, refl, sym, ◌∙◌}
-use Prim.Native.Nat.{◌-◌}
-use lib.ListN.{length}
-use Rattle.facts.specs.Count.{count_up, up_turn, up_end}
-use Rattle.square.specs.Square.{lose_step, lose_of}
+use mathlib.Core.Path.{refl, sym, ◌∙◌}
+use Rattle.facts.specs.Count.{up_turn, up_end}
+use Rattle.square.specs.Square.{lose_of}
 use borrow.Author.Rules.{rules}
 use Rattle.square.proofs.lose.Goals as goal
 

@@ -1,9 +1,7 @@
-use mathlib.Core.Path.{◌≡◌, refl, sym, ◌∙◌}
+use mathlib.Core.Path.{◌≡◌}
 use Prim.Native.Nat.{◌-◌, ◌≤◌, ◌<◌}
-use Rattle.facts.specs.Count.{count_up, up_turn, up_end}
+use Rattle.facts.specs.Count.{count_up}
 use Rattle.square.specs.Square.{pivot_step, pivot_of}
-use Rattle.square.proofs.Laws.{larger_below}
-use borrow.Author.Rules.{rules}
 use Rattle.square.proofs.pivot3.Given as goal
 
 abbrev pub invariant-loop-row : goal.invariant-loop-row

@@ -1,8 +1,7 @@
 -- `pivot4` is its definition: the rows left, from the present pivot, give the pivot.
-use mathlib.Core.Path.{◌≡◌, refl, sym, ◌∙◌}
-use Prim.Native.Nat.{◌-◌, ◌≤◌, ◌<◌}
-use Rattle.facts.specs.Count.{count_up, up_turn, up_end}
-use Rattle.square.specs.Square.{pivot_step, pivot_of}
+use mathlib.Core.Path.{refl, sym, ◌∙◌}
+use Rattle.facts.specs.Count.{up_turn, up_end}
+use Rattle.square.specs.Square.{pivot_of}
 use Rattle.square.proofs.Laws.{larger_below}
 use borrow.Author.Rules.{rules}
 use Rattle.square.proofs.pivot4.Goals as goal

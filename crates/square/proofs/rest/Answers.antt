@@ -1,9 +1,7 @@
 -- `rest` is its definition: the terms left, taken from the present value, give the result.
-use mathlib.Core.Path.{◌≡◌, refl, sym, ◌∙◌}
-use Prim.Native.Nat.{◌-◌}
-use lib.ListN.{length}
-use Rattle.facts.specs.Count.{count_up, up_turn, up_end}
-use Rattle.square.specs.Square.{remainder_step, remainder_of}
+use mathlib.Core.Path.{refl, sym, ◌∙◌}
+use Rattle.facts.specs.Count.{up_turn, up_end}
+use Rattle.square.specs.Square.{remainder_of}
 use borrow.Author.Rules.{rules}
 use Rattle.square.proofs.rest.Goals as goal
 

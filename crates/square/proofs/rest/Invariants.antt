@@ -1,9 +1,8 @@
-use mathlib.Core.Path.{◌≡◌, refl, sym, ◌∙◌}
+use mathlib.Core.Path.{◌≡◌}
 use Prim.Native.Nat.{◌-◌}
 use lib.ListN.{length}
-use Rattle.facts.specs.Count.{count_up, up_turn, up_end}
+use Rattle.facts.specs.Count.{count_up}
 use Rattle.square.specs.Square.{remainder_step, remainder_of}
-use borrow.Author.Rules.{rules}
 use Rattle.square.proofs.rest.Given as goal
 
 abbrev pub invariant-loop-k : goal.invariant-loop-k

@@ -1,10 +1,8 @@
 -- `sizes` is its definition: the numbers left, added to the present sum, give the result.
-use mathlib.Core.Path.{◌≡◌, sym, ◌∙◌}
-use Prim.Native.Nat.{◌-◌, ◌≤◌}
+use mathlib.Core.Path.{sym, ◌∙◌}
 use native.Mathlib.Nat.{sub-zero}
-use lib.ListN.{length}
-use Rattle.facts.specs.Count.{count_up, up_turn, up_end}
-use Rattle.square.specs.Square.{size_sum_step, size_sum_of}
+use Rattle.facts.specs.Count.{up_turn, up_end}
+use Rattle.square.specs.Square.{size_sum_of}
 use borrow.Author.Rules.{rules}
 use Rattle.square.proofs.sizes.Goals as goal
 

@@ -1,10 +1,8 @@
-use mathlib.Core.Path.{◌≡◌, sym, ◌∙◌}
+use mathlib.Core.Path.{◌≡◌}
 use Prim.Native.Nat.{◌-◌, ◌≤◌}
-use native.Mathlib.Nat.{sub-zero}
 use lib.ListN.{length}
-use Rattle.facts.specs.Count.{count_up, up_turn, up_end}
+use Rattle.facts.specs.Count.{count_up}
 use Rattle.square.specs.Square.{size_sum_step, size_sum_of}
-use borrow.Author.Rules.{rules}
 use Rattle.square.proofs.sizes.Given as goal
 
 abbrev pub invariant-loop-i : goal.invariant-loop-i

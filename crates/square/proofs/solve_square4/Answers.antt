@@ -1,10 +1,8 @@
 -- `solve_square4` is its definition: the columns left, from the present system, give the answer, and in a column the rows left, from the present system,
 -- give the column's.
-use mathlib.Core.Path.{◌≡◌, refl, ap, sym, ◌∙◌}
-use Prim.Native.Nat.{◌-◌, ◌≤◌}
-use lib.ListN.{length}
-use Rattle.facts.specs.Count.{count_up, up_turn, up_end}
-use Rattle.square.specs.Square.{lines, reduce_step, reduce_of, solve_from, solve_square_of}
+use mathlib.Core.Path.{refl, ap, sym, ◌∙◌}
+use Rattle.facts.specs.Count.{up_turn, up_end}
+use Rattle.square.specs.Square.{reduce_step, reduce_of, solve_square_of}
 use Rattle.square.specs.Step.{step4}
 use Rattle.square.proofs.Laws.{swap_is, up_row, solve_stop, solve_go, solve_end}
 use borrow.Author.Rules.{rules}

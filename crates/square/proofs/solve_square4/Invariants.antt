@@ -1,11 +1,8 @@
-use mathlib.Core.Path.{◌≡◌, refl, ap, sym, ◌∙◌}
+use mathlib.Core.Path.{◌≡◌}
 use Prim.Native.Nat.{◌-◌, ◌≤◌}
 use lib.ListN.{length}
-use Rattle.facts.specs.Count.{count_up, up_turn, up_end}
+use Rattle.facts.specs.Count.{count_up}
 use Rattle.square.specs.Square.{lines, reduce_step, reduce_of, solve_from, solve_square_of}
-use Rattle.square.specs.Step.{step4}
-use Rattle.square.proofs.Laws.{swap_is, up_row, solve_stop, solve_go, solve_end}
-use borrow.Author.Rules.{rules}
 use Rattle.square.proofs.solve_square4.Given as goal
 
 abbrev pub invariant-loop-row : goal.invariant-loop-row

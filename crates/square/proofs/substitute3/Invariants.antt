@@ -1,9 +1,8 @@
-use mathlib.Core.Path.{◌≡◌, refl, sym, ◌∙◌}
+use mathlib.Core.Path.{◌≡◌}
 use Prim.Native.Nat.{◌≤◌}
 use lib.ListN.{length}
-use Rattle.facts.specs.Count.{count_down, down_turn, down_end}
+use Rattle.facts.specs.Count.{count_down}
 use Rattle.square.specs.Square.{lines, substitute_step, substitute_of}
-use borrow.Author.Rules.{rules}
 use Rattle.square.proofs.substitute3.Given as goal
 
 abbrev pub invariant-loop-row : goal.invariant-loop-row

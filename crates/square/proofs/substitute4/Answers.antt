@@ -1,9 +1,7 @@
 -- `substitute4` is its definition: the rows left, from the present unknowns, give the result.
-use mathlib.Core.Path.{◌≡◌, refl, sym, ◌∙◌}
-use Prim.Native.Nat.{◌≤◌}
-use lib.ListN.{length}
-use Rattle.facts.specs.Count.{count_down, down_turn, down_end}
-use Rattle.square.specs.Square.{lines, substitute_step, substitute_of}
+use mathlib.Core.Path.{refl, sym, ◌∙◌}
+use Rattle.facts.specs.Count.{down_turn, down_end}
+use Rattle.square.specs.Square.{substitute_step, substitute_of}
 use borrow.Author.Rules.{rules}
 use Rattle.square.proofs.substitute4.Goals as goal
 

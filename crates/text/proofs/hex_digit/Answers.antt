@@ -1,5 +1,4 @@
 -- The test is that of `hex_digit`.
-use borrow.Author.Rules.{rules}
 use borrow.Author.Tests.{lt-ltb, le-ltb}
 use Rattle.text.specs.Digits.{hex_digit}
 use Rattle.text.proofs.hex_digit.Goals as goal

@@ -1,5 +1,4 @@
 -- A number k below zero is -(n + 1), and `-1 - k` is n.
-use borrow.Author.Rules.{rules}
 use native.Mathlib.Omega.{arith}
 use native.Mathlib.Numerals.{add-one}
 use mathlib.Core.Path.{◌≡◌, sym, ap, ◌∙◌, subst}

@@ -1,5 +1,4 @@
 use Rattle.trig_quartic.proofs.Samples.{not_finite, made, quartic_not_finite}
-use borrow.Author.Rules.{rules}
 use Rattle.trig_quartic.proofs.crank_front.Goals as goal
 
 pub returns-then-all_finite-2 : goal.returns-then-all_finite-2

@@ -1,5 +1,4 @@
 use Rattle.trig_quartic.specs.Crank.{quartic_of}
-use borrow.Author.Rules.{rules}
 use Rattle.trig_quartic.proofs.quartic.Goals as goal
 
 pub returns : goal.returns

@@ -1,8 +1,6 @@
 -- The samples that are left, taken from (k, largest), give the k that all give.
-use mathlib.Core.Path.{◌≡◌, sym, ◌∙◌}
-use Rattle.trig_quartic.proofs.Samples.{chosen, first_sample, next_sample, last_sample}
-use Prim.Native.Nat.{◌<◌, ◌≤◌, ◌-◌}
-use Rattle.trig_quartic.specs.Crank.{sample_of}
+use mathlib.Core.Path.{sym, ◌∙◌}
+use Rattle.trig_quartic.proofs.Samples.{first_sample, next_sample, last_sample}
 use borrow.Author.Rules.{rules}
 use Rattle.trig_quartic.proofs.sample.Goals as goal
 use Rattle.trig_quartic.proofs.sample.Goals.{then-total_le, else-total_le}
@@ -14,13 +12,13 @@ pub loop-j-preserved : goal.loop-j-preserved
 loop-j-preserved c =
     let before = c.loop-j.invariant.2 in
     elim c.if-total_le.branch [
-      then-total_le w ↦ (
+      | then-total_le w ↦ (
         search rules,
         search rules,
         rw (w.k-is, w.largest-is) (next_sample _ _ _ _ _ _ _ _ (search rules) c.f_at-in-loop-j.ensures c.abs-v.ensures c.total_le.ensures
             w.if-total_le.true ∙ before),
       )
-    | else-total_le w ↦ (
+      | else-total_le w ↦ (
         search rules,
         search rules,
         rw (w.k-is, w.largest-is) (next_sample _ _ _ _ _ _ _ _ (search rules) c.f_at-in-loop-j.ensures c.abs-v.ensures c.total_le.ensures

@@ -1,9 +1,7 @@
-use mathlib.Core.Path.{◌≡◌, sym, ◌∙◌}
-use Rattle.trig_quartic.proofs.Samples.{chosen, first_sample, next_sample, last_sample}
-use mathlib.Core.Logic.{⊎_elim}
+use mathlib.Core.Path.{◌≡◌}
+use Rattle.trig_quartic.proofs.Samples.{chosen}
 use Prim.Native.Nat.{◌<◌, ◌≤◌, ◌-◌}
 use Rattle.trig_quartic.specs.Crank.{sample_of}
-use borrow.Author.Rules.{rules}
 use Rattle.trig_quartic.proofs.sample.Given as goal
 
 abbrev pub invariant-loop-j : goal.invariant-loop-j

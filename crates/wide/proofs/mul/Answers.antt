@@ -1,5 +1,5 @@
 -- The columns of the product.
-use Rattle.std.proofs.Common.{ℕ, ◌+◌, ◌*◌, ◌/◌, ◌%◌, ◌^◌, ◌≤◌, sym, ap, ◌∙◌, arith, w64, Fits, rules}
+use Rattle.std.proofs.Common.{ℕ, ◌+◌, ◌*◌, ◌/◌, ◌%◌, ◌^◌, ◌≤◌, sym, ap, ◌∙◌, arith, w64, Fits}
 use Rattle.wide.proofs.Halves.{below, product, columns}
 use Rattle.wide.proofs.mul.Goals as goal
 

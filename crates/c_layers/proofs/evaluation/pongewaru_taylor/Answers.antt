@@ -1,7 +1,6 @@
 -- All the numbers of the answer, or none.
 use Rattle.lent_bytes.proofs.Five.{accepted}
 use Rattle.lent_bytes.proofs.Whole.{lacking, held}
-use borrow.Author.Rules.{rules}
 use Rattle.c_layers.proofs.evaluation.pongewaru_taylor.Goals as goal
 
 pub returns-then-lacks_five : goal.returns-then-lacks_five

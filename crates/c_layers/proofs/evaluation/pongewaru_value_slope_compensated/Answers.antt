@@ -3,7 +3,6 @@ use mathlib.Core.Path.{ap}
 use Rattle.c_layers.specs.Numbers.{slope_numbers}
 use Rattle.lent_bytes.proofs.Five.{accepted}
 use Rattle.lent_bytes.proofs.Whole.{lacking, held}
-use borrow.Author.Rules.{rules}
 use Rattle.c_layers.proofs.evaluation.pongewaru_value_slope_compensated.Goals as goal
 
 pub returns-then-lacks_five : goal.returns-then-lacks_five

@@ -1,7 +1,6 @@
 -- It tells the variants apart.
 use lib.Ieee.{of_bits, div}
 use Rattle.c_layers.specs.Numbers.{lone_numbers}
-use borrow.Author.Rules.{rules}
 use Rattle.c_layers.proofs.factoring.lone_numbers.Goals as goal
 
 pub returns-in-At : goal.returns-in-At

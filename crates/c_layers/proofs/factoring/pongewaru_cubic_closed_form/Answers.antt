@@ -11,7 +11,6 @@ use Rattle.float.proofs.Whole.{whole_exact}
 use Rattle.cubic.specs.declared.CubicRoots.{CubicRoots}
 use Rattle.cubic.specs.Cubic.{one_root_of, three_roots_of, depressed_roots_of, cubic_closed_form_of}
 use Rattle.lent_bytes.proofs.Whole.{stored_as}
-use borrow.Author.Rules.{rules}
 use Rattle.c_layers.proofs.factoring.pongewaru_cubic_closed_form.Goals as goal
 
 depressed_few : (shift p q disc : Float) → (depressed_roots_of shift p q disc).n ≤ 3

@@ -2,7 +2,6 @@
 use mathlib.Core.Path.{ap}
 use Rattle.c_layers.specs.Numbers.{quartic_numbers}
 use Rattle.lent_bytes.proofs.Whole.{stored_as}
-use borrow.Author.Rules.{rules}
 use Rattle.c_layers.proofs.factoring.pongewaru_quartic_factor.Goals as goal
 
 pub returns : goal.returns

@@ -1,5 +1,4 @@
 -- Number by number.
-use borrow.Author.Rules.{rules}
 use native.Mathlib.Omega.{arith}
 use mathlib.Core.Path.{refl}
 use Rattle.float.proofs.Whole.{whole_exact}

@@ -1,6 +1,5 @@
 -- All the numbers of the answer, or none.
 use Rattle.c_layers.specs.Numbers.{factor_numbers}
-use borrow.Author.Rules.{rules}
 use mathlib.Core.Path.{◌≡◌, subst⁻¹, ap, ◌∙◌}
 use mathlib.Core.List.{List}
 use Prim.Native.Nat.{ℕ, ◌-◌, ◌≤◌}

@@ -5,7 +5,6 @@ use Rattle.split.specs.Gap.{Inside, magnitude_split_of}
 use Rattle.split.proofs.Gaps.{split_inside, inside_up}
 use Rattle.lent_bytes.proofs.Five.{accepted}
 use Rattle.lent_bytes.proofs.Whole.{lacking, held}
-use borrow.Author.Rules.{rules}
 use Rattle.c_layers.proofs.scaling.pongewaru_magnitude_split.Goals as goal
 
 pub returns-then-lacks_five : goal.returns-then-lacks_five

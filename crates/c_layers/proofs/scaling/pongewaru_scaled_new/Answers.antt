@@ -6,7 +6,6 @@ use Rattle.scaled.specs.declared.Scaled.{Scaled}
 use Rattle.scaled.specs.Scaled.{scaled_of}
 use Rattle.lent_bytes.proofs.Five.{accepted}
 use Rattle.lent_bytes.proofs.Whole.{lacking, held}
-use borrow.Author.Rules.{rules}
 use Rattle.c_layers.proofs.scaling.pongewaru_scaled_new.Goals as goal
 
 pub returns-then-lacks_five : goal.returns-then-lacks_five

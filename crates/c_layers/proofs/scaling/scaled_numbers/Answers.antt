@@ -4,7 +4,6 @@ use mir.Syntax.{w32}
 use mir.Facts.{to_z-of_z}
 use Rattle.float.proofs.Whole.{whole_exact}
 use Rattle.c_layers.specs.Numbers.{scaled_numbers}
-use borrow.Author.Rules.{rules}
 use Rattle.c_layers.proofs.scaling.scaled_numbers.Goals as goal
 
 pub int_to_float-result : goal.int_to_float-result

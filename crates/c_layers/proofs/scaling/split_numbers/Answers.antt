@@ -1,12 +1,9 @@
 -- It tells the variants apart.
 use mathlib.Core.Path.{subst}
-use Prim.Native.Nat.{◌<◌}
 use native.Mathlib.Omega.{arith}
-use lib.Ieee.{of_bits}
 use Rattle.float.proofs.Whole.{whole_exact}
 use Rattle.split.specs.Gap.{Inside}
 use Rattle.c_layers.specs.Numbers.{split_numbers}
-use borrow.Author.Rules.{rules}
 use Rattle.c_layers.proofs.scaling.split_numbers.Goals as goal
 
 pub int_to_float-result : goal.int_to_float-result

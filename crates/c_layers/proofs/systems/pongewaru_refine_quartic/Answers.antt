@@ -2,7 +2,6 @@
 use mathlib.Core.Path.{refl, sym}
 use borrow.Author.Tests.{lt-ltb, le-ltb}
 use Rattle.lent_bytes.proofs.Whole.{lacking, held}
-use borrow.Author.Rules.{rules}
 use Rattle.c_layers.proofs.systems.pongewaru_refine_quartic.Goals as goal
 
 pub returns-then-x-lt32 : goal.returns-then-x-lt32

@@ -1,4 +1,3 @@
-use borrow.Author.Rules.{rules}
 use mathlib.Core.Path.{◌∙◌}
 use lib.Ieee.{of_bits, div}
 use Rattle.lent_bytes.proofs.Numbers.{beyond, within}

@@ -1,6 +1,5 @@
 -- `ask` is its definition: what the quartic's inquiry shows, and k.
 use Rattle.crank.specs.Crank.{crank_asked_of}
-use borrow.Author.Rules.{rules}
 use Rattle.crank.proofs.CrankInquiry.ask.Goals as goal
 
 pub returns : goal.returns

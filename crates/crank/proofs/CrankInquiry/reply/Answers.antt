@@ -1,6 +1,5 @@
 -- `reply` is its definition: what the quartic's inquiry replies, and k.
 use Rattle.crank.specs.Crank.{crank_replied_of}
-use borrow.Author.Rules.{rules}
 use Rattle.crank.proofs.CrankInquiry.reply.Goals as goal
 
 pub returns : goal.returns

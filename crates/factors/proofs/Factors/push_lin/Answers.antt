@@ -1,6 +1,5 @@
 use borrow.Author.Tests.{lt-ltb, le-ltb}
 use Rattle.factors.specs.Factors.{push_lin_of}
-use borrow.Author.Rules.{rules}
 use Rattle.factors.proofs.Factors.push_lin.Goals as goal
 
 pub returns-then-at-lt4 : goal.returns-then-at-lt4

@@ -1,6 +1,5 @@
 use borrow.Author.Tests.{lt-ltb, le-ltb}
 use Rattle.factors.specs.Factors.{push_quad_of}
-use borrow.Author.Rules.{rules}
 use Rattle.factors.proofs.Factors.push_quad.Goals as goal
 
 pub returns-then-at-lt2 : goal.returns-then-at-lt2

@@ -7,7 +7,6 @@ use Rattle.inquiry.specs.declared.Asked.{Asked}
 use Rattle.inquiry.specs.declared.Seen.{Seen}
 use Rattle.inquiry.specs.Inquiry.{asked_of}
 use Rattle.inquiry.proofs.Shown.{asked_seen, shown_within}
-use borrow.Author.Rules.{rules}
 use Rattle.inquiry.proofs.Inquiry.ask.Goals as goal
 
 with_demand : (q : Inquiry) (r : Asked) → r ≡ asked_of q → (r ≡ asked_of q) × Within 4 (list_of r.list)

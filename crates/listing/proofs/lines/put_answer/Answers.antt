@@ -5,7 +5,6 @@ use Rattle.records.specs.declared.Kind.{Kind}
 use Rattle.records.specs.Records.{Whole}
 use Rattle.listing.proofs.Asked.{polynomial_prints, quadratic_prints, crank_prints, contact_prints, formula_prints}
 use Rattle.listing.proofs.Asked.{polynomial_text_is, quadratic_text_is, crank_text_is, contact_text, formula_text, unknown_text}
-use borrow.Author.Rules.{rules}
 use Rattle.listing.proofs.lines.put_answer.Goals as goal
 
 pub polynomial_at-requires : goal.polynomial_at-requires

@@ -4,7 +4,6 @@ use Rattle.text.proofs.Laws.{written_then, written_as}
 use Rattle.text.proofs.Digits.{decimal_length}
 use Rattle.listing.specs.Lines.{crank_text}
 use Rattle.listing.proofs.Texts.{answered, refusal}
-use borrow.Author.Rules.{rules}
 use Rattle.listing.proofs.lines.put_crank.Goals as goal
 
 pub returns-then-a-ne0 : goal.returns-then-a-ne0

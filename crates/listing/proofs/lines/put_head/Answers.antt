@@ -2,7 +2,6 @@
 use native.Mathlib.Omega.{arith}
 use Rattle.text.proofs.Laws.{written_then, written_as}
 use Rattle.listing.specs.Lines.{head_of}
-use borrow.Author.Rules.{rules}
 use Rattle.listing.proofs.lines.put_head.Goals as goal
 
 pub put_decimal-blank-requires : goal.put_decimal-blank-requires

@@ -3,7 +3,6 @@ use mathlib.Core.Path.{ap}
 use mathlib.Core.List.{[], ◌∷◌}
 use Prim.Native.Nat.{ℕ}
 use Rattle.text.proofs.Laws.{written_then, written_as}
-use borrow.Author.Rules.{rules}
 use Rattle.listing.proofs.lines.put_kind.Goals as goal
 
 pub returns : goal.returns

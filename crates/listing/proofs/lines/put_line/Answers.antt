@@ -5,7 +5,6 @@ use Rattle.text.proofs.Digits.{decimal_length}
 use Rattle.listing.specs.Lines.{line_of}
 use Rattle.listing.proofs.Texts.{head_length}
 use Rattle.listing.proofs.Asked.{words_length}
-use borrow.Author.Rules.{rules}
 use Rattle.listing.proofs.lines.put_line.Goals as goal
 
 pub put_head-words-requires : goal.put_head-words-requires

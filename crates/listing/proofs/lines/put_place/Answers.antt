@@ -3,7 +3,6 @@ use mathlib.Core.Path.{ap}
 use Rattle.text.specs.Digits.{hex_digits}
 use Rattle.text.proofs.Laws.{written_then, written_as}
 use Rattle.listing.specs.Lines.{place_text}
-use borrow.Author.Rules.{rules}
 use Rattle.listing.proofs.lines.put_place.Goals as goal
 
 pub returns : goal.returns

@@ -2,7 +2,6 @@
 use Rattle.text.proofs.Laws.{written_as}
 use Rattle.listing.specs.Lines.{quadratic_text}
 use Rattle.listing.proofs.Texts.{answered, refusal}
-use borrow.Author.Rules.{rules}
 use Rattle.listing.proofs.lines.put_quadratic.Goals as goal
 
 pub returns-then-a-ne0 : goal.returns-then-a-ne0

@@ -3,7 +3,6 @@ use native.Mathlib.Omega.{arith}
 use Rattle.text.proofs.Laws.{written_then}
 use Rattle.text.proofs.Digits.{decimal_length}
 use Rattle.listing.specs.Lines.{refused_text}
-use borrow.Author.Rules.{rules}
 use Rattle.listing.proofs.lines.put_refused.Goals as goal
 
 pub put_decimal-requires : goal.put_decimal-requires

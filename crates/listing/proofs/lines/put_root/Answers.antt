@@ -4,7 +4,6 @@ use Rattle.text.proofs.Laws.{written_then}
 use Rattle.text.proofs.Digits.{decimal_length}
 use Rattle.listing.specs.Lines.{root_text}
 use Rattle.listing.proofs.Texts.{place_length}
-use borrow.Author.Rules.{rules}
 use Rattle.listing.proofs.lines.put_root.Goals as goal
 
 pub put_byte-digits-requires : goal.put_byte-digits-requires

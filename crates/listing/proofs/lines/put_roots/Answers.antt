@@ -2,9 +2,8 @@
 use native.Mathlib.Omega.{arith}
 use mathlib.Core.Path.{◌≡◌, ap, ◌∙◌}
 use mathlib.Core.List.{flat_map}
-use Prim.Native.Nat.{ℕ, ◌+◌, ◌*◌, ◌-◌, ◌<◌, ◌≤◌}
+use Prim.Native.Nat.{ℕ, ◌<◌}
 use lib.ListN.{length, take, get_or}
-use Rattle.text.specs.Written.{Written}
 use Rattle.text.proofs.Laws.{written_then, written_as, written_length, flat_none, written_flat}
 use Rattle.roots.specs.Listed.{blank}
 use Rattle.listing.specs.Lines.{root_text, roots_text}
@@ -28,11 +27,10 @@ bounds-root-i c =
     omega (arith, c.requires.1.fits.1)
 
 pub put_root-next-requires : goal.put_root-next-requires
-put_root-next-requires c =
-    (
-      omega (arith, count_length c.args.roots c.requires.1, c.requires.1.fits.1),
-      each_short c.args.roots c.loop-i.i c.requires.1 c.loop-i-test.true,
-    )
+put_root-next-requires c = (
+  omega (arith, count_length c.args.roots c.requires.1, c.requires.1.fits.1),
+  each_short c.args.roots c.loop-i.i c.requires.1 c.loop-i-test.true,
+)
 
 pub overflow_add-i : goal.overflow_add-i
 overflow_add-i c = omega arith

@@ -4,7 +4,6 @@ use mathlib.Core.Path.{sym, ap}
 use Rattle.text.proofs.Laws.{written_then, written_as}
 use Rattle.listing.specs.Lines.{solution_text}
 use Rattle.listing.proofs.Texts.{place_length}
-use borrow.Author.Rules.{rules}
 use Rattle.listing.proofs.lines.put_solution.Goals as goal
 
 pub put_place-requires : goal.put_place-requires

@@ -2,7 +2,6 @@
 use Rattle.text.proofs.Laws.{written_as}
 use Rattle.listing.specs.Lines.{words_of}
 use Rattle.listing.proofs.Texts.{answered, refusal}
-use borrow.Author.Rules.{rules}
 use Rattle.listing.proofs.lines.put_words.Goals as goal
 
 pub returns-then-found-ne0 : goal.returns-then-found-ne0

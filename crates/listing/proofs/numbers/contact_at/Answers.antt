@@ -1,6 +1,5 @@
 -- The ten numbers go to the solver in their order.
 use Rattle.listing.specs.Answers.{contact_at}
-use borrow.Author.Rules.{rules}
 use Rattle.listing.proofs.numbers.contact_at.Goals as goal
 
 pub returns : goal.returns

@@ -1,6 +1,5 @@
 -- The six numbers go to the solver in their order.
 use Rattle.listing.specs.Answers.{crank_at}
-use borrow.Author.Rules.{rules}
 use Rattle.listing.proofs.numbers.crank_at.Goals as goal
 
 pub returns : goal.returns

@@ -7,7 +7,6 @@ use lib.Ieee.{Float}
 use Rattle.formula_roots.specs.FormulaRoots.{formula_roots_of}
 use Rattle.records.specs.Records.{count_at}
 use Rattle.listing.specs.Answers.{formula_at}
-use borrow.Author.Rules.{rules}
 use Rattle.listing.proofs.numbers.formula_at.Goals as goal
 
 pub returns : goal.returns

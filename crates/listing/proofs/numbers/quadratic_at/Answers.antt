@@ -1,6 +1,5 @@
 -- The five numbers go to the solver in its order.
 use Rattle.listing.specs.Answers.{quadratic_at}
-use borrow.Author.Rules.{rules}
 use Rattle.listing.proofs.numbers.quadratic_at.Goals as goal
 
 pub returns : goal.returns

@@ -1,5 +1,4 @@
 -- All the numbers of the answer, or the refusal.
-use borrow.Author.Rules.{rules}
 use mathlib.Core.Path.{subst⁻¹, ap, ◌∙◌}
 use Rattle.roots.specs.Listed.{Fits}
 use Rattle.poly.specs.declared.Answer.{Answer}

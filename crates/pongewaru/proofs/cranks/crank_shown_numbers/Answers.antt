@@ -1,4 +1,3 @@
-use borrow.Author.Rules.{rules}
 use Rattle.pongewaru.proofs.Crank.{crank_is}
 use Rattle.pongewaru.proofs.cranks.crank_shown_numbers.Goals as goal
 

@@ -2,7 +2,6 @@
 use mathlib.Core.Path.{◌∙◌}
 use Rattle.lent_bytes.proofs.Whole.{answered_as}
 use Rattle.pongewaru.proofs.Once.{crank_fits, crank_number, crank_numbers_are}
-use borrow.Author.Rules.{rules}
 use Rattle.pongewaru.proofs.cranks.pongewaru_crank_inquire.Goals as goal
 
 pub crank_shown_numbers-requires : goal.crank_shown_numbers-requires

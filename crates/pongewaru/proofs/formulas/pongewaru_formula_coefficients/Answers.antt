@@ -1,5 +1,4 @@
 -- The test says which case of the definition holds.
-use borrow.Author.Rules.{rules}
 use native.Mathlib.Omega.{arith}
 use lib.Dec.{lit≤}
 use mathlib.Core.Path.{ap}

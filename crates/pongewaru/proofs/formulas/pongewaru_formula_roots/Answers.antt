@@ -1,5 +1,4 @@
 -- The test says which case of the definition holds.
-use borrow.Author.Rules.{rules}
 use lib.Dec.{lit≤}
 use mathlib.Core.Path.{subst⁻¹, ap, ◌∙◌}
 use Rattle.roots.specs.Listed.{Fits}

@@ -1,13 +1,12 @@
 -- `first_replies` is its definition: what is left of the first four, added to those that are there, gives the whole. As many are there as were passed.
-use borrow.Author.Rules.{rules}
 use native.Mathlib.Omega.{arith}
-use mathlib.Core.Path.{◌≡◌, refl, sym, ap, ◌∙◌}
-use Prim.Native.Nat.{ℕ, ◌+◌, ◌≤◌, ◌<◌, ◌-◌}
-use lib.ListN.{length, take, drop, length-take}
+use mathlib.Core.Path.{refl, sym, ap, ◌∙◌}
+use Prim.Native.Nat.{ℕ, ◌+◌, ◌<◌}
+use lib.ListN.{take, length-take}
 use lib.Seq.{get_or-take}
 use Rattle.touching.specs.declared.Replies.{Replies}
 use Rattle.touching.specs.Replies.{replied_by}
-use Rattle.pongewaru.specs.Inquiries.{each_reply, first_replies}
+use Rattle.pongewaru.specs.Inquiries.{first_replies}
 use Rattle.pongewaru.proofs.Feeding.{fed_next, fed_end}
 use Rattle.pongewaru.proofs.inquiries.first_replies.Goals as goal
 
@@ -27,7 +26,7 @@ loop-i-preserved c =
     let below : i < 4 = c.loop-i-test.true in
     let more = fed_next replied_by (take 4 rs) i c.loop-i.first (omega (arith, length-take 4 rs, c.if-replies-i.false)) in
     let count = ap (λ (s : Replies). s.count) c.with-first.ensures in
-    (omega arith, count ∙ ap (λ (k : ℕ). k + 1) c.loop-i.invariant.1, rw c.with-first.ensures (sym (rw get_or-take c⟪At-loop⟫ more) ∙ c.loop-i.invariant.2))
+    (omega arith, count ∙ ap (λ (k : ℕ). k + 1) c.loop-i.invariant.1, rw c.with-first.ensures (sym (rw get_or-take at more) ∙ c.loop-i.invariant.2))
 
 pub returns : goal.returns
 returns c =

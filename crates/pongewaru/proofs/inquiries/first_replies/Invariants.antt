@@ -1,13 +1,8 @@
-use borrow.Author.Rules.{rules}
-use native.Mathlib.Omega.{arith}
-use mathlib.Core.Path.{◌≡◌, refl, sym, ap, ◌∙◌}
-use Prim.Native.Nat.{ℕ, ◌+◌, ◌≤◌, ◌<◌, ◌-◌}
-use lib.ListN.{length, take, drop, length-take}
-use lib.Seq.{get_or-take}
-use Rattle.touching.specs.declared.Replies.{Replies}
+use mathlib.Core.Path.{◌≡◌}
+use Prim.Native.Nat.{◌≤◌, ◌-◌}
+use lib.ListN.{take, drop}
 use Rattle.touching.specs.Replies.{replied_by}
 use Rattle.pongewaru.specs.Inquiries.{each_reply, first_replies}
-use Rattle.pongewaru.proofs.Feeding.{fed_next, fed_end}
 use Rattle.pongewaru.proofs.inquiries.first_replies.Given as goal
 
 abbrev pub invariant-loop-i : goal.invariant-loop-i

@@ -1,6 +1,5 @@
 -- The test says which case of the definition holds, and the replies put in at once show what they show one by one.
 use mathlib.Core.Path.{◌∙◌}
-use borrow.Author.Rules.{rules}
 use lib.Dec.{lit≤}
 use Rattle.pongewaru.specs.Inquiries.{start_at}
 use Rattle.pongewaru.proofs.Listing.{refused_first, answered_then}

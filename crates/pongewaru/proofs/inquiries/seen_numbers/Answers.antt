@@ -1,4 +1,3 @@
-use borrow.Author.Rules.{rules}
 use Rattle.pongewaru.proofs.inquiries.seen_numbers.Goals as goal
 
 pub returns : goal.returns

@@ -1,5 +1,4 @@
 -- Number by number.
-use borrow.Author.Rules.{rules}
 use Rattle.pongewaru.proofs.Feeding.{shown_is}
 use Rattle.pongewaru.proofs.inquiries.shown_numbers.Goals as goal
 

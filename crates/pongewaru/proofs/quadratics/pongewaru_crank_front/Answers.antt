@@ -7,7 +7,6 @@ use Rattle.trig_quartic.specs.declared.Crank.{Crank}
 use Rattle.float.proofs.Whole.{whole_exact}
 use Rattle.crank.proofs.Front.{front_below}
 use Rattle.lent_bytes.proofs.Whole.{answered_as}
-use borrow.Author.Rules.{rules}
 use Rattle.pongewaru.proofs.quadratics.pongewaru_crank_front.Goals as goal
 
 pub int_to_float-x : goal.int_to_float-x

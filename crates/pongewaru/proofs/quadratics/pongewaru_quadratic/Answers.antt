@@ -3,7 +3,6 @@ use mathlib.Core.Path.{ap, ◌∙◌}
 use Rattle.equation.specs.declared.QuadraticAnswer.{QuadraticAnswer}
 use Rattle.pongewaru.specs.Quadratics.{solution_numbers}
 use Rattle.lent_bytes.proofs.Whole.{answered_as}
-use borrow.Author.Rules.{rules}
 use Rattle.pongewaru.proofs.quadratics.pongewaru_quadratic.Goals as goal
 
 pub returns : goal.returns

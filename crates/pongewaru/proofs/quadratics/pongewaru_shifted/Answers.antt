@@ -2,7 +2,6 @@
 use mathlib.Core.Path.{ap, ◌∙◌}
 use Rattle.pongewaru.specs.Quadratics.{solution_numbers}
 use Rattle.lent_bytes.proofs.Whole.{stored_as}
-use borrow.Author.Rules.{rules}
 use Rattle.pongewaru.proofs.quadratics.pongewaru_shifted.Goals as goal
 
 pub returns : goal.returns

@@ -1,7 +1,6 @@
 use lib.Ieee.{of_bits, div, of_int}
 use Rattle.solution.specs.Solution.{number_of, values_of}
 use Rattle.pongewaru.specs.Quadratics.{solution_numbers}
-use borrow.Author.Rules.{rules}
 use Rattle.pongewaru.proofs.quadratics.solution_numbers.Goals as goal
 
 pub returns-in-Two : goal.returns-in-Two

@@ -1,5 +1,4 @@
 use mathlib.Core.Path.{ap}
-use borrow.Author.Rules.{rules}
 use Rattle.roots.specs.declared.RootKind.{RootKind}
 use Rattle.roots.proofs.RealRoot.by.Goals as goal
 

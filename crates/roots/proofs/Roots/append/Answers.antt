@@ -1,7 +1,6 @@
 use native.Mathlib.Omega.{arith}
 use borrow.Author.Tests.{lt-ltb, le-ltb}
 use Rattle.roots.specs.Roots.{pushed_of}
-use borrow.Author.Rules.{rules}
 use Rattle.roots.proofs.Roots.append.Goals as goal
 
 pub returns-then-at-lt4 : goal.returns-then-at-lt4

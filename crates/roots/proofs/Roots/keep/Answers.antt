@@ -1,4 +1,3 @@
-use borrow.Author.Rules.{rules}
 use Rattle.roots.proofs.Roots.keep.Goals as goal
 
 pub returns : goal.returns

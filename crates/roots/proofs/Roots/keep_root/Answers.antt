@@ -2,7 +2,6 @@
 use mathlib.Core.Path.{sym, ◌∙◌}
 use Rattle.facts.specs.Cond.{if_taken}
 use Rattle.roots.specs.Roots.{kept_in}
-use borrow.Author.Rules.{rules}
 use Rattle.roots.proofs.Roots.keep_root.Goals as goal
 
 pub returns-then-is_finite : goal.returns-then-is_finite

@@ -1,7 +1,6 @@
 -- With all its logarithms.
 use mathlib.Core.Path.{◌∙◌, refl}
 use Rattle.scaled.specs.Scaled.{scaled_of, with_logs_of}
-use borrow.Author.Rules.{rules}
 use Rattle.scaled.proofs.Scaled.new.Goals as goal
 
 pub returns : goal.returns

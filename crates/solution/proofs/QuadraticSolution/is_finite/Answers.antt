@@ -1,6 +1,5 @@
 use Rattle.solution.specs.Solution.{values_of}
 use Rattle.float.proofs.Finite.{one_finite}
-use borrow.Author.Rules.{rules}
 use Rattle.solution.proofs.QuadraticSolution.is_finite.Goals as goal
 
 pub returns-in-Two : goal.returns-in-Two

@@ -1,5 +1,4 @@
 use Rattle.solution.specs.Solution.{shifted_of}
-use borrow.Author.Rules.{rules}
 use Rattle.solution.proofs.QuadraticSolution.shifted.Goals as goal
 
 pub returns-in-Two : goal.returns-in-Two

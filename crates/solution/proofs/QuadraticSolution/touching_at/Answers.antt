@@ -1,7 +1,6 @@
 -- By its cases, and by whether the vertex counts.
 use mathlib.Core.Path.{sym, ◌∙◌}
 use Rattle.solution.specs.Solution.{touching_at_of}
-use borrow.Author.Rules.{rules}
 use Rattle.solution.proofs.QuadraticSolution.touching_at.Goals as goal
 
 pub returns-then-met : goal.returns-then-met

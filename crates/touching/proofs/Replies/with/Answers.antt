@@ -1,6 +1,5 @@
 -- `Replies::with` is its definition: one reply is stored, and one counted.
 use mathlib.Core.Path.{refl}
-use borrow.Author.Rules.{rules}
 use Rattle.touching.proofs.Replies.with.Goals as goal
 
 pub returns : goal.returns

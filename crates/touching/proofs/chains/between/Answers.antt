@@ -1,4 +1,3 @@
-
 use Rattle.touching.proofs.chains.between.Goals as goal
 
 pub returns-then-lo-y : goal.returns-then-lo-y

@@ -1,15 +1,10 @@
 -- The items left, from where the walk is, give the whole walk.
 use borrow.Author.Rules.{rules}
-use mathlib.Core.Path.{◌≡◌, refl, sym, ◌∙◌}
-use mathlib.Core.List.{[]}
-use Prim.Native.Nat.{◌+◌, ◌*◌, ◌-◌, ◌≤◌}
+use mathlib.Core.Path.{refl, sym, ◌∙◌}
 use native.Mathlib.Omega.{arith}
-use lib.ListN.{drop}
-use Rattle.roots.specs.Roots.{list_of}
-use Rattle.roots.specs.Listed.{multiplicities, Fits}
-use Rattle.asking.specs.Asking.{walked, onward, each}
-use Rattle.touching.specs.Touching.{no_chain, item_turn}
-use Rattle.touching.specs.Walk.{left_of, links_at, RepliesFit, Tidy, at_hand}
+use Rattle.asking.specs.Asking.{onward}
+use Rattle.touching.specs.Touching.{item_turn}
+use Rattle.touching.specs.Walk.{links_at}
 use Rattle.touching.proofs.Steps.{chains_turn, chains_end, sum_turn}
 use Rattle.touching.proofs.chains.chains.Goals as goal
 

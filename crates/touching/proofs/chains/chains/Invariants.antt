@@ -1,15 +1,12 @@
-use borrow.Author.Rules.{rules}
-use mathlib.Core.Path.{◌≡◌, refl, sym, ◌∙◌}
+use mathlib.Core.Path.{◌≡◌}
 use mathlib.Core.List.{[]}
 use Prim.Native.Nat.{◌+◌, ◌*◌, ◌-◌, ◌≤◌}
-use native.Mathlib.Omega.{arith}
 use lib.ListN.{drop}
 use Rattle.roots.specs.Roots.{list_of}
 use Rattle.roots.specs.Listed.{multiplicities, Fits}
 use Rattle.asking.specs.Asking.{walked, onward, each}
 use Rattle.touching.specs.Touching.{no_chain, item_turn}
 use Rattle.touching.specs.Walk.{left_of, links_at, RepliesFit, Tidy, at_hand}
-use Rattle.touching.proofs.Steps.{chains_turn, chains_end, sum_turn}
 use Rattle.touching.proofs.chains.chains.Given as goal
 
 abbrev pub invariant-loop-k : goal.invariant-loop-k

@@ -2,7 +2,6 @@
 use mir.Facts.{to_z-of_z}
 use mathlib.Core.Path.{sym, ◌∙◌}
 use native.Mathlib.Omega.{arith}
-use borrow.Author.Rules.{rules}
 use Rattle.touching.proofs.Lists.{tidy_more}
 use Rattle.touching.proofs.Steps.{emit_none, emit_lost, emit_root}
 use Rattle.touching.proofs.chains.emit.Goals as goal
@@ -23,10 +22,9 @@ returns-then-is_finite c =
     )
 
 pub returns : goal.returns
-returns c =
-    (
-      emit_lost _ _ _ _ _ c.if-c-eq0.false c.contact-y.ensures
-          (rw (to_z-of_z c.ranges.e) at c.ldexp-x.ensures) (sym c.is_finite.ensures ∙ c.if-is_finite.false),
-      c.requires.0,
-      omega arith,
-    )
+returns c = (
+  emit_lost _ _ _ _ _ c.if-c-eq0.false c.contact-y.ensures
+      (rw (to_z-of_z c.ranges.e) at c.ldexp-x.ensures) (sym c.is_finite.ensures ∙ c.if-is_finite.false),
+  c.requires.0,
+  omega arith,
+)

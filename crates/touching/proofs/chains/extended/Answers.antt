@@ -1,6 +1,5 @@
 -- `extended` is its definition: the sums are small.
 use native.Mathlib.Omega.{arith}
-use borrow.Author.Rules.{rules}
 use Rattle.touching.proofs.chains.extended.Goals as goal
 
 pub overflow_add-result : goal.overflow_add-result

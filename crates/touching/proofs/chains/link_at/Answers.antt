@@ -3,7 +3,6 @@ use mir.Facts.{to_z-of_z}
 use mathlib.Core.Path.{sym, ◌∙◌}
 use native.Mathlib.Omega.{arith}
 use Rattle.touching.proofs.Steps.{double_most, link_outside, link_asks, link_yes, link_no}
-use borrow.Author.Rules.{rules}
 use Rattle.touching.proofs.chains.link_at.Goals as goal
 
 pub returns-then-h : goal.returns-then-h

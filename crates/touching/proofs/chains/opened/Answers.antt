@@ -1,4 +1,3 @@
-use borrow.Author.Rules.{rules}
 use Rattle.touching.proofs.chains.opened.Goals as goal
 
 pub returns : goal.returns

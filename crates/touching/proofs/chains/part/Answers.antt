@@ -1,6 +1,5 @@
 use mir.Facts.{to_z-of_z}
 use native.Mathlib.Omega.{arith}
-use borrow.Author.Rules.{rules}
 use Rattle.touching.proofs.Steps.{double_most}
 use Rattle.touching.proofs.chains.part.Goals as goal
 

@@ -1,11 +1,9 @@
-use mathlib.Core.Path.{◌≡◌, refl, sym, ◌∙◌}
+use mathlib.Core.Path.{◌≡◌}
 use Prim.Native.Nat.{◌-◌, ◌≤◌}
 use lib.ListN.{drop}
-use borrow.Author.Rules.{rules}
 use Rattle.roots.specs.Roots.{list_of}
 use Rattle.roots.specs.Listed.{Fits}
 use Rattle.touching.specs.Touching.{all_apart}
-use Rattle.touching.proofs.Steps.{apart_stop, apart_go, apart_end}
 use Rattle.touching.proofs.items.all_apart.Given as goal
 
 abbrev pub invariant-loop-k : goal.invariant-loop-k

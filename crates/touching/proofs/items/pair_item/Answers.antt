@@ -1,4 +1,3 @@
-use borrow.Author.Rules.{rules}
 use Rattle.touching.proofs.items.pair_item.Goals as goal
 
 pub returns-then-yes : goal.returns-then-yes

@@ -5,7 +5,6 @@ use Rattle.touching.specs.Touching.{pair_turn}
 use Rattle.touching.specs.Replies.{replies_of}
 use Rattle.touching.proofs.Lists.{pairs_none, pairs_one, pairs_two}
 use Rattle.touching.proofs.Steps.{order_none, order_one, order_kept, order_turned}
-use borrow.Author.Rules.{rules}
 use Rattle.touching.proofs.items.pairs.Goals as goal
 
 pub returns-then-ps-eq0 : goal.returns-then-ps-eq0

@@ -1,11 +1,9 @@
-use mathlib.Core.Path.{◌≡◌, refl, sym, ◌∙◌}
+use mathlib.Core.Path.{◌≡◌}
 use Prim.Native.Nat.{◌-◌, ◌≤◌}
 use lib.ListN.{drop}
-use borrow.Author.Rules.{rules}
 use Rattle.roots.specs.Roots.{list_of}
 use Rattle.roots.specs.Listed.{Fits}
 use Rattle.touching.specs.Touching.{reach_of}
-use Rattle.touching.proofs.Steps.{reach_turn, reach_end}
 use Rattle.touching.proofs.items.reach.Given as goal
 
 abbrev pub invariant-loop-k : goal.invariant-loop-k

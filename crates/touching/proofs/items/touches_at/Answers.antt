@@ -1,7 +1,6 @@
 -- A place that is not finite, a reply, or a question.
 use mir.Facts.{to_z-of_z}
 use mathlib.Core.Path.{sym, ◌∙◌}
-use borrow.Author.Rules.{rules}
 use Rattle.touching.proofs.Lists.{reply_cons, reply_nil}
 use Rattle.touching.proofs.Steps.{touch_none, touch_reply, touch_ask}
 use Rattle.touching.proofs.items.touches_at.Goals as goal
