@@ -1,7 +1,7 @@
 /* A lane controller's use of Pongewaru: the roots of a list, an inquiry answered in a loop, a pin contact, a crank, a quadratic, a formula, a hall
  * file, and what is refused. In the repository's folder
  *
- *     rt staticlib pongewaru
+ *     .ci/run
  *     gcc -Wall -Werror -Iinclude examples/lane.c target/staticlib/libpongewaru.a -lm -o target/lane && target/lane
  *
  * prints what stands in lane.txt.

@@ -60,7 +60,7 @@ fn link_archives(here: &Path) {
         let path = archive.display();
         println!("cargo::rerun-if-changed={path}");
         if !archive.exists() {
-            let how = format!("run `rt staticlib {name}`, or name its folder in EXPORTS");
+            let how = "run `.ci/run`, or name its folder in EXPORTS";
             println!("cargo::error={path} is missing: {how}");
         }
         println!("cargo::rustc-link-lib=static={name}");

@@ -1,7 +1,7 @@
 /* Pongewaru for C and C++: real roots of polynomials up to degree 4, quadratics, crank equations, pin contacts, formulas and hall files, as proved.
  * docs/CONTRACTS.md says what is proved of each function, and docs/HALL-FILE.md what a hall file is.
  *
- * Linking: `rt staticlib pongewaru` makes target/staticlib/libpongewaru.a, which holds all functions of the first part; it needs the C library alone.
+ * Linking: `.ci/run` makes target/staticlib/libpongewaru.a, which holds all functions of the first part; it needs the C library alone.
  *
  * In: any numbers and any bytes. No function requires anything of them, allocates, keeps anything between calls, or reads or writes what was not lent to it.
  * A pair `p, p_len` is lent bytes and how many they are; it may be NULL, 0. `out` overlaps nothing else that is lent. A double in lent bytes has eight of them,

@@ -1,7 +1,7 @@
 //! The documents that are made from the repository's own text are what it makes; each function of the
 //! Rust and each entry point has two wrong programs.
 use host::people::documents::index::{all_crates, rows};
-use host::people::documents::{functions, geomcore, made, root};
+use host::people::documents::{facts, functions, geomcore, made, root};
 use std::collections::{BTreeMap, BTreeSet};
 use std::fs;
 use std::io::{Write, stderr};
@@ -51,7 +51,7 @@ fn entry_points_require_nothing() {
         assert!(functions.iter().any(|f| f.name == name), "there is no {name}");
     }
     for f in functions.iter().filter(|f| f.exported || ENTRY_POINTS.contains(&f.name.as_str())) {
-        assert!(f.requires.is_empty(), "{} requires {}", f.name, f.requires.join(" ∗ "));
+        assert!(f.requires.is_empty(), "{} requires {}", f.name, facts(&f.requires));
         assert!(!f.ensures.is_empty(), "{} says nothing of its result", f.name);
     }
 }

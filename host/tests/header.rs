@@ -77,7 +77,7 @@ fn functions() -> Vec<Function> {
         let sources = files(&root().join("crates").join(&own).join("src"), ".rt");
         for path in sources.expect("a crate can be read") {
             let text = text(path.to_str().expect("a path in UTF-8"));
-            let declared = text.split("#[no_mangle] pub extern \"C\" fn ").skip(1);
+            let declared = text.split("#[unsafe(no_mangle)] pub extern \"C\" fn ").skip(1);
             found.extend(declared.map(|declared| Function::read(&own, declared)));
         }
     }

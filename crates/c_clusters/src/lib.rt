@@ -1,8 +1,8 @@
 // Layer 6 below the list as C functions on numbers and byte slices, under the contracts of what they pass on to: the band, what is found in it, polishing
 // and the finished roots, each for the polynomial Scaled::new of five doubles in 40 bytes and a degree. A number is NaN, a truth false, and nothing is
 // stored, where the doubles have fewer bytes or the degree is above 4. No C function here requires anything.
-// `rt staticlib c_clusters` makes of them one of the archives that the test host links. It rests on the crates whose functions it hands out, and on
-// `lent_bytes`; `pongewaru` rests on it.
+// `c_clusters_c` exports them, since a library has no exports. It rests on the crates whose functions it hands out, and on `lent_bytes`; `pongewaru` and
+// `c_clusters_c` rest on it.
 #![tactic(auto)]
 
 ghost use Rattle.std.specs.Prelude.{◌≡◌, false, ◌^◌, ◌≤◌, ◌<◌, length};
@@ -27,8 +27,7 @@ fn poly_at(a: &[u8], d: u64) -> scaled::Scaled
     scaled::Scaled::new(five_at(a), d as usize)
 }
 
-#[unsafe(no_mangle)]
-pub extern "C" fn pongewaru_noise(a: &[u8], d: u64, y: f64) -> f64
+pub fn pongewaru_noise(a: &[u8], d: u64, y: f64) -> f64
     ensures { result ≡ unless nan (lacks_five a.now d) (noise_of (poly_at a.now d) y) }
 {
     if lacks_five(a, d) {
@@ -37,8 +36,7 @@ pub extern "C" fn pongewaru_noise(a: &[u8], d: u64, y: f64) -> f64
     band::noise(poly_at(a, d), y)
 }
 
-#[unsafe(no_mangle)]
-pub extern "C" fn pongewaru_band(a: &[u8], d: u64, y: f64, tol: f64) -> f64
+pub fn pongewaru_band(a: &[u8], d: u64, y: f64, tol: f64) -> f64
     ensures { result ≡ unless nan (lacks_five a.now d) (band_of (poly_at a.now d) y tol) }
 {
     if lacks_five(a, d) {
@@ -47,8 +45,7 @@ pub extern "C" fn pongewaru_band(a: &[u8], d: u64, y: f64, tol: f64) -> f64
     band::band(poly_at(a, d), y, tol)
 }
 
-#[unsafe(no_mangle)]
-pub extern "C" fn pongewaru_within_band(a: &[u8], d: u64, half: f64, y: f64, tol: f64) -> bool
+pub fn pongewaru_within_band(a: &[u8], d: u64, half: f64, y: f64, tol: f64) -> bool
     ensures { result ≡ unless false (lacks_five a.now d) (within_band_of (poly_at a.now d) half y tol) }
 {
     if lacks_five(a, d) {
@@ -57,8 +54,7 @@ pub extern "C" fn pongewaru_within_band(a: &[u8], d: u64, half: f64, y: f64, tol
     band::within_band(poly_at(a, d), half, y, tol)
 }
 
-#[unsafe(no_mangle)]
-pub extern "C" fn pongewaru_critical_point(a: &[u8], d: u64, y: f64, lo: f64, hi: f64) -> f64
+pub fn pongewaru_critical_point(a: &[u8], d: u64, y: f64, lo: f64, hi: f64) -> f64
     ensures { result ≡ unless nan (lacks_five a.now d) (critical_point_of (poly_at a.now d) y lo hi) }
 {
     if lacks_five(a, d) {
@@ -68,8 +64,7 @@ pub extern "C" fn pongewaru_critical_point(a: &[u8], d: u64, y: f64, lo: f64, hi
 }
 
 // The place, NaN where there is none.
-#[unsafe(no_mangle)]
-pub extern "C" fn pongewaru_extremum(a: &[u8], d: u64, y: f64, lo: f64, hi: f64, tol: f64) -> f64
+pub fn pongewaru_extremum(a: &[u8], d: u64, y: f64, lo: f64, hi: f64, tol: f64) -> f64
     ensures { result ≡ unless nan (lacks_five a.now d) (turning_or_nan (extremum_of (poly_at a.now d) y lo hi tol)) }
 {
     if lacks_five(a, d) {
@@ -82,8 +77,7 @@ pub extern "C" fn pongewaru_extremum(a: &[u8], d: u64, y: f64, lo: f64, hi: f64,
     }
 }
 
-#[unsafe(no_mangle)]
-pub extern "C" fn pongewaru_polish(a: &[u8], d: u64, y: f64, gap: f64) -> f64
+pub fn pongewaru_polish(a: &[u8], d: u64, y: f64, gap: f64) -> f64
     ensures { result ≡ unless nan (lacks_five a.now d) (polish_of 4 (poly_at a.now d).f (poly_at a.now d).d gap y) }
 {
     if lacks_five(a, d) {
@@ -221,8 +215,7 @@ fn found_numbers(s: push::Found) -> [f64; 18]
 
 // The candidates, n on entry, and the complex pairs, m on entry, after the factor y^2 + al*y + be. Nothing is stored where c is short, or where
 // they have no such count.
-#[unsafe(no_mangle)]
-pub extern "C" fn pongewaru_push_quadratic(
+pub fn pongewaru_push_quadratic(
     a: &[u8],
     d: u64,
     al: f64,
@@ -253,15 +246,7 @@ pub extern "C" fn pongewaru_push_quadratic(
 }
 
 // The finished roots of n candidates. Nothing is stored where c is short or n above 4.
-#[unsafe(no_mangle)]
-pub extern "C" fn pongewaru_finish(
-    a: &[u8],
-    d: u64,
-    c: &[u8],
-    n: u64,
-    tol: f64,
-    out: &mut [u8],
-) -> u64
+pub fn pongewaru_finish(a: &[u8], d: u64, c: &[u8], n: u64, tol: f64, out: &mut [u8]) -> u64
     ensures { Stored (finished_numbers a.now d c.now n tol) out.old result out.new }
 {
     if lacks_five(a, d) {

@@ -1,6 +1,6 @@
 // Layer 1 as C functions on numbers and byte slices, under the contracts of what they pass on to: the leaves (scaling, exponent, roots, logarithm, third
-// angle) here, Rust's methods on f64 in `floats`. No C function here requires anything. `rt staticlib c_leaves` makes of them one of the archives that the
-// test host links. It rests on the crates whose functions it hands out, and on `lent_bytes`; `leafcases` rests on it.
+// angle) here, Rust's methods on f64 in `floats`. None of them requires anything. `c_leaves_c` exports them, since a
+// library has no exports. It rests on the crates whose functions it hands out, and on `lent_bytes`; `leafcases` and `c_leaves_c` rest on it.
 #![tactic(auto)]
 
 ghost use Rattle.std.specs.Prelude.{◌≡◌, [], ltb, length};
@@ -18,15 +18,14 @@ use lent_bytes::{five_at, store};
 
 pub mod floats;
 
-#[unsafe(no_mangle)]
-pub extern "C" fn pongewaru_leaf_ldexp(x: f64, k: i32) -> f64
+pub fn pongewaru_leaf_ldexp(x: f64, k: i32) -> f64
     ensures { result ≡ ldexp_of x k }
 {
     ldexp::ldexp(x, k)
 }
 
-#[unsafe(no_mangle)]
-pub extern "C" fn pongewaru_leaf_pow2(k: i32) -> f64
+#[tactic(auto, using(float::proofs::Bits::zero_over_zero), unfolding(crate::specs::Total::pow2_or_nan))]
+pub fn pongewaru_leaf_pow2(k: i32) -> f64
     ensures { result ≡ pow2_or_nan k }
 {
     if k < -1022 {
@@ -38,37 +37,32 @@ pub extern "C" fn pongewaru_leaf_pow2(k: i32) -> f64
     ldexp::pow2(k)
 }
 
-#[unsafe(no_mangle)]
-pub extern "C" fn pongewaru_leaf_exponent(x: f64) -> i32
+pub fn pongewaru_leaf_exponent(x: f64) -> i32
     ensures { result ≡ exponent_of x }
 {
     decode::exponent(x)
 }
 
-#[unsafe(no_mangle)]
-pub extern "C" fn pongewaru_leaf_sqrt(x: f64) -> f64
+pub fn pongewaru_leaf_sqrt(x: f64) -> f64
     ensures { result ≡ sqrt_of x }
 {
     sqrt::sqrt(x)
 }
 
-#[unsafe(no_mangle)]
-pub extern "C" fn pongewaru_leaf_cbrt(x: f64) -> f64
+pub fn pongewaru_leaf_cbrt(x: f64) -> f64
     ensures { result ≡ cbrt_of x }
 {
     cbrt::cbrt(x)
 }
 
-#[unsafe(no_mangle)]
-pub extern "C" fn pongewaru_leaf_log2(x: f64) -> f64
+pub fn pongewaru_leaf_log2(x: f64) -> f64
     ensures { result ≡ log2_grid_of x }
 {
     log2::log2_grid(x)
 }
 
 // c and s into 16 bytes; how many bytes are stored.
-#[unsafe(no_mangle)]
-pub extern "C" fn pongewaru_leaf_third_angle(v: f64, out: &mut [u8]) -> u64
+pub fn pongewaru_leaf_third_angle(v: f64, out: &mut [u8]) -> u64
     ensures { Stored (angle_numbers (third_angle_of v)) out.old result out.new }
 {
     let t = angle::third_angle(v);
@@ -76,8 +70,7 @@ pub extern "C" fn pongewaru_leaf_third_angle(v: f64, out: &mut [u8]) -> u64
 }
 
 // L of five doubles in 40 bytes, into 40 bytes; how many bytes are stored.
-#[unsafe(no_mangle)]
-pub extern "C" fn pongewaru_leaf_log2_five(a: &[u8], out: &mut [u8]) -> u64
+pub fn pongewaru_leaf_log2_five(a: &[u8], out: &mut [u8]) -> u64
     ensures { Stored (unless [] (ltb (length a.now) 40) (log2_five_of (five_at a.now))) out.old result out.new }
 {
     if a.len() < 40 {

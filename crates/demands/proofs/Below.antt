@@ -16,7 +16,8 @@ use lib.Ieee.Fits.{round_is, round-fits}
 use lib.Ieee.Order.{drop, kept}
 use Rattle.float.specs.Methods.{is_sign_negative_of}
 use Rattle.float.specs.Units.{units_of, Finite}
-use Rattle.rounding.specs.Rounded.{Rounded, rounded, same_fraction}
+use Rattle.rounding.specs.Rounded.{Rounded}
+use Rattle.rounding.proofs.Rounded.{rounded, same_fraction}
 use Rattle.nearest.proofs.Best.{units_are}
 use Rattle.ldexp.specs.Scale.{pow2_of, signed, times_power_of, ldexp_of}
 use Rattle.ldexp.proofs.Chain.{all_last, all_step}

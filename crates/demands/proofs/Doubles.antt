@@ -18,7 +18,8 @@ use Rattle.float.specs.Units.{units_of, Finite}
 use Rattle.float.proofs.Bits.{of_true}
 use Rattle.decode.proofs.Fields.{shape}
 use Rattle.rounding.specs.Units.{one_units}
-use Rattle.rounding.specs.Rounded.{Rounded, rounded, same_fraction}
+use Rattle.rounding.specs.Rounded.{Rounded}
+use Rattle.rounding.proofs.Rounded.{rounded, same_fraction}
 use Rattle.rounding.proofs.Value.{exponent, fits_says}
 use Rattle.nearest.proofs.Best.{units_are}
 use Rattle.scaled.proofs.Digits.{units_under}

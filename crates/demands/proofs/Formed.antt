@@ -8,7 +8,7 @@ use lib.Dec.{eqb}
 use lib.Ieee.{Float, lt}
 use borrow.Author.Tests.{eqb-false, ne_eqb}
 use Rattle.facts.specs.Lists.{AllOf}
-use Rattle.facts.specs.Sort.{map_sorted}
+use Rattle.facts.proofs.Sort.{map_sorted}
 use Rattle.float.specs.Methods.{is_finite_of, total_le_of}
 use Rattle.float.specs.Rounded.{◌+ᶠ◌, ◌-ᶠ◌, ◌*ᶠ◌}
 use Rattle.float.specs.Literals.{half64}

@@ -8,7 +8,7 @@ use borrow.Author.Tests.{ltb-true, ltb-false, lt-ltb, le-ltb, eqb-true, eqb-fals
 use lib.Dec.{ltb, eqb}
 use lib.Ieee.{Float, lt}
 use Rattle.facts.specs.Lists.{AllOf, sum_snoc, all_snoc}
-use Rattle.facts.specs.Sort.{sum_sorted, all_sorted}
+use Rattle.facts.proofs.Sort.{sum_sorted, all_sorted}
 use Rattle.float.specs.Rounded.{◌+ᶠ◌, ◌*ᶠ◌}
 use Rattle.float.specs.Literals.{half64}
 use Rattle.float.specs.Methods.{is_finite_of, total_le_of}

@@ -9,7 +9,8 @@ use lib.ListN.{length, take, get_or, length-map}
 use lib.Seq.{take-length, get_or-take, length-take-le}
 use lib.Ieee.{Float, nan}
 use Rattle.facts.specs.Lists.{AllOf, all_at}
-use Rattle.facts.specs.Sort.{inserted_by, inserted_all, sorted_by, length_sorted, all_inserted, all_sorted, map_sorted}
+use Rattle.facts.specs.Sort.{inserted_by, inserted_all, sorted_by}
+use Rattle.facts.proofs.Sort.{length_sorted, all_inserted, all_sorted, map_sorted}
 use Rattle.order.specs.Order.{numbers_from, order_of}
 use Rattle.order.proofs.Laws.{length_numbers, all_numbers, read_numbers, take_order}
 use Rattle.demands.specs.Demands.{Sorted}

@@ -33,6 +33,7 @@ impl Factors {
         }
     }
 
+    #[tactic(auto, unfolding(crate::specs::Factors::push_lin_of))]
     pub fn push_lin(self, r: f64) -> Factors
         ensures { result ≡ push_lin_of self r }
     {
@@ -46,6 +47,7 @@ impl Factors {
         self
     }
 
+    #[tactic(auto, unfolding(crate::specs::Factors::push_quad_of))]
     pub fn push_quad(self, al: f64, be: f64) -> Factors
         ensures { result ≡ push_quad_of self al be }
     {

@@ -8,7 +8,8 @@ use native.Mathlib.Omega.{arith}
 use lib.ListN.{length, drop, drop_of_length-le}
 use lib.Seq.{drop-cons}
 use Rattle.facts.specs.Arrays.{fill_from, from_fn}
-use Rattle.facts.specs.Sort.{sorted_by, length_sorted, sum_sorted}
+use Rattle.facts.specs.Sort.{sorted_by}
+use Rattle.facts.proofs.Sort.{length_sorted, sum_sorted}
 use Rattle.float.specs.Methods.{total_le_of}
 use Rattle.scaled.specs.declared.Scaled.{Scaled}
 use Rattle.roots.specs.Roots.{list_of}

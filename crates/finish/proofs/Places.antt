@@ -13,7 +13,8 @@ use lib.Ieee.{Float, binary64, sub}
 use Rattle.facts.specs.Arrays.{fill_from, from_fn}
 use Rattle.facts.specs.Cond.{if_taken, if_left, either_way}
 use Rattle.facts.specs.Lists.{drop_next}
-use Rattle.facts.specs.Sort.{inserted_by, inserted_all, sorted_by, length_sorted}
+use Rattle.facts.specs.Sort.{inserted_by, inserted_all, sorted_by}
+use Rattle.facts.proofs.Sort.{length_sorted}
 use Rattle.float.specs.Literals.{inf64}
 use Rattle.float.specs.Methods.{min_of, total_le_of}
 use Rattle.scaled.specs.declared.Scaled.{Scaled}

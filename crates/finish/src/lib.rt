@@ -134,6 +134,7 @@ fn gap(o: Roots, k: usize) -> f64
 }
 
 // A root at this gap from its nearest neighbour, polished where it is simple.
+#[tactic(auto, unfolding(crate::specs::Finish::polished_at))]
 fn polished_by(poly: Scaled, r: RealRoot, gap: f64) -> RealRoot
     requires { poly.d ≤ 4 }
     ensures { result ≡ polished_at 4 poly (place_of r gap) }

@@ -191,14 +191,25 @@ counted_next s at i n d w f e g = record {
     one_more : suc (i - at) ≡ i + 1 - at
     one_more = omega (arith, w.low)
 
+-- digits of which there are none, or more than nine, are no number
+read_none : (s : List ℕ) → is_number (digits_of s) ≡ false → read_number s ≡ fails
+read_none s e = go (is_number (digits_of s)) e (λ t. record { digits = digits_of s; number = t })
+  where
+    go : (b : Bool) → b ≡ false → (g : T b → Number) → if_some (checked b g) fails (λ m. read_power (number m) (behind_digits s)) ≡ fails
+    go true q g = absurd (true≢false q)
+    go false q g = refl
+
+pub read_long : (s : List ℕ) → 9 < length (digits_of s) → read_number s ≡ fails
+read_long s h =
+    let digits = digits_of s in
+    read_none s (number_when s false (rw (lt-leb (length digits) 9 h) (and-false (leb 1 (length digits)))))
+
+pub digit_more : (s : List ℕ) (i : ℕ) → digit_at s i ≡ true → length (digits_of (drop i s)) ≡ suc (length (digits_of (drop (i + 1) s)))
+digit_more s i e = ap length (digits_true s i e)
+
 module _ (s : List ℕ) (at i n : ℕ) (w : Counted s at i n) where
   abbrev digits : List ℕ
   digits = digits_of (drop at s)
-
-  are_too_many : digit_at s i ≡ true → i - at ≡ 9 → is_number digits ≡ false
-  are_too_many e f =
-      let more = ap (λ (l : List ℕ). i + length l) (sym (digits_true s i e)) ∙ sym w.count in
-      number_when (drop at s) false (rw (lt-leb (length digits) 9 (omega (arith, w.low))) (and-false (leb 1 (length digits))))
 
   counted_all : digit_at s i ≡ false → at + length digits ≡ i
   counted_all e = w.count ∙ ap (λ (l : List ℕ). i + length l) (digits_false s i e) ∙ omega arith
@@ -212,15 +223,7 @@ module _ (s : List ℕ) (at i n : ℕ) (w : Counted s at i n) where
       number_when (drop at s) true (rw (le-leb 1 (length digits) (omega (arith, w.low)), le-leb (length digits) 9 (omega (arith, w.few))))
 
   no_number : is_number digits ≡ false → (c : Cursor) → Failed at c → Ahead s at c × Based s c (read_number (drop at s))
-  no_number e c f =
-      (ahead_failed s at c (omega (arith, w.low, w.high)) f, inl (f.read, go (is_number digits) e (λ t. record { digits = digits; number = t })))
-    where
-      go : (b : Bool) → b ≡ false → (g : T b → Number) → if_some (checked b g) fails (λ m. read_power (number m) (behind_digits (drop at s))) ≡ fails
-      go true q g = absurd (true≢false q)
-      go false q g = refl
-
-  pub number_long : digit_at s i ≡ true → i - at ≡ 9 → (c : Cursor) → Failed at c → Ahead s at c × Based s c (read_number (drop at s))
-  number_long e f = no_number (are_too_many e f)
+  no_number e c f = (ahead_failed s at c (omega (arith, w.low, w.high)) f, inl (f.read, read_none (drop at s) e))
 
   pub number_none : digit_at s i ≡ false → i ≡ at → (c : Cursor) → Failed at c → Ahead s at c × Based s c (read_number (drop at s))
   number_none e f = no_number (none_read f e)

@@ -94,6 +94,7 @@ fn failed(at: usize) -> Cursor
 // ---- factors
 
 // A whole number of one to nine digits.
+#[tactic(auto, using(crate::proofs::Factors::read_long, crate::proofs::Factors::digit_more))]
 fn number(s: &[u8], at: usize) -> Cursor
     requires { at ≤ length s.now }
     ensures ahead { Ahead s.now at result }
@@ -308,6 +309,7 @@ fn answered(a: Part) -> Expanded
     }
 }
 
+#[tactic(auto, using(crate::proofs::Whole::text_met, crate::proofs::Whole::none_left))]
 pub fn expand(s: &[u8]) -> Expanded
     ensures { result ≡ expand_of s.now }
 {

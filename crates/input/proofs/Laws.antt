@@ -1,45 +1,43 @@
--- What an answer means, by the tests of its sign and of its count.
-use mathlib.Core.Path.{◌≡◌, refl, sym, ap, ◌∙◌, subst}
-use mathlib.Core.Bool.{true, false, false≢true}
-use Prim.Native.Nat.{ℕ, zero, suc, min, ◌≤◌, ◌<◌}
-use native.Mathlib.Omega.{arith}
-use borrow.Author.Tests.{le-ltb}
-use lib.IntN.{ℤ, pos, negsuc}
-use lib.Signed.{lt_z}
-use Rattle.io.specs.Counts.{clamp_len}
+-- What one read leaves, by what it came to, and what several reads left together.
+use Rattle.std.proofs.Common.{◌≡◌, refl, sym, ap, ◌∙◌, subst, ℕ, zero, suc, ◌+◌, ◌≤◌, ◌<◌, List, [], ◌++◌, length, take, Option, Result, Ok, Err, arith}
+use Rattle.std.proofs.lemmas.List.{append-nil, length-take-le, take-append-le}
+use Rattle.std.proofs.lemmas.Slice.{take-put_mid_below}
+use Rattle.std.proofs.Math.Seq.{take-append-add}
+use Rattle.std.proofs.KnownBytes.{Consumes-trans}
+use Rattle.std.specs.Prelude.{⊤}
+use Rattle.std.specs.Io.{ReadsAtMost}
+use Rattle.std.specs.Io.KnownBytes.{Consumes, IsAtEnd, ReadConsumes}
+use borrow.Rule.Slice.PartMut.{put_mid, post_of}
+use Rattle.std.specs.declared.io.Error.{Error}
 use Rattle.input.specs.declared.ReadAnswer.{ReadAnswer}
 use Rattle.input.specs.declared.ReadAnswer.TheVariants.{Failed, End, More}
 use Rattle.input.specs.Answers.{meaning_of}
 
-pub is_failed : (got : ℤ) (room : ℕ) → lt_z got (pos 0) ≡ true → Failed ≡ meaning_of got room
+-- a reader that had a has b left, after a read into part, which has room
+abbrev pub Leaves : Option (List ℕ) → Option (List ℕ) → List ℕ → ReadAnswer → Type 0
+Leaves a b part (Failed e) = ⊤
+Leaves a b part End = Consumes a b [] × IsAtEnd b
+Leaves a b part (More n) = (0 < n) × (n ≤ length part) × Consumes a b (take n part)
+
+leaves : (a b : Option (List ℕ)) (r : Result ℕ Error) (part : List ℕ) → 0 < length part → ReadsAtMost r part → ReadConsumes a b r part → Leaves a b part (meaning_of r)
 unfolding meaning_of
-is_failed (pos zero) room h = absurd (false≢true h)
-is_failed (pos (suc k)) room h = absurd (false≢true (sym (le-ltb (suc k) 0 (omega arith)) ∙ h))
-is_failed (negsuc k) room h = refl
+leaves a b (Err e) part room bound bytes = tt
+leaves a b (Ok zero) part room bound bytes = (bytes.0, bytes.1 refl room)
+leaves a b (Ok (suc k)) part room bound bytes = (omega arith, bound.0, bytes.0)
 
-pub is_end : (got : ℤ) (room more : ℕ) → lt_z got (pos 0) ≡ false → 0 < room → more ≡ clamp_len got room → more ≡ 0 → End ≡ meaning_of got room
-unfolding meaning_of
-is_end (pos zero) room more h l e z = refl
-is_end (pos (suc k)) room more h l e z = absurd (omega (arith, l, e, z))
-is_end (negsuc k) room more h l e z = absurd (false≢true (sym h))
+pub leaves_by : (a b : Option (List ℕ)) (r : Result ℕ Error) (part : List ℕ) (x : ReadAnswer) → 0 < length part → ReadsAtMost r part → ReadConsumes a b r part
+    → x ≡ meaning_of r → Leaves a b part x
+leaves_by a b r part x room bound bytes e = subst (Leaves a b part) (sym e) (leaves a b r part room bound bytes)
 
-pub is_more : (got : ℤ) (room more : ℕ) → lt_z got (pos 0) ≡ false → more ≡ clamp_len got room → (more ≡ 0 → ⊥) → More more ≡ meaning_of got room
-unfolding meaning_of
-is_more (pos zero) room more h e z = absurd (z (omega (arith, e)))
-is_more (pos (suc k)) room more h e z = ap More e
-is_more (negsuc k) room more h e z = absurd (false≢true (sym h))
+-- reads that gave the first `at` bytes of xs, and one more that gave none
+pub still : (a b c : Option (List ℕ)) (xs part : List ℕ) (at k : ℕ) → at ≤ length xs → Consumes a b (take at xs) → Consumes b c [] → Consumes a c (take at (put_mid at k xs part))
+still a b c xs part at k within before none =
+    subst (Consumes a c) (append-nil (take at xs) ∙ sym (take-put_mid_below at k xs part at (omega arith) within)) (Consumes-trans a b c (take at xs) [] before none)
 
--- bytes that were read are one at least, and lie within the room
-abbrev Within : ℕ → ReadAnswer → Type 0
-Within room Failed = Unit {0}
-Within room End = Unit {0}
-Within room (More n) = (0 < n) × (n ≤ room)
-
-within : (got : ℤ) (room : ℕ) → 0 < room → Within room (meaning_of got room)
-unfolding meaning_of
-within (pos zero) room l = tt
-within (pos (suc k)) room l = (omega (arith, l), omega arith)
-within (negsuc k) room l = tt
-
-pub more_within : (got : ℤ) (room n : ℕ) {a : ReadAnswer} → 0 < room → a ≡ meaning_of got room → a ≡ More n → (0 < n) × (n ≤ room)
-more_within got room n l e f = subst (Within room) (sym e ∙ f) (within got room l)
+-- and one that put n bytes behind them
+pub grown : (a b c : Option (List ℕ)) (xs part : List ℕ) (at k n : ℕ) → at ≤ length xs → n ≤ length part → Consumes a b (take at xs) → Consumes b c (take n part)
+    → Consumes a c (take (at + n) (put_mid at k xs part))
+grown a b c xs part at k n within fits before more =
+    let front = ap (λ m. take (m + n) (put_mid at k xs part)) (sym (length-take-le at xs within)) ∙ take-append-add (take at xs) (part ++ post_of at k xs) n in
+    let all = front ∙ ap (λ l. take at xs ++ l) (take-append-le n part (post_of at k xs) fits) in
+    subst (Consumes a c) (sym all) (Consumes-trans a b c (take at xs) (take n part) before more)

@@ -5,7 +5,8 @@ use mathlib.Core.List.{List, [], ◌∷◌}
 use Prim.Native.Nat.{◌+◌, ◌≤◌, ◌<◌}
 use native.Mathlib.Omega.{arith}
 use lib.Ieee.{is_nan}
-use Rattle.facts.specs.Sort.{sorted_by, sum_sorted}
+use Rattle.facts.specs.Sort.{sorted_by}
+use Rattle.facts.proofs.Sort.{sum_sorted}
 use Rattle.factors.specs.declared.Factors.{Factors}
 use Rattle.factors.specs.Factors.{no_factors, push_lin_of, push_quad_of, degree_of}
 use Rattle.factors.proofs.Counts.{lin_counted, quad_counted}

@@ -1,9 +1,13 @@
 // Replays stored questions to the leaves: for each record of the file that its argument names, a line with the leaf's answer.
 // The work is `lines::put_lines`, proved equal to the definition `lines_of`; no contract can say what is read or written. It rests on the leaves,
-// `text` and `leaves`.
+// `text`, `c_leaves` and `input`.
 #![tactic(auto)]
 
 ghost use Rattle.std.specs.Prelude.{◌≡◌, length};
+
+use std::fs::File;
+use std::io::Write;
+use std::{env, io};
 
 mod lines;
 
@@ -21,17 +25,18 @@ fn output_buffer() -> [u8; 120060]
     [0; 120060]
 }
 
-fn main() {
-    let mut name = io::buffer();
-    let n = os::arg(1, &mut name);
-    let fd = os::open_read(&name[..n]);
-    if fd < 0 {
-        os::fail(&name[..n]);
-        return;
+fn main(rt: HostRuntime) -> io::Result<()> {
+    let Some(name) = env::args(&rt)?.nth(1) else {
+        return Err(io::Error::other("no file is named"));
+    };
+    let mut from = File::open(&rt, name.as_str())?;
+    let mut questions = input_buffer();
+    let read = input::read_file(&mut from, &mut questions);
+    if let Some(e) = read.failed {
+        return Err(e);
     }
-    let mut input = input_buffer();
-    let got = io::read_full(fd, &mut input);
+    let n = read.len;
     let mut out = output_buffer();
-    let end = lines::put_lines(&mut out, &input[..got]);
-    io::write_all(libc::STDOUT_FILENO, &out[..end]);
+    let end = lines::put_lines(&mut out, &questions[..n]);
+    Write::write_all(&mut rt.stdout(), &out[..end])
 }

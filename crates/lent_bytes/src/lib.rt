@@ -103,6 +103,7 @@ pub fn store(out: &mut [u8], xs: &[f64]) -> u64
 }
 
 // The same for an answer that is refused where number is not 0: nothing is stored then, and the number is said.
+#[tactic(auto, using(crate::proofs::Whole::answered_as, crate::proofs::Whole::refused))]
 pub fn answer(out: &mut [u8], number: u32, xs: &[f64]) -> u64
     ensures { Answered number xs.now out.old result out.new }
 {

@@ -18,7 +18,8 @@ use Rattle.float.specs.Methods.{is_finite_of}
 use Rattle.float.specs.Units.{units_of}
 use Rattle.decode.proofs.Fields.{shape}
 use Rattle.algebra.specs.NatOrder.{le_or_lt, pow2_finer, pow2_twice}
-use Rattle.rounding.specs.Rounded.{Rounded, rounded, same_fraction}
+use Rattle.rounding.specs.Rounded.{Rounded}
+use Rattle.rounding.proofs.Rounded.{rounded, same_fraction}
 use Rattle.nearest.specs.Greatest.{nearest_of}
 
 pub units_are : (x : Float) (s : Bool) (a : ℕ) → HasValue x s a (2 ^ 1074) → units_of x ≡ a

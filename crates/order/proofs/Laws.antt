@@ -9,7 +9,8 @@ use lib.ListN.{length, take, drop, get_or, length-map, get_or-map}
 use lib.Seq.{take_at, drop-append-add, drop-cons, get_or-take, length-take-le}
 use lib.Ieee.{Float, nan}
 use Rattle.facts.specs.Lists.{AllOf, all_append, all_at, of_four}
-use Rattle.facts.specs.Sort.{inserted_by, inserted_all, sorted_by, length_sorted, all_sorted, sorted_same, map_sorted}
+use Rattle.facts.specs.Sort.{inserted_by, inserted_all, sorted_by}
+use Rattle.facts.proofs.Sort.{length_sorted, all_sorted, sorted_same, map_sorted}
 use Rattle.order.specs.Order.{numbers_from, keys_before, order_of, first_from, insertion_of, entry_of, Places}
 
 -- ---- the first number at which a test fails, as a loop finds it

@@ -129,6 +129,13 @@ module _ (op : Operator) (a b : Part) where
   unfolding joined
   join_both y z x e = e ∙ sym (ap₂ (λ (v w : Value). joined (operator_of op) v w) (value_exact a y) (value_exact b z))
 
+-- where the degree is too high
+pub join_high : (op : Operator) (a b : Part) → Ends a.raised (length (polynomial_of a.raised)) → Ends b.raised (length (polynomial_of b.raised))
+    → a.number ≡ 0 → b.number ≡ 0 → 5 < made_length op (length (polynomial_of a.raised)) (length (polynomial_of b.raised))
+    → joined (operator_of op) (value_in a) (value_in b) ≡ refused 14
+join_high op a b A B y z h =
+    sym (join_both op a b y z (refused 14) (sym (high op _ _ _ _ A B _ refl refl refl h)))
+
 -- ---- powers
 pub power_refused : (a : Part) (k : ℕ) → (a.number ≡ 0 → ⊥) → value_in a ≡ power_of (value_in a) k
 unfolding power_of

@@ -250,6 +250,7 @@ fn made(op: Operator, a: &[u64; 5], b: &[u64; 5], m: usize, n: usize, end: usize
 }
 
 // The left operand first, then the right, then their operator.
+#[tactic(auto, using(crate::proofs::Joins::join_high))]
 pub fn join(op: Operator, a: Part, b: Part) -> Part
     requires a_sound { Sound a }
     requires b_sound { Sound b }

@@ -9,7 +9,7 @@ use lib.ListN.{length}
 use lib.Ieee.{Float}
 use Rattle.facts.specs.Arrays.{fill_from}
 use Rattle.facts.specs.Lists.{all_at}
-use Rattle.facts.specs.Sort.{length_sorted, all_sorted}
+use Rattle.facts.proofs.Sort.{length_sorted, all_sorted}
 use Rattle.float.specs.Methods.{total_le_of}
 use Rattle.scaled.specs.declared.Scaled.{Scaled}
 use Rattle.factors.specs.Factors.{degree_of}

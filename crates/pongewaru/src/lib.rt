@@ -1,4 +1,4 @@
-// The entry points and the hall file as C functions on numbers and byte slices, under the contracts of what they pass on to. `rt staticlib pongewaru` makes
+// The entry points and the hall file as C functions on numbers and byte slices, under the contracts of what they pass on to. `rt lib pongewaru` makes
 // of them the archive that a controller links; include/pongewaru.h declares them. No C function here requires anything.
 // It rests on the crates whose functions it hands out, on `lent_bytes`, on `lent_coefficients`, and on `c_clusters` (a list as numbers); nothing rests on it.
 #![tactic(auto)]

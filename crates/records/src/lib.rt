@@ -101,6 +101,7 @@ fn held(s: &[u8], at: usize, kind: Kind, size: usize) -> Record
 }
 
 // A count byte, a tolerance, and as many coefficients as the count says.
+#[tactic(auto, unfolding(crate::specs::Records::polynomial_record))]
 fn polynomial_record(s: &[u8], at: usize) -> Record
     requires { at + 2 ≤ length s.now }
     ensures { result ≡ polynomial_record s.now at }

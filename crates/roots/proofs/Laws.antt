@@ -49,6 +49,11 @@ module _ (s : Roots) (r : RealRoot) where
   unfolding pushed_of
   pushed_at k four h e = rw (e, lt-ltb k 4 h) (ap (λ (l : List RealRoot). record { root = l; len = k + 1 }) (four_set s.root blank k r four h))
 
+  -- the last place, as the search finds it for the code
+  pub pushed_last : length s.root ≡ 4 → s.len ≡ 3
+      → record { root = get_or s.root 0 blank ∷ get_or s.root 1 blank ∷ get_or s.root 2 blank ∷ r ∷ []; len = 4 } ≡ pushed_of s r
+  pushed_last four e = pushed_at 3 four (omega arith) e
+
   pub pushed_not : 4 ≤ s.len → s ≡ pushed_of s r
   unfolding pushed_of
   pushed_not h = rw (le-ltb s.len 4 h)

@@ -47,6 +47,7 @@ pub struct Pairs {
 
 impl RootKind {
     // The kind of a root of this multiplicity; brushed: at least one yes reply helped to form it.
+    #[tactic(auto, unfolding(crate::specs::Roots::kind_of))]
     fn of(multiplicity: u32, brushed: bool) -> RootKind
         ensures { result ≡ kind_of multiplicity brushed }
     {
@@ -106,6 +107,7 @@ impl Roots {
     }
 
     // Each place by its number: the compiler then keeps the roots in registers, where a place that is counted would put them into memory.
+    #[tactic(auto, using(crate::proofs::Laws::pushed_last, facts::specs::Lists::length_mapped))]
     pub fn push(self, r: RealRoot) -> Roots
         ensures { result ≡ pushed_of self r }
     {
@@ -136,6 +138,7 @@ impl Roots {
     }
 
     // The same for roots that lie in memory: one place is stored.
+    #[tactic(auto, unfolding(crate::specs::Roots::pushed_of))]
     pub fn append(self, r: RealRoot) -> Roots
         ensures { result ≡ pushed_of self r }
     {

@@ -1,3 +1,4 @@
+pub mod Rounded
 pub mod Value
 pub mod Exact
 pub mod Diff

@@ -18,7 +18,8 @@ use lib.Ieee.Exact.{HasValue, units_val}
 use lib.Ieee.Order.{drop, kept}
 use Rattle.algebra.specs.NatOrder.{sub_mul}
 use Rattle.rounding.specs.Units.{one_units}
-use Rattle.rounding.specs.Rounded.{Rounded, rounded, same_fraction}
+use Rattle.rounding.specs.Rounded.{Rounded}
+use Rattle.rounding.proofs.Rounded.{rounded, same_fraction}
 
 -- a bound in units that keeps an operation from overflow. It is shut, as 1 is
 unfoldable pub limit : ℕ

@@ -5,6 +5,7 @@ use mathlib.Core.List.{List}
 use Prim.Native.Nat.{ℕ, zero, suc, ◌+◌, ◌-◌, ◌*◌, ◌^◌, ◌≤◌, ◌<◌}
 use native.Mathlib.Omega.{arith}
 use native.Mathlib.Nat.{mul_right_comm, le_trans, le_of_eq, le_of_lt, lt_irrefl, le_antisymm, le_of_mul-le-mul_right, lt_of_mul-lt-mul_right, pow-succ'}
+use mathlib.Core.Logic.{⊎_elim}
 use lib.Dec.{T}
 use lib.Pow.{pow_pos}
 use lib.IntN.{ℤ, pos, ◌+ℤ◌, ◌-ℤ◌, nat_abs}
@@ -13,6 +14,7 @@ use lib.ListN.{get_or}
 use lib.Ieee.{Float, nan}
 use lib.Ieee.Bits.{is_true, is_false}
 use Rattle.algebra.specs.RingInt.{ringℤ, ◌:+◌, ◌:-◌, ◌:=◌}
+use Rattle.algebra.specs.NatOrder.{le_or_lt}
 use Rattle.algebra.specs.IntOrder.{≤ℤ_add, nat_abs_pos_sub}
 use Rattle.facts.specs.Cond.{both_hold, first_fails, either_way}
 use Rattle.float.specs.Units.{units_of}
@@ -103,6 +105,10 @@ module _ (a : List Float) (d n k r w z : ℕ) (N : w * 2 ^ z ≡ units_of (get_o
         least = λ p. second_fails (held_at a d (candidate (k - 1)) n) _ (B.least p);
         bound = B.bound;
       }))
+
+  -- whichever it does
+  pub best_more : (s : ℕ) → (k < r → s ≡ r) → (r ≤ k → s ≡ k) → Best a d (n + 1) s
+  best_more s p q = ⊎_elim (λ l. best_kept s (q l) l) (λ l. best_raised s (p l) l) (le_or_lt r k)
 
 -- ---- the definition's e
 pub exponent_is : (a : List Float) (d : ℕ) → scale_exponent_of a d

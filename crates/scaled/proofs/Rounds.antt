@@ -15,7 +15,8 @@ use lib.Ieee.Exact.{HasValue, units_val}
 use lib.Ieee.Fits.{round_is, down_pos, mul-fits}
 use lib.Ieee.Order.{drop, kept}
 use Rattle.algebra.specs.NatOrder.{le_or_lt, pow2_finer, pow2_twice}
-use Rattle.rounding.specs.Rounded.{Rounded, rounded, same_fraction}
+use Rattle.rounding.specs.Rounded.{Rounded}
+use Rattle.rounding.proofs.Rounded.{rounded, same_fraction}
 use Rattle.float.specs.Methods.{is_finite_of}
 use Rattle.float.specs.Units.{units_of, Finite}
 use Rattle.ldexp.specs.Scale.{pow2_of}

@@ -9,7 +9,7 @@ use lib.ListN.{length, take, drop, get_or}
 use lib.Ieee.{lt}
 use Rattle.facts.specs.Cond.{either_way}
 use Rattle.facts.specs.Lists.{length_snoc, left_cons, left_nil}
-use Rattle.facts.specs.Sort.{length_sorted, sum_sorted}
+use Rattle.facts.proofs.Sort.{length_sorted, sum_sorted}
 use Rattle.float.specs.Methods.{total_le_of}
 use Rattle.roots.specs.declared.RealRoot.{RealRoot}
 use Rattle.roots.specs.declared.Roots.{Roots}

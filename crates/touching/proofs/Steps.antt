@@ -7,7 +7,7 @@ use native.Mathlib.Omega.{arith}
 use borrow.Author.Tests.{eq-eqb, ne_eqb}
 use lib.Dec.{ltb}
 use lib.IntN.{ℤ}
-use lib.ListN.{drop, get_or}
+use lib.ListN.{length, drop, get_or}
 use lib.Ieee.{Float, binary64, add, sub, mul, lt}
 use Rattle.facts.specs.Lists.{sum_snoc}
 use Rattle.float.specs.Literals.{half64}
@@ -16,8 +16,9 @@ use Rattle.scaled.specs.declared.Scaled.{Scaled}
 use Rattle.roots.specs.declared.RealRoot.{RealRoot}
 use Rattle.roots.specs.declared.Roots.{Roots}
 use Rattle.roots.specs.declared.Pair.{Pair}
-use Rattle.roots.specs.Roots.{list_of, pushed_of}
-use Rattle.roots.specs.Listed.{multiplicities, Fits, blank}
+use Rattle.roots.specs.declared.Pairs.{Pairs}
+use Rattle.roots.specs.Roots.{list_of, pair_list_of, pushed_of}
+use Rattle.roots.specs.Listed.{multiplicities, Fits, blank, blank_pair}
 use Rattle.roots.proofs.Laws.{roots_cons, roots_nil}
 use Rattle.critical.specs.declared.TurningPoint.{TurningPoint}
 use Rattle.critical.specs.declared.TurningPoint.TheVariants.{At, None}
@@ -29,7 +30,7 @@ use Rattle.touching.specs.declared.Chain.{Chain}
 use Rattle.touching.specs.Touching.{touches_at, pair_order, reach_of, apart_by, all_apart, apart_of, pair_item, pair_at, pair_turn, no_chain}
 use Rattle.touching.specs.Touching.{double_of, opened_by, extended_by, contact_of, emitted, parted, link_at, item_turn}
 use Rattle.touching.specs.Walk.{stage_of, PairAdds}
-use Rattle.touching.proofs.Lists.{pushed_more}
+use Rattle.touching.proofs.Lists.{pushed_more, pairs_two}
 
 -- ---- stages
 module _ {A : Type 0} where
@@ -157,6 +158,23 @@ module _ (f : List RealRoot → Pair → Asking (List RealRoot)) (s : List RealR
       → st ≡ onward (ended s rs) (λ its. f its q) → st' ≡ onward st (λ its. f its p) → st' ≡ walked rs (each f s (pair_order ps))
   unfolding pair_order onward
   order_turned p q st st' e t h g = rw (e, t) (each_two f (ended s rs) st st' q p h g)
+
+-- two by the arrays, for `grind`
+pub pairs_kept : (poly : Scaled) (tol : Float) (its : List RealRoot) (rs : List Bool) (ps : Pairs) → length ps.pair ≡ 2 → ps.len ≤ 2 → (ps.len ≡ 0 → ⊥)
+    → (ps.len ≡ 1 → ⊥) → lt (get_or ps.pair 1 blank_pair).half (get_or ps.pair 0 blank_pair).half ≡ false
+    → walked rs (each (pair_turn poly tol) its (pair_order (pair_list_of ps)))
+    ≡ onward (onward (ended its rs) (λ (l : List RealRoot). pair_turn poly tol l (get_or ps.pair 0 blank_pair)))
+    (λ (l : List RealRoot). pair_turn poly tol l (get_or ps.pair 1 blank_pair))
+pairs_kept poly tol its rs ps two few n m h =
+    sym (order_kept (pair_turn poly tol) its rs (pair_list_of ps) _ _ _ _ (pairs_two ps (two, few) n m) h refl refl)
+
+pub pairs_turned : (poly : Scaled) (tol : Float) (its : List RealRoot) (rs : List Bool) (ps : Pairs) → length ps.pair ≡ 2 → ps.len ≤ 2 → (ps.len ≡ 0 → ⊥)
+    → (ps.len ≡ 1 → ⊥) → lt (get_or ps.pair 1 blank_pair).half (get_or ps.pair 0 blank_pair).half ≡ true
+    → walked rs (each (pair_turn poly tol) its (pair_order (pair_list_of ps)))
+    ≡ onward (onward (ended its rs) (λ (l : List RealRoot). pair_turn poly tol l (get_or ps.pair 1 blank_pair)))
+    (λ (l : List RealRoot). pair_turn poly tol l (get_or ps.pair 0 blank_pair))
+pairs_turned poly tol its rs ps two few n m h =
+    sym (order_turned (pair_turn poly tol) its rs (pair_list_of ps) _ _ _ _ (pairs_two ps (two, few) n m) h refl refl)
 
 -- ---- a chain
 pub double_most : (m : ℕ) → double_of m ≤ 1

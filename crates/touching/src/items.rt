@@ -132,6 +132,7 @@ fn pair_turn(poly: scaled::Scaled, tol: f64, replies: Replies, p: roots::Pair, w
 }
 
 // The loop over the pairs, the narrower one first.
+#[tactic(auto, using(crate::proofs::Steps::pairs_kept, crate::proofs::Steps::pairs_turned))]
 pub fn pairs(
     poly: scaled::Scaled,
     tol: f64,

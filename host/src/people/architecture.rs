@@ -1,5 +1,6 @@
 //! The crates by layer, as crates.txt has them: a table in docs/ARCHITECTURE.md between two marks,
 //! and a picture, docs/layers.svg. tests/documents.rs says where one is no longer true.
+use crate::people::documents::listed;
 use crate::people::picture;
 use std::collections::BTreeSet;
 use std::path::Path;
@@ -9,7 +10,7 @@ use std::{fs, io};
 pub struct Crate {
     pub name: String,
     pub layer: usize,
-    /// As crates.txt has them, without those of the kit.
+    /// As crates.txt has them, without the kit's libraries.
     pub needs: Vec<usize>,
     /// Those that no other one of them implies.
     pub direct: Vec<usize>,
@@ -31,7 +32,7 @@ impl Layers {
             if let Some(title) = line.strip_prefix("# ") {
                 let (name, words) = title.split_once(": ").unwrap_or((title, ""));
                 layers.titles.push((name.to_string(), words.trim_end_matches('.').to_string()));
-            } else if let Some((name, needs)) = line.split_once(':') {
+            } else if let Some((name, needs)) = listed(line) {
                 let needs: Vec<usize> =
                     needs.split_whitespace().filter_map(|need| layers.number(need)).collect();
                 let implied = |need: &usize| needs.iter().any(|by| below[*by].contains(need));
@@ -101,7 +102,7 @@ mod tests {
 
     #[test]
     fn implied_dependencies_are_left_out() {
-        let text = "# Tools: a, b.\na:\nb: a\n\n# Layer 1: c, d.\nc: a b io\nd: a c b\n";
+        let text = "# Tools: a, b.\na:\nb: a\n\n# Layer 1: c, d.\nc: a b io\nd staticlib: a c b\n";
         let layers = Layers::read(text);
         let direct: Vec<&[usize]> = layers.crates.iter().map(|c| &c.direct[..]).collect();
         assert_eq!(direct, [&[][..], &[0], &[1], &[2]]);

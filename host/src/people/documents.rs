@@ -55,27 +55,50 @@ pub fn crates(root: &Path) -> io::Result<Vec<String>> {
     let list = fs::read_to_string(root.join("crates.txt"))?;
     let names = list.lines().filter(|line| !line.starts_with('#'));
     let mut names: Vec<String> =
-        names.filter_map(|line| Some(line.split_once(':')?.0.to_string())).collect();
+        names.filter_map(|line| Some(listed(line)?.0.to_string())).collect();
     names.sort();
     Ok(names)
+}
+
+/// A line of crates.txt: the crate, without the words that may stand behind its name, and what it
+/// rests on.
+pub fn listed(line: &str) -> Option<(&str, &str)> {
+    let (name, needs) = line.split_once(':')?;
+    Some((name.split_whitespace().next()?, needs))
 }
 
 /// The name of the public function that a line begins.
 fn public_name(line: &str) -> Option<&str> {
     let rest = line.trim_start().strip_prefix("pub ")?;
     let rest = rest.strip_prefix("extern \"C\" ").unwrap_or(rest).strip_prefix("fn ")?;
-    rest.split_once('(').map(|(name, _)| name)
+    rest.split_once(['(', '<']).map(|(name, _)| name)
 }
 
-/// The facts of a clause, without its braces: `requires { .. }` may stand on several lines.
+/// The facts of the clauses of a kind, without their names and braces: `requires NAME { .. }`, or
+/// with no name, may stand on several lines.
 fn clauses(header: &str, word: &str) -> Vec<String> {
-    let parts = header.split("requires {").flat_map(|part| part.split("ensures {"));
-    let texts = parts.skip(1).map(|part| part.trim().trim_end_matches('}').trim());
-    let words = header.match_indices("requires {").map(|(at, _)| (at, "requires"));
-    let words = words.chain(header.match_indices("ensures {").map(|(at, _)| (at, "ensures")));
-    let words: BTreeMap<usize, &str> = words.collect();
-    let own = words.into_values().zip(texts).filter(|(kind, _)| *kind == word);
-    own.map(|(_, text)| text.split_whitespace().collect::<Vec<_>>().join(" ")).collect()
+    let begun = |line: &str| {
+        let (kind, rest) = line.trim_start().split_once(' ')?;
+        let (name, fact) = rest.split_once('{')?;
+        let clause = ["requires", "ensures"].contains(&kind) && !name.trim().contains(' ');
+        clause.then(|| (kind.to_string(), fact.to_string()))
+    };
+    let mut all: Vec<(String, String)> = Vec::new();
+    for line in header.lines() {
+        match (begun(line), all.last_mut()) {
+            (Some(clause), _) => all.push(clause),
+            (None, Some((_, fact))) => *fact += &format!(" {line}"),
+            (None, None) => {}
+        }
+    }
+    let own = all.iter().filter(|(kind, _)| kind == word);
+    let facts = own.map(|(_, text)| text.trim().strip_suffix('}').unwrap_or(text));
+    facts.map(|text| text.split_whitespace().collect::<Vec<_>>().join(" ")).collect()
+}
+
+/// The facts of several clauses, as a document has them.
+pub fn facts(clauses: &[String]) -> String {
+    clauses.iter().map(|fact| format!("`{fact}`")).collect::<Vec<_>>().join("; ")
 }
 
 /// The public functions of one file.
@@ -107,7 +130,7 @@ pub fn functions(root: &Path) -> io::Result<Vec<Function>> {
     Ok(found)
 }
 
-/// What a contract says that is no single equation `r ≡ definition`.
+/// What a contract says that is no single equation `result ≡ definition`.
 const KINDS: [(&str, &str); 4] = [
     (
         "Stored ",
@@ -126,20 +149,17 @@ fn kind(f: &Function) -> Option<String> {
     if f.ensures.is_empty() {
         return Some("nothing of the result: a first guess, or a program".to_string());
     }
-    let text = f.ensures.join(" ∗ ");
-    let (result, fact) = text.split_once('.').unwrap_or(("", &text));
-    let fact = fact.trim();
-    let result = result.trim_start_matches('λ').trim();
+    let fact = &f.ensures[0];
     for (word, says) in KINDS {
-        if fact.starts_with(&format!("⌜ {word}"))
-            || word == "sets " && fact.contains("≡ sets (") && f.ensures.len() == 1
+        if fact.starts_with(word)
+            || word == "sets " && fact.contains("≡ sets ") && f.ensures.len() == 1
         {
             return Some(says.to_string());
         }
     }
-    let one = f.ensures.len() == 1 && !fact.contains('×') && !fact.contains('∗');
-    let equation = fact.starts_with(&format!("⌜ {result} ≡ "));
-    if one && equation { None } else { Some(format!("`{text}`")) }
+    let one = f.ensures.len() == 1 && !fact.contains('×') && !fact.contains('→');
+    let equation = fact.starts_with("result ≡ ");
+    if one && equation { None } else { Some(facts(&f.ensures)) }
 }
 
 /// Names by what they share, the most first.
@@ -160,18 +180,18 @@ fn table(text: &mut String, head: &str, groups: &[(String, Vec<String>)]) {
     }
 }
 
-/// docs/EXCEPTIONS.md: the public functions whose contract is not `r ≡ definition` alone, and those
+/// docs/EXCEPTIONS.md: the public functions whose contract is not `result ≡ definition` alone, and those
 /// that require something.
 pub fn exceptions(functions: &[Function]) -> String {
     let others = functions.iter().filter_map(|f| Some((kind(f)?, f.name.clone())));
     let others = grouped(others);
     let bound = functions.iter().filter(|f| !f.requires.is_empty());
-    let bound = grouped(bound.map(|f| (format!("`{}`", f.requires.join(" ∗ ")), f.name.clone())));
+    let bound = grouped(bound.map(|f| (facts(&f.requires), f.name.clone())));
     let count = |groups: &[(String, Vec<String>)]| groups.iter().map(|g| g.1.len()).sum::<usize>();
     let mut text = format!(
         "# Contracts that say something else, or require something\n\n\
          Made by `hall documents` from crates/*/src; a test says where it is no longer true.\n\n\
-         Of {} public functions {} say `r ≡ definition` of their arguments and nothing else, and {} require nothing.\n\n\
+         Of {} public functions {} say `result ≡ definition` of their arguments and nothing else, and {} require nothing.\n\n\
          ## What the other {} say\n",
         functions.len(),
         functions.len() - count(&others),

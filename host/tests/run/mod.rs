@@ -50,13 +50,13 @@ pub fn made(text: &str) -> Vec<u8> {
     out.stdout
 }
 
-/// The program `hallroots`, where it is built; where CI is true, it must be.
+/// The program `hallroots`, where `.ci/run` has put it; where CI is true, it must be there.
 pub fn hallroots() -> Option<&'static Path> {
     let path = Path::new(concat!(env!("CARGO_MANIFEST_DIR"), "/../target/bin/hallroots"));
     if path.exists() {
         return Some(path);
     }
-    let missing = format!("{} is missing: run `rt check hallroots`", path.display());
+    let missing = format!("{} is missing: run `.ci/run`", path.display());
     assert!(std::env::var("CI").as_deref() != Ok("true"), "{missing}");
     host::compare::say(&format!("{missing}; the program is not tried"));
     None

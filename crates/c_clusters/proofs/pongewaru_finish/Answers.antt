@@ -23,13 +23,9 @@ candidates_at-requires c = (holding _ _ _ _ c.lacks.ensures c.if-lacks.false).0
 
 pub finish-s-requires : goal.finish-s-requires
 finish-s-requires c =
-    let few = (holding _ _ _ _ c.lacks.ensures c.if-lacks.false).1.0 in (
-      c.poly_at.ensures.1,
-      (
-        subst⁻¹ (λ (s : Roots). s.len ≤ 4) c.candidates_at.ensures.0 (unfold candidates_at in few),
-        c.candidates_at.ensures.1,
-      ),
-    )
+    let few = (holding _ _ _ _ c.lacks.ensures c.if-lacks.false).1.0 in
+    let len = subst⁻¹ (λ (s : Roots). s.len ≤ 4) c.candidates_at.ensures.0 (unfold candidates_at in few) in
+    record { poly_d_high = c.poly_at.ensures.1; c_fits = (len, c.candidates_at.ensures.1) }
 
 pub root_numbers-requires : goal.root_numbers-requires
 root_numbers-requires c = finish_fits _ _ _ c.finish-s.ensures

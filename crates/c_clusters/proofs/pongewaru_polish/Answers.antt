@@ -9,7 +9,7 @@ unfolding of_bits div
 returns-then-lacks_five c = is_other _ _ c.lacks_five.ensures c.if-lacks_five.true
 
 pub poly_at-p-requires : goal.poly_at-p-requires
-poly_at-p-requires c = accepted _ _ c.lacks_five.ensures c.if-lacks_five.false
+poly_at-p-requires c = let ok = accepted _ _ c.lacks_five.ensures c.if-lacks_five.false in record { a_length = ok.0; d_high = ok.1 }
 
 pub returns : goal.returns
 returns c =

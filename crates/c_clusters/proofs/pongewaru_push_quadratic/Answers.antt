@@ -26,7 +26,8 @@ pairs_at-requires c = (holding _ _ _ _ c.lacks.ensures c.if-lacks.false).0
 pub found_numbers-requires : goal.found_numbers-requires
 found_numbers-requires c =
     let few = (holding _ _ _ _ c.lacks.ensures c.if-lacks.false).1 in
-    quadratic_fits _ _ _ _ _ _ _ few.0 few.1 c.candidates_at.ensures.0 c.pairs_at.ensures c.push_quadratic-s.ensures
+    let fit = quadratic_fits _ _ _ _ _ _ _ few.0 few.1 c.candidates_at.ensures.0 c.pairs_at.ensures c.push_quadratic-s.ensures in
+    record { fits = fit.0; pairs_fit = fit.1 }
 
 pub returns : goal.returns
 returns c =

@@ -2,14 +2,8 @@
 use mathlib.Core.Path.{sym, ◌∙◌}
 use native.Mathlib.Omega.{arith}
 use Rattle.formula.proofs.Bytes.{digit_inside}
-use Rattle.formula.proofs.Factors.{counted_none, counted_small, counted_next, number_long, number_none, number_some}
+use Rattle.formula.proofs.Factors.{counted_none, counted_small, counted_next, number_none, number_some}
 use Rattle.formula.proofs.number.Goals as goal
-
-pub returns-then-i-at-eq9 : goal.returns-then-i-at-eq9
-returns-then-i-at-eq9 c =
-    let digit = sym c.digit_at.ensures ∙ c.loop-at-test.true in
-    let is = number_long _ _ c.loop-at.i c.loop-at.n c.loop-at.invariant digit c.if-i-at-eq9.true _ c.failed.ensures in
-    record { ahead = is.0; based = is.1 }
 
 pub digit-requires : goal.digit-requires
 digit-requires c = sym c.digit_at.ensures ∙ c.loop-at-test.true
@@ -26,7 +20,7 @@ loop-at-smaller c = omega (arith, digit_inside _ _ (sym c.digit_at.ensures ∙ c
 pub loop-at-preserved : goal.loop-at-preserved
 loop-at-preserved c =
     let digit = sym c.digit_at.ensures ∙ c.loop-at-test.true in
-    counted_next _ _ _ _ _ c.loop-at.invariant c.if-i-at-eq9.false digit (c.digit.ensures.value, c.digit.ensures.high)
+    counted_next _ _ _ _ _ c.loop-at.invariant (λ e. omega arith) digit (c.digit.ensures.value, c.digit.ensures.high)
 
 pub returns-then-i-at : goal.returns-then-i-at
 returns-then-i-at c =

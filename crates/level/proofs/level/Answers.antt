@@ -30,7 +30,7 @@ loop-i-preserved c =
       search rules,
       c.most-hi.ensures.2,
       omega (arith, v, c.least-lo-in-loop-i.ensures),
-      seen_more _ _ _ v.4 (a.0 (lt_of_le-ne a.1 c.if-k-eq4096.false)) c.least-lo-in-loop-i.ensures.0
+      seen_more _ _ _ v.4 (a.0 (omega (arith, a.1))) c.least-lo-in-loop-i.ensures.0
           (omega (arith, c.least-lo-in-loop-i.ensures, c.raised-t.ensures)) c.most-hi.ensures.0 (omega (arith, c.most-hi.ensures, c.raised-t.ensures)),
     )
 

@@ -8,8 +8,5 @@ use Rattle.poly.proofs.logs.Goals as goal
 pub returns-then-all : goal.returns-then-all
 returns-then-all c = (search rules, λ e. refl, inl refl)
 
-pub returns-then-level : goal.returns-then-level
-returns-then-level c = (search rules, λ e. absurd (false≢true (sym c.if-all.false ∙ e)), inr (refl, c.level.ensures c.if-level.true))
-
 pub returns : goal.returns
 returns c = (search rules, λ e. refl, inl refl)

@@ -5,8 +5,7 @@ use lib.IntN.{pos}
 use borrow.Author.Rules.{rules}
 use Rattle.decode.proofs.Class.{decoded_irregular, decoded_regular, decoded_normal}
 use Rattle.scaled.proofs.Signed.{small_fits, less}
-use Rattle.scaled.proofs.Best.{best_none, best_raised, best_kept, exponent_irregular, exponent_none, exponent_some}
-use Rattle.scaled.proofs.scale_exponent.Goals.{then-k-r, else-k-r}
+use Rattle.scaled.proofs.Best.{best_none, best_more, exponent_irregular, exponent_none, exponent_some}
 use Rattle.scaled.proofs.scale_exponent.Goals as goal
 
 pub returns-then-lead-eq0 : goal.returns-then-lead-eq0
@@ -23,13 +22,7 @@ reach-r-requires c =
 pub loop-i-preserved : goal.loop-i-preserved
 loop-i-preserved c =
     let n = decoded_normal _ _ _ c.normal_of-lead.ensures c.if-lead-eq0.false in
-    let h = c.loop-i.invariant.1 in (
-      search rules,
-      elim c.if-k-r.branch [
-        | then-k-r w ↦ best_raised _ _ _ _ _ _ _ n.value c.reach-r.ensures h _ w.k-is w.if-k-r.true
-        | else-k-r w ↦ best_kept _ _ _ _ _ _ _ n.value c.reach-r.ensures h _ w.k-is w.if-k-r.false
-      ],
-    )
+    (search rules, best_more _ _ _ _ _ _ _ n.value c.reach-r.ensures c.loop-i.invariant.1 _ (grind arith) (grind arith))
 
 pub returns-then-k-eq0 : goal.returns-then-k-eq0
 returns-then-k-eq0 c =

@@ -22,13 +22,13 @@ const OTHERWISE: [(&str, Parts); 7] = [
             ("inquiry::Inquiry::ask", ""),
             ("inquiry::Inquiry::reply", ""),
             ("touching::Replies::with", ""),
-            ("touching::pairs", "pairTurn"),
-            ("touching::chains", "itemTurn"),
+            ("touching::pairs", "pair_turn"),
+            ("touching::chains", "item_turn"),
             ("touching::emit", "emitted"),
         ],
     ),
     ("Candidates::push", &[("Roots::keep", "")]),
-    ("Scaled::unscaled", &[("poly::unscaled_at", "unscaledIn")]),
+    ("Scaled::unscaled", &[("poly::unscaled_at", "unscaled_in")]),
     (
         "factorize",
         &[
@@ -168,11 +168,11 @@ impl Row<'_> {
         format!("{}::{}", self.owner.name, self.code.last_name())
     }
 
-    /// What others must not reach into: they have a row of their own.
+    /// What others must not reach into: they have a row of their own. A definition may have a
+    /// function's name, so their files stand with them.
     fn taken(&self) -> [String; 2] {
-        let told_in = self.definition_file.split('/').nth(1).unwrap_or_default();
-        let code = format!("{}::{}", self.owner.name, self.code.name);
-        [code, format!("{told_in}::{}", self.definition)]
+        let told_in = self.definition_file.trim_start_matches("crates/");
+        [self.owner.place(self.code), format!("{told_in}::{}", self.definition)]
     }
 }
 
@@ -203,13 +203,6 @@ fn counterparts(all: &[Crate], name: &str) -> io::Result<Vec<(String, &'static s
     Ok(vec![(own.to_string(), "")])
 }
 
-/// A function's name as definitions have it: `two_prod` is `twoProd` there.
-fn in_one_word(name: &str) -> String {
-    let mut words = name.split('_');
-    let first = words.next().unwrap_or_default().to_string();
-    words.fold(first, |all, word| all + &word[..1].to_uppercase() + &word[1..])
-}
-
 /// The definition that a contract names, and its file: that of the function's own name, or the
 /// first.
 fn definition(owner: &Crate, code: &Piece, told: &str) -> io::Result<(String, String)> {
@@ -220,8 +213,8 @@ fn definition(owner: &Crate, code: &Piece, told: &str) -> io::Result<(String, St
         let at = owner.uses.iter().find(|u| u.0 == code.file && u.1 == name).map(|u| &u.2)?;
         at.contains("/specs/").then(|| (name.to_string(), at.clone()))
     };
-    let usual = |name: &&str| name.ends_with("Of") || name.ends_with("In");
-    let same = format!("{}Of", in_one_word(code.last_name()));
+    let usual = |name: &&str| name.ends_with("_of") || name.ends_with("_in");
+    let same = format!("{}_of", code.last_name());
     let found = match told {
         "" if names(fact).any(|name| name == same) => own(&same),
         "" => names(fact).filter(usual).find_map(own).or_else(|| names(fact).find_map(own)),
@@ -323,7 +316,7 @@ fn demands(root: &Path) -> io::Result<Vec<Vec<String>>> {
     let proved = fs::read_to_string(root.join(at))?;
     let whole = |text: &str| wrong(format!("{text} is not found in Demands.antt and Proved.antt"));
     let fields = stated.split_once("pub record Demands ").ok_or_else(|| whole("Demands"))?.1;
-    let laws = used(&proved);
+    let laws = used(root, &proved);
     let mut rows = Vec::new();
     for line in fields.lines().filter_map(|line| line.strip_prefix("  pub ")) {
         let (field, record) = line.split_once(" : ").ok_or_else(|| whole(line))?;

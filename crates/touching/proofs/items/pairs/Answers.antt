@@ -3,8 +3,8 @@ use native.Mathlib.Omega.{arith}
 use Rattle.roots.specs.Roots.{list_of, pair_list_of}
 use Rattle.touching.specs.Touching.{pair_turn}
 use Rattle.touching.specs.Replies.{replies_of}
-use Rattle.touching.proofs.Lists.{pairs_none, pairs_one, pairs_two}
-use Rattle.touching.proofs.Steps.{order_none, order_one, order_kept, order_turned}
+use Rattle.touching.proofs.Lists.{pairs_none, pairs_one}
+use Rattle.touching.proofs.Steps.{order_none, order_one}
 use Rattle.touching.proofs.items.pairs.Goals as goal
 
 pub returns-then-ps-eq0 : goal.returns-then-ps-eq0
@@ -33,24 +33,6 @@ pub pair_turn-w-requires : goal.pair_turn-w-requires
 pair_turn-w-requires c =
     let pre = c.requires in (pre.0, pre.1, pre.2, omega (arith, pre.4, c.if-ps-eq0.false))
 
-pub pair_turn-requires-then-q-p : goal.pair_turn-requires-then-q-p
-pair_turn-requires-then-q-p c =
-    let pre = c.requires in
-    let adds = c.pair_turn-w.ensures.1 in
-    (pre.0, pre.1, adds.0, omega (arith, adds.1, pre.4, c.if-ps-eq0.false, c.if-ps-eq1.false))
-
-pub returns-then-q-p : goal.returns-then-q-p
-returns-then-q-p c =
-    let a = c.args in
-    let two = pairs_two a.ps c.requires.3 c.if-ps-eq0.false c.if-ps-eq1.false in
-    let one = c.pair_turn-w.ensures in
-    let turn = c.pair_turn-then-q-p.ensures in (
-      order_turned (pair_turn a.poly a.tol) (list_of a.items) (replies_of a.replies) (pair_list_of a.ps) _ _ _ _ two
-          c.if-q-p.true one.0 turn.0,
-      turn.1.0,
-      omega (arith, one.1.2, turn.1.2, c.requires.5, c.if-ps-eq0.false, c.if-ps-eq1.false),
-    )
-
 pub pair_turn-w-requires-2 : goal.pair_turn-w-requires-2
 pair_turn-w-requires-2 c =
     let pre = c.requires in (pre.0, pre.1, pre.2, omega (arith, pre.4, c.if-ps-eq0.false))
@@ -60,15 +42,3 @@ pair_turn-requires-2 c =
     let pre = c.requires in
     let adds = c.pair_turn-w-2.ensures.1 in
     (pre.0, pre.1, adds.0, omega (arith, adds.1, pre.4, c.if-ps-eq0.false, c.if-ps-eq1.false))
-
-pub returns : goal.returns
-returns c =
-    let a = c.args in
-    let two = pairs_two a.ps c.requires.3 c.if-ps-eq0.false c.if-ps-eq1.false in
-    let one = c.pair_turn-w-2.ensures in
-    let turn = c.pair_turn-2.ensures in (
-      order_kept (pair_turn a.poly a.tol) (list_of a.items) (replies_of a.replies) (pair_list_of a.ps) _ _ _ _ two
-          c.if-q-p.false one.0 turn.0,
-      turn.1.0,
-      omega (arith, one.1.2, turn.1.2, c.requires.5, c.if-ps-eq0.false, c.if-ps-eq1.false),
-    )

@@ -1,0 +1,11 @@
+-- Every listing fits (`listing_fits`).
+use Rattle.std.proofs.Common.{rules, ◌≡◌, ◌≤◌, length, take, sym, arith, length-take-le}
+use Rattle.listing.proofs.Bound.{listing_fits}
+use Rattle.listing_io.proofs.list_fd.Goals as goal
+
+pub returns-clause-prefix_len : goal.returns-clause-prefix_len
+returns-clause-prefix_len g c =
+    let count = c.list_file-len.ensures.value in
+    let room : length c.list_file-len.new.out ≡ 524308 = search rules in
+    let fits : c.list_file-len.result ≤ length c.list_file-len.new.out = omega (arith, count, room, listing_fits (take c.read_file-input.result.len c.read_file-input.new.buf)) in
+    (fits, sym (length-take-le _ c.list_file-len.new.out fits))
