@@ -25,6 +25,9 @@ use Rattle.factors.specs.Factors.{no_factors, push_lin_of, push_quad_of, degree_
 use Rattle.large_factors.specs.Large.{large_of}
 use Rattle.quotient.specs.declared.Monic.{Monic}
 use Rattle.quotient.specs.Quotient.{product_of, quotient_of, usable_of, merged_of}
+use Rattle.factorize.specs.declared.Rooted.{Rooted}
+use Rattle.factorize.specs.Discs.{rooted_of}
+use Rattle.factorize.proofs.Discs.{the_factors, handed_on_is}
 use Rattle.factorize.specs.Factorize.{paired_of, quartic_factors_of, out_of, second_of, factors_from, factorize_of}
 
 -- ---- a quartic
@@ -84,3 +87,11 @@ module _ (depth : ℕ) (sc : Scaled) (out : Factors) (O : out ≡ out_of sc.g sc
             split_up sub inner r e k B I Z R =
                 rw (left_is, lt-leb sc.d 2 l, sym O, sym G ∙ f, rw (N, L) at (eq-eqb n (sc.d - small) q), rw (S, P, L) at (sym U ∙ k))
                 (R ∙ rw (Z, I, B, S, P, L))
+
+-- ---- where the factors of this scale are all
+module _ (sc : Scaled) (depth : ℕ) (r : Rooted) (is : r ≡ rooted_of (out_of sc.g sc.d)) where
+  pub stops_deep : 3 ≤ depth → r ≡ rooted_of (factorize_of sc depth)
+  stops_deep h = handed_on_is _ is (at_depth_three depth sc r.f (the_factors is) h)
+
+  pub stops_small : depth < 3 → sc.d ≤ 2 → r ≡ rooted_of (factorize_of sc depth)
+  stops_small k h = handed_on_is _ is (at_degree_two depth sc r.f (the_factors is) k h)

@@ -86,6 +86,7 @@ fn out_of(g: [f64; 5], d: usize) -> Rooted
 }
 
 // A quadratic needs no second scaling: its roots are accurate each.
+#[tactic(auto, using(crate::proofs::Ways::stops_deep, crate::proofs::Ways::stops_small))]
 pub fn factorize_rooted(sc: scaled::Scaled, depth: u32) -> Rooted
     requires { sc.d ≤ 4 }
     ensures { result ≡ rooted_of (factorize_of sc depth) }

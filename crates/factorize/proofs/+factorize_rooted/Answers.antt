@@ -4,22 +4,14 @@ use native.Mathlib.Omega.{arith}
 use Rattle.factorize.specs.Discs.{rooted_of}
 use Rattle.factorize.proofs.Discs.{the_factors, handed_on_is}
 use Rattle.factorize.proofs.Sizes.{out_fits, gap_inside, sized, sub_degree, exponent_read, sub_exponent, inner_sized}
-use Rattle.factorize.proofs.Ways.{at_depth_three, at_degree_two, without_gap, other_degree, unusable, split_up}
+use Rattle.factorize.proofs.Ways.{without_gap, other_degree, unusable, split_up}
 use Rattle.factorize.proofs.+factorize_rooted.Goals as goal
-
-pub returns-then-depth-ge3 : goal.returns-then-depth-ge3
-returns-then-depth-ge3 t c =
-    let o = c.out_of-out.ensures in handed_on_is _ o (at_depth_three _ _ _ (the_factors o) c.if-depth-ge3.true)
-
-pub returns-then-d-le2 : goal.returns-then-d-le2
-returns-then-d-le2 t c =
-    let o = c.out_of-out.ensures in handed_on_is _ o (at_degree_two _ _ _ (the_factors o) c.if-depth-ge3.false c.if-d-le2.true)
 
 pub returns-in_default : goal.returns-in_default
 returns-in_default t c =
     let o = c.out_of-out.ensures in
     handed_on_is _ o
-    (without_gap _ _ _ (the_factors o) c.if-depth-ge3.false c.if-d-le2.false _ c.magnitude_split-gap.ensures c.in_default.is)
+    (without_gap _ _ _ (the_factors o) (omega arith) (omega arith) _ c.magnitude_split-gap.ensures c.in_default.is)
 
 pub overflow_sub-d : goal.overflow_sub-d
 overflow_sub-d t c = omega (arith, gap_inside _ _ _ _ _ c.magnitude_split-gap.ensures c.in-Gap.is c.requires)
@@ -37,7 +29,7 @@ pub returns-then-degree-d : goal.returns-then-degree-d
 returns-then-degree-d t c =
     let o = c.out_of-out.ensures in
     handed_on_is _ o
-    (other_degree _ _ _ (the_factors o) c.if-depth-ge3.false c.if-d-le2.false _ c.magnitude_split-gap.ensures _ _ c.in-Gap.is _
+    (other_degree _ _ _ (the_factors o) (omega arith) (omega arith) _ c.magnitude_split-gap.ensures _ _ c.in-Gap.is _
     c.large-large.ensures _ c.degree.ensures c.if-degree-d.true)
 
 pub quotient-s-requires : goal.quotient-s-requires
@@ -50,7 +42,7 @@ pub returns-then-not-usable : goal.returns-then-not-usable
 returns-then-not-usable t c =
     let o = c.out_of-out.ensures in
     handed_on_is _ o
-    (unusable _ _ _ (the_factors o) c.if-depth-ge3.false c.if-d-le2.false _ c.magnitude_split-gap.ensures _ _ c.in-Gap.is _
+    (unusable _ _ _ (the_factors o) (omega arith) (omega arith) _ c.magnitude_split-gap.ensures _ _ c.in-Gap.is _
     c.large-large.ensures _ c.degree.ensures c.if-degree-d.false _ c.product.ensures _ c.quotient-s.ensures _ c.usable.ensures
     c.if-not-usable.true)
 
@@ -60,7 +52,7 @@ new-sub-requires t c = omega (arith, gap_inside _ _ _ _ _ c.magnitude_split-gap.
 pub factorize_rooted-inner-requires : goal.factorize_rooted-inner-requires
 factorize_rooted-inner-requires t c =
     let small = gap_inside _ _ _ _ _ c.magnitude_split-gap.ensures c.in-Gap.is c.requires in
-    (omega (arith, c.decreases, c.if-depth-ge3.false), sub_degree _ _ _ c.new-sub.ensures (omega (arith, small, c.requires)))
+    (omega (arith, c.decreases), sub_degree _ _ _ c.new-sub.ensures (omega (arith, small, c.requires)))
 
 pub merged-requires-clause-sized : goal.merged-requires-clause-sized
 merged-requires-clause-sized t c =
@@ -73,7 +65,7 @@ merged-requires-clause-e_size t c = sub_exponent _ _ _ c.new-sub.ensures
 pub returns : goal.returns
 returns t c =
     c.with_discs.ensures ∙ ap rooted_of
-    (split_up _ _ _ (the_factors c.out_of-out.ensures) c.if-depth-ge3.false c.if-d-le2.false _ c.magnitude_split-gap.ensures _ _ c.in-Gap.is _
+    (split_up _ _ _ (the_factors c.out_of-out.ensures) (omega arith) (omega arith) _ c.magnitude_split-gap.ensures _ _ c.in-Gap.is _
     c.large-large.ensures _ c.degree.ensures c.if-degree-d.false _ c.product.ensures _ c.quotient-s.ensures _ c.usable.ensures
     _ _ _ _ c.if-not-usable.false c.new-sub.ensures (the_factors c.factorize_rooted-inner.ensures)
     (exponent_read _ _ _ c.new-sub.ensures) c.merged.ensures)

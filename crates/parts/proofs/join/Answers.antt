@@ -1,5 +1,4 @@
 -- By the numbers of the operands, and by the length of what is made.
-use mathlib.Core.Path.{◌∙◌}
 use native.Mathlib.Omega.{arith}
 use Rattle.parts.proofs.Joins.{join_left, join_right, join_both}
 use Rattle.parts.proofs.join.Goals as goal

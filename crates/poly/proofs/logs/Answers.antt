@@ -1,7 +1,6 @@
 -- `level` says that there is no gap.
-use mathlib.Core.Path.{refl, sym, ◌∙◌}
-use mathlib.Core.Bool.{false≢true}
-use mathlib.Core.Logic.{inl, inr}
+use mathlib.Core.Path.{refl}
+use mathlib.Core.Logic.{inl}
 use borrow.Author.Rules.{rules}
 use Rattle.poly.proofs.logs.Goals as goal
 

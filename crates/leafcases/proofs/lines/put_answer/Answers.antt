@@ -1,5 +1,5 @@
 -- Each leaf's line is that of its letter, and no other letter has one.
-use Rattle.std.proofs.Common.{rules, ◌≡◌, sym, [], w32}
+use Rattle.std.proofs.Common.{◌≡◌, sym, [], w32}
 use borrow.Author.Tests.{ne_eqb}
 use mir.Facts.{to_z-of_z}
 use Rattle.text.proofs.Laws.{written_none, written_as}

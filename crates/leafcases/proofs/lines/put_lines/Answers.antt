@@ -1,4 +1,4 @@
-use Rattle.std.proofs.Common.{rules, arith}
+use Rattle.std.proofs.Common.{arith}
 use Rattle.leafcases.proofs.Files.{sofar_none, sofar_end, sofar_bad, sofar_next}
 use Rattle.leafcases.proofs.lines.put_lines.Goals as goal
 

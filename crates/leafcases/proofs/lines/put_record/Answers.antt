@@ -1,12 +1,12 @@
 -- Its tests are those of the definition, and where they all pass the line is that of the record's letter.
-use Rattle.std.proofs.Common.{rules, ◌≡◌, sym, ap, subst, ◌∙◌, ℕ, ◌+◌, ◌-◌, ◌/◌, ◌^◌, ◌<◌, ◌≤◌, ℤ, w32, arith}
+use Rattle.std.proofs.Common.{sym, ap, subst, ◌∙◌, ℕ, ◌+◌, ◌-◌, ◌/◌, ◌^◌, ◌<◌, ◌≤◌, ℤ, w32}
 use lib.Dec.{eqb}
 use lib.ListN.{get_or}
 use lib.Ieee.{Float}
 use mir.Facts.{to_z-of_z}
 use Rattle.ldexp.specs.Scale.{signed}
 use Rattle.text.proofs.Laws.{written_none, written_as}
-use Rattle.leafcases.specs.Lines.{leaf_answer_of, size_at, leaf_record_of}
+use Rattle.leafcases.specs.Lines.{leaf_answer_of, size_at}
 use Rattle.leafcases.proofs.Records.{too_short, is_too_large, no_sign, record_is}
 use Rattle.leafcases.proofs.lines.put_record.Goals as goal
 

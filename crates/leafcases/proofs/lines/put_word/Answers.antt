@@ -1,5 +1,5 @@
 -- By the word's kind: a blank, and then the digits.
-use Rattle.std.proofs.Common.{rules, ◌≡◌, sym, ap, ◌^◌, ◌<◌, ◌≤◌, ℕ, length, [], ◌∷◌, arith, ℤ, FitsSigned, w32}
+use Rattle.std.proofs.Common.{rules, ◌≡◌, sym, ap, ◌^◌, ◌<◌, ◌≤◌, length, [], ◌∷◌, arith, ℤ, FitsSigned, w32}
 use mir.Facts.{to_z-of_z}
 use lib.IntN.{pos, negsuc, nat_abs}
 use lib.Signed.{mag}
