@@ -342,7 +342,7 @@ fn demands(root: &Path) -> io::Result<Vec<Vec<String>>> {
 
 const HEAD: &str = "# From claim to proof\n\n\
     Made by `hall documents` from crates/ and geomcore's source; a test says where it is no longer true. \
-    A name with a slash is a must-fail edit, `crates/CRATE/must-fail/NAME.edit` or in the folder `more/` there, which the prover must refuse; \
+    A name with a slash is a must-fail edit, `crates/CRATE/must-fail/NAME.edit` or in the folder `must-fail-more/` beside it, which the prover must refuse; \
     [CONTRACTS.md](CONTRACTS.md) says what many of them show.\n";
 
 const FUNCTIONS: &str = "\n## The functions of the Rust\n\n\

@@ -47,7 +47,7 @@ pub struct Edit {
     pub name: String,
     pub file: String,
     line: usize,
-    /// The gate tries it: it does not stand in more/.
+    /// The gate tries it: it does not stand in must-fail-more/.
     pub gate: bool,
 }
 
@@ -180,8 +180,10 @@ pub fn read(root: &Path, name: &str) -> io::Result<Crate> {
                 .extend(used(root, &text).into_iter().map(|(name, at)| (file.clone(), name, at)));
         }
     }
-    for path in within("must-fail", ".edit")? {
-        all.edits.push(edit(name, &path, &folder)?);
+    for part in ["must-fail", "must-fail-more"] {
+        for path in within(part, ".edit")? {
+            all.edits.push(edit(name, &path, &folder)?);
+        }
     }
     all.edits.sort_by_key(|e| (!e.gate, e.name.clone()));
     Ok(all)
