@@ -15,7 +15,8 @@ use lib.Count.{count_trailing_zeros}
 use Rattle.float.specs.Units.{units_of}
 use Rattle.decode.specs.Exponent.{regular_of}
 use Rattle.decode.specs.Shape.{Normal, Decoded}
-use Rattle.decode.proofs.Class.{zero_is, not_zero, negative_view, positive_view, decoded_irregular, decoded_regular, decoded_normal}
+use Rattle.decode.proofs.Class.{zero_is, not_zero, negative_view, positive_view, decoded_irregular}
+use Rattle.std.specs.Prelude.{Some, None}
 use Rattle.nearest.specs.Greatest.{greatest, nearest_of, NearestHalf}
 use Rattle.nearest.proofs.ByTest.{half_bounds}
 use Rattle.angle.specs.declared.ThirdAngle.{ThirdAngle}
@@ -29,14 +30,14 @@ angle c s = record { cos = c; sin = s }
 
 -- ---- what the function returns
 
-no_digits : (c : Float) → c ≡ nan → CosineDigits c 0
-no_digits c e = record { none = λ z. e; some = λ p. absurd (p refl) }
+no_digits : (c : Float) → c ≡ nan → CosineDigits c None
+no_digits c e = record { none = λ z. e; some = λ m z. cc }
 
-all_are_digits : (c : Float) (m : ℕ) → 2 ^ 52 ≤ m → m ≤ 2 ^ 53 → c ≡ odd 54 false m 1021 1074 → CosineDigits c m
-all_are_digits c m a b e = record { none = λ z. absurd (some m a z); some = λ p. (a, b, e) }
-  where
-    some : (m : ℕ) → 2 ^ 52 ≤ m → m ≡ 0 → ⊥
-    some m a z = omega arith
+all_are_digits : (c : Float) (m : ℕ) → 2 ^ 52 ≤ m → m ≤ 2 ^ 53 → c ≡ odd 54 false m 1021 1074 → CosineDigits c (Some m)
+all_are_digits c m a b e = record {
+  none = λ z. cc;
+  some = λ n z. let q : m ≡ n = cc in subst (λ (x : ℕ). (2 ^ 52 ≤ x) × (x ≤ 2 ^ 53) × (c ≡ odd 54 false x 1021 1074)) q (a, b, e);
+}
 
 -- ---- the definition by the sign and the units of v
 
@@ -79,7 +80,7 @@ unfolding cos_units nearest_of greatest round size units odd count_trailing_zero
 at_one true = refl
 at_one false = refl
 
-pub digits_zero : (v : Float) → eq v (fin false 0 (pos 0)) ≡ true → CosineDigits (cos_of v) 7800463371553962
+pub digits_zero : (v : Float) → eq v (fin false 0 (pos 0)) ≡ true → CosineDigits (cos_of v) (Some 7800463371553962)
 digits_zero v z =
     let x = zero_is v z in
     let none : units_of (fin x.0 0 x.1) ≡ 0 = ap (λ (a : ℕ). a * 2 ^ 1074 / down x.1) (zero-mul (up x.1)) ∙ zero-div (down x.1) in
@@ -88,57 +89,50 @@ digits_zero v z =
 
 -- ---- by the digits of v
 
-module _ (v : Float) (w k : ℕ) (d : Decoded v w k) where
-  pub digits_none : eq v (fin false 0 (pos 0)) ≡ false → w ≡ 0 → CosineDigits (cos_of v) 0
-  digits_none e z = no_digits _ (cos_irregular v e (decoded_irregular v w k d z))
+pub digits_none : (v : Float) → Decoded v None → eq v (fin false 0 (pos 0)) ≡ false → CosineDigits (cos_of v) None
+digits_none v d e = no_digits _ (cos_irregular v e (decoded_irregular v d))
 
-  module _ (z : w ≡ 0 → ⊥) where
-    n : Normal (units_of v) w k
-    n = decoded_normal v w k d z
+module _ (v : Float) (w k : ℕ) (n : Normal (units_of v) w k) (r : regular_of v ≡ true) where
+  units_below : k < 1074 → units_of v < 2 ^ 1074
+  units_below l =
+      lt_of_mul-lt-mul_right (2 ^ 52)
+      (subst (λ (x : ℕ). x < 2 ^ 1074 * 2 ^ 52) n.value (lt_of_lt_of_le (mul-lt-mul_of_pos_right n.short (pow_pos k))
+      (mul-le-mul_left (2 ^ 53) (pow_mono (let e : k ≤ 1073 = omega arith in e)))))
 
-    r : regular_of v ≡ true
-    r = decoded_regular v w k d z
+  units_one : 1074 ≤ k → k ≤ 1074 → w ≤ 2 ^ 52 → units_of v ≡ 2 ^ 1074
+  units_one a b l =
+      eq_of_mul-eq-mul_right (2 ^ 52) (pow_pos 52) (units_of v) (2 ^ 1074)
+      (sym n.value ∙ ap₂ (λ (x y : ℕ). x * 2 ^ y) (let e : w ≡ 2 ^ 52 = omega (arith, n.led) in e) (let e : k ≡ 1074 = omega arith in e))
 
-    units_below : k < 1074 → units_of v < 2 ^ 1074
-    units_below l =
-        lt_of_mul-lt-mul_right (2 ^ 52)
-        (subst (λ (x : ℕ). x < 2 ^ 1074 * 2 ^ 52) n.value (lt_of_lt_of_le (mul-lt-mul_of_pos_right n.short (pow_pos k))
-        (mul-le-mul_left (2 ^ 53) (pow_mono (let e : k ≤ 1073 = omega arith in e)))))
+  units_above : 1074 ≤ k → (1074 < k) ⊎ (2 ^ 52 < w) → 2 ^ 1074 < units_of v
+  units_above a c = lt_of_mul-lt-mul_right (2 ^ 52) (subst (λ (x : ℕ). 2 ^ 1074 * 2 ^ 52 < x) n.value (go c))
+    where
+      go : (1074 < k) ⊎ (2 ^ 52 < w) → 2 ^ 52 * 2 ^ 1074 < w * 2 ^ k
+      go (inl l) = lt_of_lt_of_le (lit< tt) (mul-le-mul {n₁ = 2 ^ 52} {m₁ = 2 ^ 1075} n.led (pow_mono l))
+      go (inr l) = lt_of_lt_of_le (mul-lt-mul_of_pos_right l (pow_pos 1074)) (mul-le-mul_left w (pow_mono a))
 
-    units_one : 1074 ≤ k → k ≤ 1074 → w ≤ 2 ^ 52 → units_of v ≡ 2 ^ 1074
-    units_one a b l =
-        eq_of_mul-eq-mul_right (2 ^ 52) (pow_pos 52) (units_of v) (2 ^ 1074)
-        (sym n.value ∙ ap₂ (λ (x y : ℕ). x * 2 ^ y) (let e : w ≡ 2 ^ 52 = omega (arith, n.led) in e) (let e : k ≡ 1074 = omega arith in e))
+  pub digits_inside : (s : Bool) → lt v (fin false 0 (pos 0)) ≡ s → k < 1074 → (m : ℕ) → NearestHalf (cos_le (level_of s w k)) m → CosineDigits (cos_of v) (Some m)
+  digits_inside s e l m q =
+      let b = half_bounds _ (monotone (level_of s w k)) (sized (level_of s w k) (level_lt w k n.short l s)) m q in
+      all_are_digits _ _ b.0 b.1
+      (cos_is v r (le_of_lt (units_below l)) ∙ ap (λ (s : Bool). nearest_cos s (units_of v)) e
+      ∙ cos_nearest s (units_of v) w k m n (le_of_lt (units_below l)) l q)
 
-    units_above : 1074 ≤ k → (1074 < k) ⊎ (2 ^ 52 < w) → 2 ^ 1074 < units_of v
-    units_above a c = lt_of_mul-lt-mul_right (2 ^ 52) (subst (λ (x : ℕ). 2 ^ 1074 * 2 ^ 52 < x) n.value (go c))
-      where
-        go : (1074 < k) ⊎ (2 ^ 52 < w) → 2 ^ 52 * 2 ^ 1074 < w * 2 ^ k
-        go (inl l) = lt_of_lt_of_le (lit< tt) (mul-le-mul {n₁ = 2 ^ 52} {m₁ = 2 ^ 1075} n.led (pow_mono l))
-        go (inr l) = lt_of_lt_of_le (mul-lt-mul_of_pos_right l (pow_pos 1074)) (mul-le-mul_left w (pow_mono a))
+  pub digits_above : 1074 ≤ k → (1074 < k) ⊎ (2 ^ 52 < w) → CosineDigits (cos_of v) None
+  digits_above a c = no_digits _ (cos_above v (units_above a c))
 
-    pub digits_inside : (s : Bool) → lt v (fin false 0 (pos 0)) ≡ s → k < 1074 → (m : ℕ) → NearestHalf (cos_le (level_of s w k)) m → CosineDigits (cos_of v) m
-    digits_inside s e l m q =
-        let b = half_bounds _ (monotone (level_of s w k)) (sized (level_of s w k) (level_lt w k n.short l s)) m q in
-        all_are_digits _ _ b.0 b.1
-        (cos_is v r (le_of_lt (units_below l)) ∙ ap (λ (s : Bool). nearest_cos s (units_of v)) e
-        ∙ cos_nearest s (units_of v) w k m n (le_of_lt (units_below l)) l q)
+  pub digits_one : (s : Bool) → lt v (fin false 0 (pos 0)) ≡ s → 1074 ≤ k → k ≤ 1074 → w ≤ 2 ^ 52 → CosineDigits (cos_of v) (Some (cond s (2 ^ 52) (2 ^ 53)))
+  digits_one s e a b l =
+      all_are_digits _ _ (low s) (high s)
+      (cos_is v r (le_of_eq (units_one a b l)) ∙ ap₂ (λ (s : Bool) (u : ℕ). nearest_cos s u) e (units_one a b l) ∙ at_one s)
+    where
+      low : (s : Bool) → 2 ^ 52 ≤ cond s (2 ^ 52) (2 ^ 53)
+      low true = lit≤ tt
+      low false = lit≤ tt
 
-    pub digits_above : 1074 ≤ k → (1074 < k) ⊎ (2 ^ 52 < w) → CosineDigits (cos_of v) 0
-    digits_above a c = no_digits _ (cos_above v (units_above a c))
-
-    pub digits_one : (s : Bool) → lt v (fin false 0 (pos 0)) ≡ s → 1074 ≤ k → k ≤ 1074 → w ≤ 2 ^ 52 → CosineDigits (cos_of v) (cond s (2 ^ 52) (2 ^ 53))
-    digits_one s e a b l =
-        all_are_digits _ _ (low s) (high s)
-        (cos_is v r (le_of_eq (units_one a b l)) ∙ ap₂ (λ (s : Bool) (u : ℕ). nearest_cos s u) e (units_one a b l) ∙ at_one s)
-      where
-        low : (s : Bool) → 2 ^ 52 ≤ cond s (2 ^ 52) (2 ^ 53)
-        low true = lit≤ tt
-        low false = lit≤ tt
-
-        high : (s : Bool) → cond s (2 ^ 52) (2 ^ 53) ≤ 2 ^ 53
-        high true = lit≤ tt
-        high false = lit≤ tt
+      high : (s : Bool) → cond s (2 ^ 52) (2 ^ 53) ≤ 2 ^ 53
+      high true = lit≤ tt
+      high false = lit≤ tt
 
 -- ---- both
 

@@ -1,7 +1,7 @@
 -- The function's test for c, and c by that test.
 use mathlib.Core.Path.{◌≡◌, refl, sym, ap, ◌∙◌, subst}
 use mathlib.Core.Bool.{Bool, true, false, not, ◌||◌}
-use Prim.Native.Nat.{ℕ, suc, ◌+◌, ◌-◌, ◌*◌, ◌%◌, ◌^◌, ◌≤◌, ◌<◌, zero-le}
+use Prim.Native.Nat.{ℕ, suc, ◌+◌, ◌-◌, ◌*◌, ◌^◌, ◌≤◌, ◌<◌, zero-le}
 use native.Mathlib.Omega.{arith}
 use native.Mathlib.Nat.{le_trans, le_of_suc-le-suc, le_of_mul-le-mul_right, mul-le-mul, mul_comm}
 use borrow.Author.Tests.{le-leb, lt-leb, eqb-true}

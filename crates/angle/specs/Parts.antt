@@ -1,5 +1,5 @@
 -- What the parts of the function say.
-use Rattle.std.specs.Prelude.{◌≡◌, Bool, true, false, ℕ, ◌+◌, ◌-◌, ◌*◌, ◌/◌, ◌%◌, ◌^◌, ◌≤◌, ◌<◌, leb, ltb, Float}
+use Rattle.std.specs.Prelude.{◌≡◌, Bool, true, false, ℕ, ◌+◌, ◌-◌, ◌*◌, ◌/◌, ◌%◌, ◌^◌, ◌≤◌, ◌<◌, leb, ltb, Float, Option, Some, None}
 use Rattle.std.specs.Float.{nan}
 use Rattle.std.specs.Float.Ieee.{odd}
 use Rattle.angle.specs.declared.Triple.{Triple}
@@ -34,10 +34,10 @@ pub record WholePart (w k n : ℕ) (rest : Bool) : Type 0 where
   pub whole : n ≡ w * 2 ^ k / 2 ^ 966
   pub left : rest ≡ ltb 0 (w * 2 ^ k % 2 ^ 966)
 
--- c is m / 2 ^ 53, or no number where m is 0
-pub record CosineDigits (c : Float) (m : ℕ) : Type 0 where
-  pub none : m ≡ 0 → c ≡ nan
-  pub some : (m ≡ 0 → ⊥) → (2 ^ 52 ≤ m) × (m ≤ 2 ^ 53) × (c ≡ odd 54 false m 1021 1074)
+-- c is m / 2 ^ 53, or no number where there is no m
+pub record CosineDigits (c : Float) (d : Option ℕ) : Type 0 where
+  pub none : d ≡ None → c ≡ nan
+  pub some : (m : ℕ) → d ≡ Some m → (2 ^ 52 ≤ m) × (m ≤ 2 ^ 53) × (c ≡ odd 54 false m 1021 1074)
 
 -- w is n * 2 ^ (2 h), with 52 or 53 digits
 pub record Shift (n w h : ℕ) : Type 0 where

@@ -5,45 +5,42 @@
 ghost use Rattle.std.specs.Prelude.{◌≡◌, ◌≤◌};
 ghost use Rattle.band.specs.Band.{magnitude_of, budget_of, kth_root_of, radius_step, radius_of, noise_within, noise_of, base_of, band_of, within_band_of, bare};
 
+use horner::Polynomial;
+
 const NOISE_FACTOR: f64 = 4.0;
 
 // f64::EPSILON
 const EPSILON: f64 = 2.220446049250313e-16;
 
-// The sum of the sizes of f's terms at y.
-fn magnitude(f: [f64; 5], d: usize, y: f64) -> f64
-    requires { d ≤ 4 }
-    ensures { result ≡ magnitude_of f d y }
+// The sum of the sizes of p's terms at y.
+fn magnitude(p: Polynomial, y: f64) -> f64
+    ensures { result ≡ magnitude_of p.f p.d y }
 {
     let ay = float::abs(y);
     let mut acc = 0.0;
-    let mut i = d + 1;
-    while i > 0 {
-        i -= 1;
-        acc = acc * ay + float::abs(f[i]);
+    for i in (0..p.d + 1).rev() {
+        acc = acc * ay + float::abs(p.f[i]);
     }
     acc
 }
 
-// What rounding may do to f at y.
-pub fn budget(f: [f64; 5], d: usize, y: f64) -> f64
-    requires { d ≤ 4 }
-    ensures { result ≡ budget_of f d y }
+// What rounding may do to p at y.
+pub fn budget(p: Polynomial, y: f64) -> f64
+    ensures { result ≡ budget_of p.f p.d y }
 {
-    NOISE_FACTOR * EPSILON * magnitude(f, d, y)
+    NOISE_FACTOR * EPSILON * magnitude(p, y)
 }
 
 // q^(1/k)
+#[tactic(auto, unfolding(crate::specs::Band::kth_root_of))]
 fn kth_root(k: usize, q: f64) -> f64
     ensures { result ≡ kth_root_of k q }
 {
-    if k == 2 {
-        return sqrt::sqrt(q);
+    match k {
+        2 => sqrt::sqrt(q),
+        3 => cbrt::cbrt(q),
+        _ => sqrt::sqrt(sqrt::sqrt(q)),
     }
-    if k == 3 {
-        return cbrt::cbrt(q);
-    }
-    sqrt::sqrt(sqrt::sqrt(q))
 }
 
 // The smaller of r and (budget / |t_k|)^(1/k).
@@ -63,21 +60,18 @@ fn radius(t: [f64; 5], d: usize, budget: f64) -> f64
     ensures { result ≡ radius_of t d budget }
 {
     let mut r = float::infinity();
-    let mut k = 2;
-    while k < d + 1 {
+    for k in 2..d + 1 {
         r = radius_step(t, budget, k, r);
-        k += 1;
     }
     r
 }
 
 // The noise, with the budget at hand.
-pub fn noise_within(f: [f64; 5], d: usize, y: f64, budget: f64) -> f64
-    requires { d ≤ 4 }
-    ensures { result ≡ noise_within f d y budget }
+pub fn noise_within(p: Polynomial, y: f64, budget: f64) -> f64
+    ensures { result ≡ noise_within p.f p.d y budget }
 {
-    let t = horner::taylor(f, d, y);
-    let r = radius(t, d, budget);
+    let t = p.taylor(y);
+    let r = radius(t, p.d, budget);
     if float::is_finite(r) {
         return r;
     }
@@ -88,9 +82,8 @@ pub fn noise(poly: scaled::Scaled, y: f64) -> f64
     requires { poly.d ≤ 4 }
     ensures { result ≡ noise_of poly y }
 {
-    let f = poly.f;
-    let d = poly.d;
-    noise_within(f, d, y, budget(f, d, y))
+    let p = poly.polynomial();
+    noise_within(p, y, budget(p, y))
 }
 
 // The caller's band tol * (1 + |x|), in y.
@@ -111,22 +104,20 @@ pub fn within_band(poly: scaled::Scaled, half: f64, y: f64, tol: f64) -> bool
     requires { poly.d ≤ 4 }
     ensures { result ≡ within_band_of poly half y tol }
 {
-    let f = poly.f;
-    within(f, poly.d, poly.unit, half, y, tol)
+    within(poly.polynomial(), poly.unit, half, y, tol)
 }
 
 // The crude bound first: the noise needs roots.
-pub fn within(f: [f64; 5], d: usize, unit: f64, half: f64, y: f64, tol: f64) -> bool
-    requires { d ≤ 4 }
-    ensures { result ≡ within_band_of (bare f d unit) half y tol }
+pub fn within(p: Polynomial, unit: f64, half: f64, y: f64, tol: f64) -> bool
+    ensures { result ≡ within_band_of (bare p.f p.d unit) half y tol }
 {
     let base = base_band(unit, y, tol);
     if half <= base {
         return true;
     }
-    let most = budget(f, d, y);
-    if float::powi(half - base, d) * float::abs(f[d]) > most {
+    let most = budget(p, y);
+    if float::powi(half - base, p.d) * float::abs(p.f[p.d]) > most {
         return false;
     }
-    half <= base + noise_within(f, d, y, most)
+    half <= base + noise_within(p, y, most)
 }

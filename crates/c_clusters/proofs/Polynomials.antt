@@ -1,26 +1,31 @@
 -- What the C functions below the list are handed, and that counts and multiplicities stay within theirs.
-use mathlib.Core.Path.{◌≡◌, refl, sym, subst⁻¹, ◌∙◌}
+use mathlib.Core.Path.{◌≡◌, refl, sym, ap, subst⁻¹, ◌∙◌}
 use mathlib.Core.Bool.{Bool, false, ◌||◌}
-use mathlib.Core.List.{List, [], ◌∷◌}
-use Prim.Native.Nat.{ℕ, zero, suc, ◌^◌, ◌≤◌, ◌<◌}
+use mathlib.Core.List.{List, [], ◌∷◌, ◌++◌}
+use Prim.Native.Nat.{ℕ, zero, suc, ◌+◌, ◌-◌, ◌*◌, ◌^◌, ◌≤◌, ◌<◌}
 use native.Mathlib.Omega.{arith}
 use borrow.Author.Tests.{ltb-false}
 use lib.Dec.{ltb}
-use lib.ListN.{length, take}
-use lib.Ieee.{Float}
+use lib.ListN.{length, take, get_or, set, replicate}
+use lib.Ieee.{Float, nan}
+use Rattle.std.specs.Prelude.{Option, Some, None, unwrap_or}
+use Rattle.facts.specs.Arrays.{from_fn}
 use Rattle.scaled.specs.declared.Scaled.{Scaled}
 use Rattle.roots.specs.declared.RealRoot.{RealRoot}
 use Rattle.roots.specs.declared.Roots.{Roots}
+use Rattle.roots.specs.declared.Pair.{Pair}
 use Rattle.roots.specs.declared.Pairs.{Pairs}
-use Rattle.roots.specs.Roots.{roots_of}
-use Rattle.roots.specs.Listed.{multiplicities, Fits, PairsFit}
+use Rattle.float.specs.Literals.{zero64}
+use Rattle.lent_bytes.specs.Numbers.{number}
+use Rattle.roots.specs.Roots.{kind_number, roots_of}
+use Rattle.roots.specs.Listed.{blank, multiplicities, Fits, PairsFit}
 use Rattle.roots.proofs.Laws.{roots_fit, kept_fits, paired_fits}
 use Rattle.push.specs.declared.Found.{Found}
 use Rattle.push.specs.Quadratic.{Factor, double, apart, complex, quadratic_roots_of, push_factor_in, push_quadratic_in}
 use Rattle.finish.specs.Finish.{finish_of}
 use Rattle.finish.proofs.Counts.{finish_counts}
 use Rattle.lent_bytes.proofs.Five.{none_holds}
-use Rattle.c_clusters.specs.Clustering.{candidate_at, candidates_at, pairs_at, lacks_of}
+use Rattle.c_clusters.specs.Clustering.{turning_or_nan, candidate_at, candidates_at, pair_at, pairs_at, root_at, root_numbers, found_number, found_numbers, lacks_of}
 
 pub holding : (c : List ℕ) (size n m : ℕ) {b : Bool} → b ≡ lacks_of c size n m → b ≡ false → (size ≤ length c) × ((n ≤ 4) × (m ≤ 2))
 unfolding lacks_of
@@ -30,19 +35,32 @@ holding c size n m e t =
     (ltb-false (length c) size h.0, (ltb-false 4 n k.0, ltb-false 2 m k.1))
 
 -- ---- candidates
-pub four_candidates : (c : List ℕ) (n : ℕ) {p q r s : RealRoot} → p ≡ candidate_at c 0 → q ≡ candidate_at c 1 → r ≡ candidate_at c 2 → s ≡ candidate_at c 3
-    → ◌≡◌ {A = Roots} (record { root = p ∷ q ∷ r ∷ s ∷ []; len = n }) (candidates_at c n)
+pub four_candidates : (c : List ℕ) (n : ℕ) {l : List RealRoot} → l ≡ from_fn 4 (candidate_at c) → ◌≡◌ {A = Roots} (record { root = l; len = n }) (candidates_at c n)
 unfolding candidates_at
-four_candidates c n e f g h = λ i. record { root = e i ∷ f i ∷ g i ∷ h i ∷ []; len = n }
+four_candidates c n e = ap (λ (l : List RealRoot). record { root = l; len = n }) e
+
+pub two_pairs : (c : List ℕ) (n : ℕ) {l : List Pair} → l ≡ from_fn 2 (pair_at c) → ◌≡◌ {A = Pairs} (record { pair = l; len = n }) (pairs_at c n)
+unfolding pairs_at
+two_pairs c n e = ap (λ (l : List Pair). record { pair = l; len = n }) e
+
+-- the place of a turning point, NaN where there is none
+pub turning_is : (o : Option Float) → unwrap_or o nan ≡ turning_or_nan o
+unfolding turning_or_nan
+turning_is (Some x) = refl
+turning_is None = refl
 
 sum_taken : (n : ℕ) (l : List RealRoot) → multiplicities (take n l) ≤ multiplicities l
 sum_taken zero l = omega arith
 sum_taken (suc n) [] = omega arith
 sum_taken (suc n) (r ∷ l) = let h = sum_taken n l in omega arith
 
-pub four_bytes : (n : ℕ) (p q r s : RealRoot) → p.multiplicity < 256 → q.multiplicity < 256 → r.multiplicity < 256 → s.multiplicity < 256
+four_bytes : (n : ℕ) (p q r s : RealRoot) → p.multiplicity < 256 → q.multiplicity < 256 → r.multiplicity < 256 → s.multiplicity < 256
     → multiplicities (take n (p ∷ q ∷ r ∷ s ∷ [])) < 2 ^ 32
 four_bytes n p q r s e f g h = let t = sum_taken n (p ∷ q ∷ r ∷ s ∷ []) in omega arith
+
+pub bytes_of : (c : List ℕ) (n : ℕ) {l : List RealRoot} → ((k : ℕ) → get_or c k 0 < 256) → l ≡ from_fn 4 (candidate_at c) → multiplicities (take n l) < 2 ^ 32
+unfolding candidate_at
+bytes_of c n b e = rw e (four_bytes n (candidate_at c 0) (candidate_at c 1) (candidate_at c 2) (candidate_at c 3) (b 32) (b 33) (b 34) (b 35))
 
 -- ---- counts
 candidates_fit : (c : List ℕ) (n : ℕ) → n ≤ 4 → Fits (candidates_at c n)
@@ -70,3 +88,30 @@ quadratic_fits poly al be tol c n m h k o p e =
 
 pub finish_fits : (poly : Scaled) (c : List RealRoot) (tol : Float) {s : Roots} → s ≡ roots_of (finish_of poly c tol) → Fits s
 finish_fits poly c tol e = subst⁻¹ Fits e (roots_fit (finish_of poly c tol) (finish_counts poly c tol))
+
+-- ---- handed out: the numbers of the first k roots, and zeros behind them
+abbrev pub rows : Roots → ℕ → List Float
+rows s zero = []
+rows s (suc k) = rows s k ++ root_at s k
+
+abbrev pub filled : Roots → ℕ → List Float
+filled s k = number s.len ∷ (rows s k ++ replicate (12 - 3 * k) zero64)
+
+abbrev here : Roots → ℕ → RealRoot
+here s k = get_or s.root k blank
+
+pub filled_next : (s : Roots) (k : ℕ) {v m κ : Float} → k < 4 → v ≡ (here s k).value → m ≡ number (here s k).multiplicity → κ ≡ number (kind_number (here s k).kind)
+    → set (set (set (filled s k) (3 * k + 1) v) (3 * k + 2) m) (3 * k + 3) κ ≡ filled s (k + 1)
+filled_next s zero h e f g = rw (e, f, g)
+filled_next s (suc zero) h e f g = rw (e, f, g)
+filled_next s (suc (suc zero)) h e f g = rw (e, f, g)
+filled_next s (suc (suc (suc zero))) h e f g = rw (e, f, g)
+filled_next s (suc (suc (suc (suc k)))) h e f g = absurd (omega arith)
+
+pub filled_all : (s : Roots) (k : ℕ) → k ≤ 4 → 4 ≤ k → filled s k ≡ root_numbers s
+unfolding root_numbers
+filled_all s k h l = (let e : k ≡ 4 = omega arith in ap (filled s) e) ∙ refl
+
+pub all_found : (s : Found) (x : List Float) → x ≡ root_numbers s.roots → from_fn 18 (found_number x s.pairs) ≡ found_numbers s
+unfolding found_numbers root_numbers found_number
+all_found s x e = rw e

@@ -1,5 +1,5 @@
 -- What the C functions below the list answer. Definitions only.
-use Rattle.std.specs.Prelude.{Bool, ◌||◌, List, [], ◌∷◌, ◌++◌, ℕ, ◌+◌, ◌*◌, ltb, length, get_or, Float}
+use Rattle.std.specs.Prelude.{Bool, ◌||◌, List, [], ◌∷◌, ◌++◌, ℕ, ◌+◌, ◌-◌, ◌*◌, ◌/◌, ◌%◌, cond, eqb, ltb, length, get_or, Float, Option, Some, None}
 use Rattle.std.specs.Float.{nan}
 use Rattle.float.specs.Bytes.{f64_at}
 use Rattle.scaled.specs.declared.Scaled.{Scaled}
@@ -10,8 +10,6 @@ use Rattle.roots.specs.declared.Pair.{Pair}
 use Rattle.roots.specs.declared.Pairs.{Pairs}
 use Rattle.roots.specs.Roots.{kind_number, root, pair, list_of, roots_of}
 use Rattle.roots.specs.Listed.{blank, blank_pair}
-use Rattle.critical.specs.declared.TurningPoint.{TurningPoint}
-use Rattle.critical.specs.declared.TurningPoint.TheVariants.{At, None}
 use Rattle.push.specs.declared.Found.{Found}
 use Rattle.push.specs.Quadratic.{push_quadratic_in}
 use Rattle.finish.specs.Finish.{finish_of}
@@ -23,8 +21,8 @@ abbrev pub poly_at : List ℕ → ℕ → Scaled
 poly_at a d = scaled_of (five_at a) d
 
 -- the place of a turning point
-unfoldable pub turning_or_nan : TurningPoint → Float
-turning_or_nan (At x) = x
+unfoldable pub turning_or_nan : Option Float → Float
+turning_or_nan (Some x) = x
 turning_or_nan None = nan
 
 -- ---- handed in: four doubles, four bytes, and two pairs of doubles
@@ -36,9 +34,13 @@ candidate_at c i = root (f64_at c (8 * i)) (get_or c (32 + i) 0)
 unfoldable pub candidates_at : List ℕ → ℕ → Roots
 candidates_at c n = record { root = candidate_at c 0 ∷ candidate_at c 1 ∷ candidate_at c 2 ∷ candidate_at c 3 ∷ []; len = n }
 
+-- a complex pair
+abbrev pub pair_at : List ℕ → ℕ → Pair
+pair_at c i = pair (f64_at c (36 + 16 * i)) (f64_at c (44 + 16 * i))
+
 -- n complex pairs
 unfoldable pub pairs_at : List ℕ → ℕ → Pairs
-pairs_at c n = record { pair = pair (f64_at c 36) (f64_at c 44) ∷ pair (f64_at c 52) (f64_at c 60) ∷ []; len = n }
+pairs_at c n = record { pair = pair_at c 0 ∷ pair_at c 1 ∷ []; len = n }
 
 -- ---- handed out
 -- place, multiplicity and kind of the root i
@@ -48,6 +50,12 @@ root_at s i = let r = get_or s.root i blank in r.value ∷ number r.multiplicity
 -- how many roots there are, and the four places with their multiplicities and kinds
 unfoldable pub root_numbers : Roots → List Float
 root_numbers s = number s.len ∷ (root_at s 0 ++ (root_at s 1 ++ (root_at s 2 ++ root_at s 3)))
+
+-- number i of it, from those of the roots: how many pairs there are, and the centre and the half of each, come behind
+unfoldable pub found_number : List Float → Pairs → ℕ → Float
+found_number x s i =
+    let p = get_or s.pair ((i - 14) / 2) blank_pair in
+    cond (ltb i 13) (get_or x i nan) (cond (eqb i 13) (number s.len) (cond (eqb (i % 2) 0) p.centre p.half))
 
 -- what is found: the roots as in a list, the number of pairs, and the centre and half of each
 unfoldable pub found_numbers : Found → List Float

@@ -15,16 +15,18 @@ ghost use Rattle.polish.specs.Polish.{polish_of};
 ghost use Rattle.lent_bytes.specs.Bytes.{lacks_five, unless, Stored};
 ghost use Rattle.lent_bytes.specs.Numbers.{number};
 ghost use Rattle.c_clusters.specs.Clustering.{poly_at, turning_or_nan, candidate_at, lacks_of, candidates_at};
-ghost use Rattle.c_clusters.specs.Clustering.{pairs_at, root_numbers, found_numbers, pushed_numbers, finished_numbers};
+ghost use Rattle.c_clusters.specs.Clustering.{pair_at, pairs_at, root_numbers, found_number, found_numbers, pushed_numbers, finished_numbers};
 
-use lent_bytes::{five_at, lacks_five, store};
+use horner::Polynomial;
+use lent_bytes::{doubles_at, lacks_five, store};
 
 fn poly_at(a: &[u8], d: u64) -> scaled::Scaled
     requires a_length { 40 ≤ length a.now }
     requires d_high { d ≤ 4 }
     ensures { (result ≡ poly_at a.now d) × (result.d ≤ 4) }
 {
-    scaled::Scaled::new(five_at(a), d as usize)
+    let f = doubles_at(a, 0);
+    scaled::Scaled::new(Polynomial { f, d: d as usize })
 }
 
 pub fn pongewaru_noise(a: &[u8], d: u64, y: f64) -> f64
@@ -70,11 +72,7 @@ pub fn pongewaru_extremum(a: &[u8], d: u64, y: f64, lo: f64, hi: f64, tol: f64) 
     if lacks_five(a, d) {
         return 0.0 / 0.0;
     }
-    let found = critical::extremum(poly_at(a, d), y, lo, hi, tol);
-    match found {
-        critical::TurningPoint::At(x) => x,
-        critical::TurningPoint::None => 0.0 / 0.0,
-    }
+    critical::extremum(poly_at(a, d), y, lo, hi, tol).unwrap_or(0.0 / 0.0)
 }
 
 pub fn pongewaru_polish(a: &[u8], d: u64, y: f64, gap: f64) -> f64
@@ -83,9 +81,7 @@ pub fn pongewaru_polish(a: &[u8], d: u64, y: f64, gap: f64) -> f64
     if lacks_five(a, d) {
         return 0.0 / 0.0;
     }
-    let p = poly_at(a, d);
-    let f = p.f;
-    polish::polish(f, p.d, y, gap)
+    polish::polish(poly_at(a, d).polynomial(), y, gap)
 }
 
 // The double at place i, and the byte at place i behind four doubles.
@@ -117,33 +113,33 @@ fn candidates_at(c: &[u8], n: u64) -> roots::Roots
     requires { 36 ≤ length c.now }
     ensures { (result ≡ candidates_at c.now n) × (multiplicities (list_of result) < 2 ^ 32) }
 {
-    let root = [
-        candidate_at(c, 0),
-        candidate_at(c, 1),
-        candidate_at(c, 2),
-        candidate_at(c, 3),
-    ];
+    let root = std::array::from_fn(|i| candidate_at(c, i));
     roots::Roots {
         root,
         len: n as usize,
     }
 }
 
-// n complex pairs behind the candidates, each a centre and a half.
+// The centre and the half of pair i, behind the candidates.
+fn pair_at(c: &[u8], i: usize) -> roots::Pair
+    requires c_length { 68 ≤ length c.now }
+    requires i_high { i < 2 }
+    ensures { result ≡ pair_at c.now i }
+{
+    roots::Pair {
+        centre: float::f64_at(c, 36 + 16 * i),
+        half: float::f64_at(c, 44 + 16 * i),
+    }
+}
+
+// n complex pairs.
 fn pairs_at(c: &[u8], n: u64) -> roots::Pairs
     requires { 68 ≤ length c.now }
     ensures { result ≡ pairs_at c.now n }
 {
-    let first = roots::Pair {
-        centre: float::f64_at(c, 36),
-        half: float::f64_at(c, 44),
-    };
-    let second = roots::Pair {
-        centre: float::f64_at(c, 52),
-        half: float::f64_at(c, 60),
-    };
+    let pair = std::array::from_fn(|i| pair_at(c, i));
     roots::Pairs {
-        pair: [first, second],
+        pair,
         len: n as usize,
     }
 }
@@ -151,8 +147,7 @@ fn pairs_at(c: &[u8], n: u64) -> roots::Pairs
 fn kind_number(r: roots::RealRoot) -> f64
     ensures { result ≡ number (kind_number r.kind) }
 {
-    let kind = r.kind;
-    kind.number() as f64
+    u32::from(r.kind) as f64
 }
 
 // How many roots there are, and the four places with their multiplicities and kinds.
@@ -160,26 +155,34 @@ pub fn root_numbers(s: roots::Roots) -> [f64; 13]
     requires { Fits s }
     ensures { result ≡ root_numbers s }
 {
-    let root = s.root;
-    let a = root[0];
-    let b = root[1];
-    let c = root[2];
-    let d = root[3];
-    [
-        s.len as f64,
-        a.value,
-        a.multiplicity as f64,
-        kind_number(a),
-        b.value,
-        b.multiplicity as f64,
-        kind_number(b),
-        c.value,
-        c.multiplicity as f64,
-        kind_number(c),
-        d.value,
-        d.multiplicity as f64,
-        kind_number(d),
-    ]
+    let mut x = [0.0; 13];
+    x[0] = s.len as f64;
+    for k in 0..4usize {
+        let r = s.root[k];
+        x[3 * k + 1] = r.value;
+        x[3 * k + 2] = r.multiplicity as f64;
+        x[3 * k + 3] = kind_number(r);
+    }
+    x
+}
+
+// Number i of what is found: those of the roots, how many pairs there are, and the centre and the half of each.
+fn found_number(x: [f64; 13], s: roots::Pairs, i: usize) -> f64
+    requires fits { PairsFit s }
+    requires i_high { i < 18 }
+    ensures { result ≡ found_number x s i }
+{
+    if i < 13 {
+        return x[i];
+    }
+    if i == 13 {
+        return s.len as f64;
+    }
+    let p = s.pair[(i - 14) / 2];
+    if i % 2 == 0 {
+        return p.centre;
+    }
+    p.half
 }
 
 fn found_numbers(s: push::Found) -> [f64; 18]
@@ -189,28 +192,7 @@ fn found_numbers(s: push::Found) -> [f64; 18]
 {
     let x = root_numbers(s.roots);
     let pairs = s.pairs;
-    let p0 = pairs.pair[0];
-    let p1 = pairs.pair[1];
-    [
-        x[0],
-        x[1],
-        x[2],
-        x[3],
-        x[4],
-        x[5],
-        x[6],
-        x[7],
-        x[8],
-        x[9],
-        x[10],
-        x[11],
-        x[12],
-        pairs.len as f64,
-        p0.centre,
-        p0.half,
-        p1.centre,
-        p1.half,
-    ]
+    std::array::from_fn(|i| found_number(x, pairs, i))
 }
 
 // The candidates, n on entry, and the complex pairs, m on entry, after the factor y^2 + al*y + be. Nothing is stored where c is short, or where
@@ -234,14 +216,10 @@ pub fn pongewaru_push_quadratic(
     if lacks(c, 68, n, m) {
         return 0;
     }
-    let s = push::push_quadratic(
-        poly_at(a, d),
-        al,
-        be,
-        tol,
-        candidates_at(c, n),
-        pairs_at(c, m),
-    );
+    let roots = candidates_at(c, n);
+    let pairs = pairs_at(c, m);
+    let found = push::Found { roots, pairs };
+    let s = push::push_quadratic(poly_at(a, d), al, be, tol, found);
     store(out, &found_numbers(s))
 }
 

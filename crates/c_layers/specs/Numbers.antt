@@ -1,23 +1,18 @@
 -- The numbers of an answer, one after another as doubles, whole ones too. Definitions only.
-use Rattle.std.specs.Prelude.{List, [], ◌∷◌, ◌++◌, ℕ, get_or, Float}
+use Rattle.std.specs.Prelude.{List, [], ◌∷◌, ◌++◌, ℕ, get_or, replicate, Option, Some, None, Float}
 use Rattle.std.specs.Float.{nan, binary64}
 use Rattle.std.specs.Float.Ieee.{of_int}
 use Rattle.float.specs.Literals.{zero64, one64}
 use Rattle.horner.specs.declared.TwoProd.{TwoProd}
 use Rattle.horner.specs.declared.ValueSlope.{ValueSlope}
 use Rattle.horner.specs.declared.Derivs.{Derivs}
-use Rattle.square.specs.declared.Step3.{Step3}
-use Rattle.square.specs.declared.Step4.{Step4}
 use Rattle.cubic.specs.declared.CubicRoots.{CubicRoots}
+use Rattle.cubic.specs.declared.CubicRoots.TheVariants.{One, Three}
 use Rattle.cubic.specs.declared.CubicFactor.{CubicFactor}
 use Rattle.quartic.specs.declared.QuarticFactor.{QuarticFactor}
-use Rattle.isolated.specs.declared.LoneRoot.{LoneRoot}
-use Rattle.isolated.specs.declared.LoneRoot.TheVariants.{At, None}
 use Rattle.isolated.specs.declared.Peeled.{Peeled}
 use Rattle.scaled.specs.declared.Scaled.{Scaled}
-use Rattle.split.specs.declared.Split.{Split}
-use Rattle.split.specs.declared.Split.TheVariants.{Gap}
-use Rattle.split.specs.declared.Split.TheVariants as split
+use Rattle.split.specs.declared.Gap.{Gap}
 use Rattle.factors.specs.declared.Factors.{Factors}
 use Rattle.factors.specs.Factors.{lin_at, quad_at}
 use Rattle.lent_bytes.specs.Bytes.{f64s_at}
@@ -41,17 +36,16 @@ three_rows s = f64s_at 3 s 0 ∷ f64s_at 3 s 24 ∷ f64s_at 3 s 48 ∷ []
 abbrev pub four_rows : List ℕ → List (List Float)
 four_rows s = f64s_at 4 s 0 ∷ f64s_at 4 s 32 ∷ f64s_at 4 s 64 ∷ f64s_at 4 s 96 ∷ []
 
--- ok, as 1 or 0, and the unknowns
-abbrev pub step3_numbers : Step3 → List Float
-step3_numbers s = flag_of s.ok ∷ get_or s.x 0 nan ∷ get_or s.x 1 nan ∷ get_or s.x 2 nan ∷ []
-
-abbrev pub step4_numbers : Step4 → List Float
-step4_numbers s = flag_of s.ok ∷ get_or s.x 0 nan ∷ get_or s.x 1 nan ∷ get_or s.x 2 nan ∷ get_or s.x 3 nan ∷ []
+-- 1 and the n unknowns, or zeros where there is no answer
+abbrev pub step_numbers : ℕ → Option (List Float) → List Float
+step_numbers n (Some x) = one64 ∷ x
+step_numbers n None = zero64 ∷ replicate n zero64
 
 -- ---- factors
--- n, and the roots
-abbrev pub roots_numbers : CubicRoots → List Float
-roots_numbers s = number s.n ∷ get_or s.root 0 nan ∷ get_or s.root 1 nan ∷ get_or s.root 2 nan ∷ []
+-- how many roots, and three places, 0 from the last root on
+unfoldable pub roots_numbers : CubicRoots → List Float
+roots_numbers (One x) = number 1 ∷ x ∷ zero64 ∷ zero64 ∷ []
+roots_numbers (Three x) = number 3 ∷ get_or x 0 nan ∷ get_or x 1 nan ∷ get_or x 2 nan ∷ []
 
 abbrev pub cubic_numbers : CubicFactor → List Float
 cubic_numbers x = x.r ∷ x.e ∷ x.f ∷ []
@@ -60,8 +54,8 @@ abbrev pub quartic_numbers : QuarticFactor → List Float
 quartic_numbers x = x.al ∷ x.be ∷ x.ga ∷ x.de ∷ []
 
 -- 1 and the root, or 0 and NaN where there is none
-unfoldable pub lone_numbers : LoneRoot → List Float
-lone_numbers (At x) = one64 ∷ x ∷ []
+unfoldable pub lone_numbers : Option Float → List Float
+lone_numbers (Some x) = one64 ∷ x ∷ []
 lone_numbers None = zero64 ∷ nan ∷ []
 
 abbrev pub peeled_numbers : Peeled → List Float
@@ -73,9 +67,9 @@ unfoldable pub scaled_numbers : Scaled → List Float
 scaled_numbers s = five s.f ++ (five s.g ++ (five s.lg ++ (number s.d ∷ of_int binary64 s.e ∷ s.unit ∷ [])))
 
 -- 1, small and threshold, or zeros where there is no gap
-unfoldable pub split_numbers : Split → List Float
-split_numbers (Gap small threshold) = one64 ∷ number small ∷ threshold ∷ []
-split_numbers split.None = zero64 ∷ zero64 ∷ zero64 ∷ []
+unfoldable pub split_numbers : Option Gap → List Float
+split_numbers (Some gap) = one64 ∷ number gap.small ∷ gap.threshold ∷ []
+split_numbers None = zero64 ∷ zero64 ∷ zero64 ∷ []
 
 -- nlin, lin, nquad, al and be of both quad
 unfoldable pub factor_numbers : Factors → List Float

@@ -7,18 +7,26 @@ ghost use Rattle.isolated.specs.Isolated.{isolated_root_of, peel_root_of};
 ghost use Rattle.lent_bytes.specs.Bytes.{Stored};
 ghost use Rattle.c_layers.specs.Numbers.{roots_numbers, cubic_numbers, quartic_numbers, lone_numbers, peeled_numbers};
 
-use isolated::LoneRoot;
+use cubic::CubicRoots;
 use lent_bytes::store;
 use quartic::QuarticFactor;
+
+fn roots_numbers(roots: CubicRoots) -> [f64; 4]
+    ensures { result ≡ roots_numbers roots }
+{
+    match roots {
+        CubicRoots::One(x) => [1.0, x, 0.0, 0.0],
+        CubicRoots::Three(x) => [3.0, x[0], x[1], x[2]],
+    }
+}
 
 // How many roots there are, and three places, 0 from the last root on.
 #[unsafe(no_mangle)]
 pub extern "C" fn pongewaru_cubic_closed_form(b: f64, c: f64, d: f64, out: &mut [u8]) -> u64
     ensures { Stored (roots_numbers (cubic_closed_form_of b c d)) out.old result out.new }
 {
-    let s = cubic::cubic_closed_form(b, c, d);
-    let x = s.root;
-    store(out, &[s.n as f64, x[0], x[1], x[2]])
+    let roots = cubic::cubic_closed_form(b, c, d);
+    store(out, &roots_numbers(roots))
 }
 
 #[unsafe(no_mangle)]
@@ -37,12 +45,12 @@ pub extern "C" fn pongewaru_quartic_factor(b: f64, c: f64, d: f64, e: f64, out: 
     store(out, &[x.al, x.be, x.ga, x.de])
 }
 
-fn lone_numbers(found: LoneRoot) -> [f64; 2]
+fn lone_numbers(found: Option<f64>) -> [f64; 2]
     ensures { result ≡ lone_numbers found }
 {
     match found {
-        LoneRoot::At(x) => [1.0, x],
-        LoneRoot::None => [0.0, 0.0 / 0.0],
+        Some(x) => [1.0, x],
+        None => [0.0, 0.0 / 0.0],
     }
 }
 

@@ -8,7 +8,8 @@ ghost use Rattle.factorize.specs.Factorize.{factorize_of};
 ghost use Rattle.lent_bytes.specs.Bytes.{five_at, lacks_five, unless, Stored};
 ghost use Rattle.c_layers.specs.Numbers.{scaled_numbers, split_numbers, factor_numbers};
 
-use lent_bytes::{five_at, lacks_five, store};
+use horner::Polynomial;
+use lent_bytes::{doubles_at, lacks_five, store};
 
 fn scaled_numbers(s: scaled::Scaled) -> [f64; 18]
     requires { s.d ≤ 4 }
@@ -32,17 +33,21 @@ pub extern "C" fn pongewaru_scaled_new(a: &[u8], d: u64, out: &mut [u8]) -> u64
     if lacks_five(a, d) {
         return 0;
     }
-    let s = scaled::Scaled::new(five_at(a), d as usize);
+    let p = Polynomial {
+        f: doubles_at(a, 0),
+        d: d as usize,
+    };
+    let s = scaled::Scaled::new(p);
     store(out, &scaled_numbers(s))
 }
 
-fn split_numbers(s: split::Split) -> [f64; 3]
+fn split_numbers(s: Option<split::Gap>) -> [f64; 3]
     requires { Inside 4 s }
     ensures { result ≡ split_numbers s }
 {
     match s {
-        split::Split::Gap(small, threshold) => [1.0, small as f64, threshold],
-        split::Split::None => [0.0, 0.0, 0.0],
+        Some(gap) => [1.0, gap.small as f64, gap.threshold],
+        None => [0.0; 3],
     }
 }
 
@@ -55,7 +60,7 @@ pub extern "C" fn pongewaru_magnitude_split(lg: &[u8], d: u64, out: &mut [u8]) -
     if lacks_five(lg, d) {
         return 0;
     }
-    let s = split::magnitude_split(five_at(lg), d as usize);
+    let s = split::magnitude_split(doubles_at(lg, 0), d as usize);
     store(out, &split_numbers(s))
 }
 
@@ -90,7 +95,11 @@ pub extern "C" fn pongewaru_factorize(a: &[u8], d: u64, depth: u32, out: &mut [u
     if lacks_five(a, d) {
         return 0;
     }
-    let s = scaled::Scaled::new(five_at(a), d as usize);
+    let p = Polynomial {
+        f: doubles_at(a, 0),
+        d: d as usize,
+    };
+    let s = scaled::Scaled::new(p);
     let f = factorize::factorize(s, depth);
     store(out, &factor_numbers(f))
 }

@@ -53,7 +53,7 @@ pub fn pongewaru_float_powi(v: f64, n: u32) -> f64
     ensures { result ≡ up_to 4 n (powi_of v n) }
 {
     if 4 < n {
-        return 0.0 / 0.0;
+        return f64::NAN;
     }
     float::powi(v, n as usize)
 }

@@ -14,7 +14,7 @@ ghost use Rattle.lent_bytes.specs.Bytes.{five_at, unless, Stored};
 ghost use Rattle.c_leaves.specs.Numbers.{angle_numbers};
 ghost use Rattle.c_leaves.specs.Total.{pow2_or_nan};
 
-use lent_bytes::{five_at, store};
+use lent_bytes::{doubles_at, store};
 
 pub mod floats;
 
@@ -24,15 +24,15 @@ pub fn pongewaru_leaf_ldexp(x: f64, k: i32) -> f64
     ldexp::ldexp(x, k)
 }
 
-#[tactic(auto, using(float::proofs::Bits::zero_over_zero), unfolding(crate::specs::Total::pow2_or_nan))]
+#[tactic(auto, using(float::proofs::Bits::nan_pattern), unfolding(crate::specs::Total::pow2_or_nan))]
 pub fn pongewaru_leaf_pow2(k: i32) -> f64
     ensures { result ≡ pow2_or_nan k }
 {
     if k < -1022 {
-        return 0.0 / 0.0;
+        return f64::NAN;
     }
     if 1023 < k {
-        return 0.0 / 0.0;
+        return f64::NAN;
     }
     ldexp::pow2(k)
 }
@@ -76,5 +76,5 @@ pub fn pongewaru_leaf_log2_five(a: &[u8], out: &mut [u8]) -> u64
     if a.len() < 40 {
         return 0;
     }
-    store(out, &log2::log2_five(five_at(a)))
+    store(out, &log2::log2_five(doubles_at(a, 0)))
 }

@@ -3,7 +3,8 @@
 use mathlib.Core.Path.{◌≡◌, refl, ap, ◌∙◌, sym}
 use mathlib.Core.Bool.{Bool, true, false, true≢false, cond, not, ◌&&◌, ◌||◌}
 use mathlib.Core.List.{List, [], ◌∷◌}
-use mathlib.Core.Option.{Option, none, some}
+use Rattle.std.specs.Prelude.{Some}
+use mathlib.Core.Option.{Option, none}
 use Prim.Native.Nat.{ℕ, zero, suc}
 use native.Mathlib.Omega.{arith}
 use lib.ListN.{length, get_or}
@@ -232,7 +233,7 @@ first_or P (fin s m e) b f g h = g h
 
 -- a norm that is huge ends the turns
 module _ (n : ℕ) (sys : System) (current : Float) (f : is_finite_of current ≡ true) where
-  not_kept : (y : List Float) → huge (norm_of (weighted_of n (sys.res y) (sys.mag y))) ≡ true → kept_of n sys current (some y) ≡ none
+  not_kept : (y : List Float) → huge (norm_of (weighted_of n (sys.res y) (sys.mag y))) ≡ true → kept_of n sys current (Some y) ≡ none
   unfolding kept_of
   not_kept y h = rw (no_less current _ f h) refl
 
@@ -261,7 +262,7 @@ module _ (sys : System) (x : List Float) (current : Float) (f : is_finite_of cur
   Found step = all_finite_of step ≡ false → huge (norm_of (weighted_of 4 (sys.res (moved 4 x step)) (sys.mag (moved 4 x step)))) ≡ true
 
   four : ((s t u v : Float) → Found (s ∷ t ∷ u ∷ v ∷ [])) → (step : List Float) → length step ≡ 4 → all_finite_of step ≡ false
-      → kept_of 4 sys current (some (moved 4 x step)) ≡ none
+      → kept_of 4 sys current (Some (moved 4 x step)) ≡ none
   unfolding Found
   four found step e h = not_kept 4 sys current f (moved 4 x step) (of_four Found found step e h)
 

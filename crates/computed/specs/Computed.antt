@@ -1,7 +1,7 @@
 -- What the definitions give at chosen arguments. A comment says what a fact pins, a number alone being a line of poly.rs, and after 'not' the mistake that it
 -- rules out (docs/MUTATIONS.md), which would give another value. Statements only; proofs/Proved.antt has the proof of `Computed`, the last of them.
-use Rattle.std.specs.Prelude.{◌≡◌, true, false, List, [], ◌∷◌, ◌+◌, ◌-◌, ◌^◌, negsuc, get_or, replicate, Float}
-use Rattle.std.proofs.Math.Option.{none, some}
+use Rattle.std.specs.Prelude.{◌≡◌, true, false, List, [], ◌∷◌, ◌+◌, ◌-◌, ◌^◌, negsuc, get_or, replicate, Float, Some, None}
+use Rattle.std.proofs.Math.Option.{some}
 use Rattle.std.specs.Float.{nan}
 use Rattle.std.specs.Float.Ieee.{neg}
 use Rattle.float.specs.Literals.{zero64, epsilon64, half64, one64, two64, three64, inf64}
@@ -13,11 +13,10 @@ use Rattle.refine.specs.Systems.{cubic_residual_of, cubic_jacobian_of, peel_resi
 use Rattle.cubic.specs.Cubic.{one_root_of}
 use Rattle.quartic.specs.declared.QuarticFactor.{QuarticFactor}
 use Rattle.quartic.specs.Quartic.{quartic_factor_of}
-use Rattle.isolated.specs.declared.LoneRoot.TheVariants.{At, None}
-use Rattle.isolated.specs.Isolated.{root_pair_of, is_better_of, judged_of, best_root_of, isolated_root_of}
+use Rattle.cubic.specs.declared.CubicRoots.TheVariants as roots
+use Rattle.isolated.specs.Isolated.{complex, root_pair_of, is_better_of, judged_of, best_root_of, isolated_root_of}
 use Rattle.scaled.specs.Scaled.{scaled_of}
 use Rattle.split.specs.Hull.{hull_at, hull_of}
-use Rattle.split.specs.declared.Split.TheVariants.{Gap}
 use Rattle.split.specs.Gap.{magnitude_split_of}
 use Rattle.factors.specs.Factors.{quad_of}
 use Rattle.large_factors.specs.Large.{unit_of, quad_units_of, large_of}
@@ -33,6 +32,7 @@ use Rattle.asking.specs.Asking.{answered}
 use Rattle.touching.specs.Touching.{ordered, contact_of, touching}
 use Rattle.solution.specs.declared.QuadraticSolution.TheVariants.{One, Empty}
 use Rattle.equation.specs.Quadratic.{solve_quadratic_of}
+use Rattle.trig_quartic.specs.declared.TrigEquation.{TrigEquation}
 use Rattle.trig_quartic.specs.Crank.{sample_of, quartic_of}
 use Rattle.float.specs.Dyadic.{◌*2^◌, ◌/2^◌}
 use Rattle.computed.specs.Values.{minus_zero, minus_inf, factors, monic}
@@ -54,13 +54,13 @@ pub record DoubleValues : Type 0 where
 
 pub record Squares : Type 0 where
   -- solve.rs 79, `<= tol * scale`, where the sum of the sizes overflows, and 0 times infinity is NaN; not: a zero pivot always means no step
-  pub zero_pivot : solve_square_of 2 ((1 *2^ 1023 ∷ 1 *2^ 1023 ∷ []) ∷ (zero64 ∷ zero64 ∷ []) ∷ []) (zero64 ∷ one64 ∷ []) zero64 ≡ some (minus_inf ∷ inf64 ∷ [])
+  pub zero_pivot : solve_square_of 2 ((1 *2^ 1023 ∷ 1 *2^ 1023 ∷ []) ∷ (zero64 ∷ zero64 ∷ []) ∷ []) (zero64 ∷ one64 ∷ []) zero64 ≡ Some (minus_inf ∷ inf64 ∷ [])
   -- Document 01: 'a comparison with NaN is false, so a NaN pivot goes on'; not: a NaN pivot means no step
-  pub nan_pivot : solve_square_of 1 ((nan ∷ []) ∷ []) (one64 ∷ []) zero64 ≡ some (nan ∷ [])
+  pub nan_pivot : solve_square_of 1 ((nan ∷ []) ∷ []) (one64 ∷ []) zero64 ≡ Some (nan ∷ [])
   -- Document 01: 'added row by row': 2^53 + 1 is rounded down, and tol * 2^53 is below the pivots 1; not the entry sum by columns, not from the last row up
   -- (2^53 + 4 then, and no step)
   pub row_by_row : solve_square_of 3 ((one64 ∷ 1 *2^ 53 ∷ zero64 ∷ []) ∷ (one64 ∷ zero64 ∷ zero64 ∷ []) ∷ (zero64 ∷ zero64 ∷ one64 ∷ []) ∷ []) (replicate 3 one64)
-      ((2 ^ 53 - 1) /2^ 106) ≡ some (one64 ∷ minus_zero ∷ one64 ∷ [])
+      ((2 ^ 53 - 1) /2^ 106) ≡ Some (one64 ∷ minus_zero ∷ one64 ∷ [])
   -- the same: 2^53 + 1 and 2^53 + 3/2 + 3/4 are rounded one by one; not the entry sum's rows from their ends, not of row sums (2^53 + 4 then)
   pub entry_sum : scale_of 3 ((1 *2^ 53 ∷ zero64 ∷ zero64 ∷ []) ∷ (one64 ∷ 3 /2^ 1 ∷ 3 /2^ 2 ∷ []) ∷ replicate 3 zero64 ∷ []) ≡ (2 ^ 52 + 1) *2^ 1
   -- 821, `current.is_finite()`; not: an infinite norm goes on
@@ -71,25 +71,25 @@ pub record Squares : Type 0 where
   -- 877; not -0 in the cubic's derivatives
   pub derivative_of_zero : (x : List Float) → get_or (get_or (cubic_jacobian_of x) 0 []) 2 nan ≡ zero64
   -- 832, `.filter(|s| s.iter().all(|v| v.is_finite()))`; not: a step that is not finite is tried
-  pub step_not_finite : advanced_of 1 (one64 ∷ []) (some (inf64 ∷ [])) ≡ none
+  pub step_not_finite : advanced_of 1 (one64 ∷ []) (Some (inf64 ∷ [])) ≡ None
 
 pub record Quartics : Type 0 where
   -- 890, `0.125 * b2 * b`, rounded once to units of 2^-1074; not b³ as b b² (rounded twice, with the other sign in be and de)
   pub cube_of_b : quartic_factor_of (335 /2^ 361) zero64 zero64 zero64
       ≡ record { al = 335 /2^ 361; be = neg (185542587187 /2^ 760); ga = zero64; de = 185542587187 /2^ 760 }
   -- 955, `disc >= 0.0`, where al² underflows and disc is 0: two real places; not: a double root counts as complex (then it is twice -2^-539)
-  pub double_root : root_pair_of (1 /2^ 538) zero64 ≡ record { re0 = neg (1 /2^ 539); im0 = zero64; re1 = minus_zero; im1 = zero64 }
+  pub double_root : root_pair_of (1 /2^ 538) zero64 ≡ complex (neg (1 /2^ 539)) zero64 ∷ complex minus_zero zero64 ∷ []
   -- the same beside the places 2^-500 and -2^-502: 16 spread is iso itself; not: a double root counts as complex (then 2^-500 is isolated)
   pub not_isolated : isolated_root_of (record { al = 1 /2^ 538; be = zero64; ga = neg (3 /2^ 502); de = neg (1 /2^ 1002) }) ≡ None
   -- 784, `disc.max(0.0)`: the root of t^3 + 2, though disc is said to be -1; not a discriminant below 0 (then it is NaN)
-  pub no_root_below_zero : one_root_of zero64 zero64 two64 (neg one64) ≡ record { root = neg one64 ∷ zero64 ∷ zero64 ∷ []; n = 1 }
+  pub no_root_below_zero : one_root_of zero64 zero64 two64 (neg one64) ≡ roots.One (neg one64)
   -- 988, `iso > b`, where 0 is the best so far, with iso 1; not the first isolated root
   pub better_isolated : let best = judged_of (best_root_of (record { al = nan; be = nan; ga = nan; de = nan })) zero64 zero64 one64 zero64 in
       is_better_of best two64 zero64 ≡ true
   -- the same, for the places -1 and 1 and two that are NaN; not the last of equally isolated quartic roots
-  pub first_of_equals : isolated_root_of (record { al = zero64; be = neg one64; ga = nan; de = nan }) ≡ At (neg one64)
+  pub first_of_equals : isolated_root_of (record { al = zero64; be = neg one64; ga = nan; de = nan }) ≡ Some (neg one64)
   -- 522 and 523, for (y - 1) * y^3; not the cluster's root before the peeled one
-  pub peeled_first : (quads : QuarticFactor) → paired_of (neg one64) zero64 zero64 zero64 quads (At one64)
+  pub peeled_first : (quads : QuarticFactor) → paired_of (neg one64) zero64 zero64 zero64 quads (Some one64)
       ≡ factors (one64 ∷ zero64 ∷ []) (quad_of zero64 zero64 ∷ [])
 
 pub record Scaling : Type 0 where
@@ -102,7 +102,7 @@ pub record Splitting : Type 0 where
   pub on_an_edge : hull_of (zero64 ∷ one64 ∷ two64 ∷ replicate 2 minus_inf) 2 ≡ hull_at (0 ∷ 2 ∷ 0 ∷ 0 ∷ 0 ∷ []) 2
   -- Document 01: '`ldexp(1.0, k)`, k the middle rounded down', of a gap from -10 to -1; not exact exp2 (2^-5.5), not the middle rounded up (2^-5), not the
   -- gap's lower end (2^-10)
-  pub middle_down : magnitude_split_of (neg (11 /2^ 0) ∷ neg one64 ∷ zero64 ∷ replicate 2 minus_inf) 2 ≡ Gap 1 (1 /2^ 6)
+  pub middle_down : magnitude_split_of (neg (11 /2^ 0) ∷ neg one64 ∷ zero64 ∷ replicate 2 minus_inf) 2 ≡ Some (record { small = 1; threshold = 1 /2^ 6 })
 
 pub record FactorValues : Type 0 where
   -- 567, `m < threshold * f64::EPSILON`; not: a unit at the threshold is small
@@ -194,15 +194,19 @@ pub record Inquiring : Type 0 where
   -- 151, `0.5 * (first + items[k].0)`, both 1 unit; not the midpoint by two halves (then 0)
   pub chain_middle : contact_of (record { first = 1 /2^ 1074; last = 1 /2^ 1074; at = one64; touching = 2; mult = 2; kind = Brush }) ≡ 1 /2^ 1074
 
+-- the equation with these numbers
+abbrev pub trig : Float → Float → Float → Float → Float → TrigEquation
+trig a2 b2 c1 d1 e = record { a2 = a2; b2 = b2; c1 = c1; d1 = d1; e = e }
+
 pub record Equations : Type 0 where
   -- equation.rs 104, `/ (2.0 * a.abs())`, which overflows: sep is NaN, not infinite; not sep by half the root (then it is within any band)
   pub doubled_lead : solve_quadratic_of (1 *2^ 1023) zero64 one64 inf64 zero64 ≡ Empty
   -- equation.rs 105: 2^-50 times the sum is 5 units of 2^-1074, and so is disc; not epsilon times the noise's sum first (then 4 units, and empty or two)
   pub noise_at_once : solve_quadratic_of one64 (53054215 /2^ 537) (703687432316555 /2^ 1074) zero64 zero64 ≡ One (neg (53054215 /2^ 538))
   -- Document 01: 'a NaN counts as larger than infinity'; not: a NaN sample is passed over (then 0)
-  pub nan_sample : sample_of nan zero64 zero64 zero64 zero64 ≡ 7
+  pub nan_sample : sample_of (trig nan zero64 zero64 zero64 zero64) ≡ 7
   -- equation.rs 201 to 203: each product overflows on its own; not 2 (e - 3 a2), not 2 (2 b2 + d1) (finite then)
-  pub products_first : quartic_of (1 *2^ 1022) (1 *2^ 1022) zero64 (neg (1 *2^ 1023)) (1 *2^ 1023) 0
+  pub products_first : quartic_of (trig (1 *2^ 1022) (1 *2^ 1022) zero64 (neg (1 *2^ 1023)) (1 *2^ 1023)) 0
       ≡ 3 *2^ 1022 ∷ nan ∷ nan ∷ minus_inf ∷ 3 *2^ 1022 ∷ []
 
 pub record Computed : Type 0 where

@@ -1,7 +1,7 @@
 -- Two tests of a step that no result turns on: a step that is not finite is never kept, tried or not. Statements only; proofs/Steps.antt has the proof of
 -- `Steps`.
-use Rattle.std.specs.Prelude.{◌≡◌, true, false, List, ℕ, length, get_or, Float}
-use Rattle.std.proofs.Math.Option.{none, some}
+use Rattle.std.specs.Prelude.{◌≡◌, true, false, List, ℕ, length, get_or, Some, Float}
+use Rattle.std.proofs.Math.Option.{none}
 use Rattle.std.specs.Float.{nan}
 use Rattle.facts.specs.Arrays.{from_fn}
 use Rattle.float.specs.Rounded.{◌-ᶠ◌, ◌/ᶠ◌}
@@ -19,7 +19,7 @@ moved n x step = from_fn n (λ i. get_or x i nan -ᶠ get_or step i nan)
 abbrev pub NeverKept : ℕ → System → Type 0
 NeverKept n sys =
     (x step : List Float) (current : Float) → length step ≡ n → is_finite_of current ≡ true → all_finite_of step ≡ false
-    → kept_of n sys current (some (moved n x step)) ≡ none
+    → kept_of n sys current (Some (moved n x step)) ≡ none
 
 -- `let step = fy / dy;` of `polish`, from y
 abbrev pub step_at : List Float → ℕ → Float → Float

@@ -12,7 +12,6 @@ use lib.Ieee.Fits.{add-fits, sub-fits, mul-fits}
 use Rattle.facts.specs.Cond.{either_way}
 use Rattle.float.specs.Literals.{zero64}
 use Rattle.float.specs.Methods.{all_finite_of}
-use Rattle.roots.specs.declared.Roots.{Roots}
 use Rattle.roots.specs.Roots.{list_of, roots_of, no_roots}
 use Rattle.roots.specs.Listed.{Within, Fits}
 use Rattle.roots.proofs.Laws.{list_roots, roots_fit}

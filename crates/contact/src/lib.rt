@@ -27,47 +27,53 @@ pub struct Circle {
     pub r: f64,
 }
 
-// The path as it is seen from the circle's centre.
-fn seen(path: Path, circle: Circle) -> Path
-    ensures { result ≡ seen_of path circle }
-{
-    Path {
-        x0: path.x0 - circle.cx,
-        x1: path.x1,
-        x2: path.x2,
-        y0: path.y0 - circle.cy,
-        y1: path.y1,
-        y2: path.y2,
+impl Path {
+    // The path as it is seen from the circle's centre.
+    #[tactic(auto, unfolding(crate::specs::Contact::seen_of))]
+    fn seen(self, circle: Circle) -> Path
+        ensures { result ≡ seen_of self circle }
+    {
+        Path {
+            x0: self.x0 - circle.cx,
+            x1: self.x1,
+            x2: self.x2,
+            y0: self.y0 - circle.cy,
+            y1: self.y1,
+            y2: self.y2,
+        }
     }
-}
 
-// The square of the distance less that of the radius: ascending coefficients.
-fn coefficients(p: Path, r: f64) -> [f64; 5]
-    ensures { result ≡ coefficients_of p r }
-{
-    [
-        p.x0 * p.x0 + p.y0 * p.y0 - r * r,
-        2.0 * (p.x0 * p.x1 + p.y0 * p.y1),
-        p.x1 * p.x1 + p.y1 * p.y1 + 2.0 * (p.x0 * p.x2 + p.y0 * p.y2),
-        2.0 * (p.x1 * p.x2 + p.y1 * p.y2),
-        p.x2 * p.x2 + p.y2 * p.y2,
-    ]
-}
+    // The square of the distance less that of the radius: ascending coefficients.
+    #[tactic(auto, unfolding(crate::specs::Contact::coefficients_of))]
+    fn coefficients(self, r: f64) -> [f64; 5]
+        ensures { result ≡ coefficients_of self r }
+    {
+        [
+            self.x0 * self.x0 + self.y0 * self.y0 - r * r,
+            2.0 * (self.x0 * self.x1 + self.y0 * self.y1),
+            self.x1 * self.x1 + self.y1 * self.y1 + 2.0 * (self.x0 * self.x2 + self.y0 * self.y2),
+            2.0 * (self.x1 * self.x2 + self.y1 * self.y2),
+            self.x2 * self.x2 + self.y2 * self.y2,
+        ]
+    }
 
-// The distance from the centre at t.
-fn distance(p: Path, t: f64) -> f64
-    ensures { result ≡ distance_of p t }
-{
-    let x = p.x0 + t * (p.x1 + t * p.x2);
-    let y = p.y0 + t * (p.y1 + t * p.y2);
-    sqrt::sqrt(x * x + y * y)
-}
+    // The distance from the centre at t.
+    #[tactic(auto, unfolding(crate::specs::Contact::distance_of))]
+    fn distance(self, t: f64) -> f64
+        ensures { result ≡ distance_of self t }
+    {
+        let x = self.x0 + t * (self.x1 + t * self.x2);
+        let y = self.y0 + t * (self.y1 + t * self.y2);
+        sqrt::sqrt(x * x + y * y)
+    }
 
-// The reply to a question at t.
-fn touches(confusion: f64, p: Path, r: f64, t: f64) -> bool
-    ensures { result ≡ touches_of confusion p r t }
-{
-    float::abs(distance(p, t) - r) <= confusion
+    // The reply to a question at t.
+    #[tactic(auto, unfolding(crate::specs::Contact::touches_of))]
+    fn touches(self, confusion: f64, r: f64, t: f64) -> bool
+        ensures { result ≡ touches_of confusion self r t }
+    {
+        float::abs(self.distance(t) - r) <= confusion
+    }
 }
 
 // At most three questions are asked, so the loop ends. Nothing looks at a logarithm, so a level list is solved without.
@@ -81,7 +87,7 @@ fn listed(confusion: f64, p: Path, r: f64, coeffs: &[f64]) -> poly::Answer
     };
     let mut shown = inquiry::asked_with(s, replies);
     while shown.asking {
-        let yes = touches(confusion, p, r, shown.place);
+        let yes = p.touches(confusion, r, shown.place);
         replies = replies.with(yes);
         shown = inquiry::asked_with(s, replies);
     }
@@ -110,8 +116,8 @@ pub fn pin_contact(confusion: f64, path: Path, circle: Circle) -> poly::Answer
     ];
     if float::all_finite(&handed) {
         if circle.r > 0.0 {
-            let p = seen(path, circle);
-            let coeffs = coefficients(p, circle.r);
+            let p = path.seen(circle);
+            let coeffs = p.coefficients(circle.r);
             if float::all_finite(&coeffs) {
                 return listed(confusion, p, circle.r, &coeffs);
             }

@@ -2,7 +2,7 @@
 use mathlib.Core.Path.{◌≡◌, refl, sym, ap, ◌∙◌, subst}
 use mathlib.Core.Logic.{◌⊎◌, inl, inr}
 use mathlib.Core.Bool.{Bool, true, false, cond}
-use mathlib.Core.List.{List, [], ◌∷◌}
+use mathlib.Core.List.{List, []}
 use Prim.Native.Nat.{ℕ, zero, suc, ◌+◌, ◌-◌, ◌≤◌, ◌<◌}
 use native.Mathlib.Omega.{arith}
 use borrow.Author.Tests.{leb-true, leb-false, le-leb, lt-leb, ne_eqb}
@@ -17,16 +17,15 @@ use Rattle.poly.specs.Coefficients.{trimmed_from, trimmed_of, refusal_by, refusa
 use Rattle.poly.specs.Conditions.{Exactly}
 use Rattle.poly.proofs.Coefficients.{trimmed_most}
 use Rattle.asking.specs.Asking.{done}
+use Rattle.std.specs.Prelude.{Result, Ok, Err}
+use Rattle.refusals.specs.declared.Refusal.{Refusal}
+use Rattle.refusals.specs.declared.Refusal.TheVariants.{NotFinite, AnswerNotFinite}
+use Rattle.trig_quartic.specs.declared.TrigEquation.{TrigEquation}
 use Rattle.trig_quartic.specs.declared.Crank.{Crank}
-use Rattle.trig_quartic.specs.Crank.{f_at_of, sampled_of, sample_of, quartic_of, no_crank, crank_front_of}
-use Rattle.inquiry.specs.declared.Started.{Started}
-use Rattle.touching.specs.declared.Replies.{Replies}
-use Rattle.inquiry.specs.declared.ShownAfter.{ShownAfter}
-use Rattle.inquiry.specs.Start.{real_roots_touching, start_of, shown_after_of}
+use Rattle.trig_quartic.specs.Crank.{f_at_of, sampled_of, numbers_of, sample_of, quartic_of, crank_front_of}
+use Rattle.inquiry.specs.Start.{real_roots_touching, start_of}
 use Rattle.inquiry.proofs.Fresh.{start_number}
-use Rattle.crank.specs.declared.CrankStarted.{CrankStarted}
-use Rattle.crank.specs.declared.CrankShown.{CrankShown}
-use Rattle.crank.specs.Crank.{trig_quartic_of, crank_start_of, crank_shown_of}
+use Rattle.crank.specs.Crank.{trig_quartic_of, front_in, number_in, crank_start_of}
 use Rattle.crank.specs.Claims.{Numbers}
 use Rattle.crank.proofs.Finite.{numbers_finite}
 
@@ -40,52 +39,55 @@ zeros_refused : eqb (refusal_of (replicate 5 zero64)) 0 ≡ false
 unfolding refusal_by is_finite_of trimmed_of trimmed_from eq of_bits
 zeros_refused = refl
 
-module _ (a2 b2 c1 d1 e : Float) where
+module _ (trig : TrigEquation) where
   abbrev numbers : List Float
-  numbers = a2 ∷ b2 ∷ c1 ∷ d1 ∷ e ∷ []
+  numbers = numbers_of trig
 
   abbrev q : List Float
-  q = trig_quartic_of a2 b2 c1 d1 e
+  q = trig_quartic_of trig
 
-  abbrev front : Crank
-  front = crank_front_of a2 b2 c1 d1 e
+  abbrev front : Result Crank Refusal
+  front = crank_front_of trig
 
   -- ---- the sample
-  samples_below : (m : ℕ) (s : ℕ × Float) → s.0 < 8 → (count_up 8 (sampled_of a2 b2 c1 d1 e) m s).0 < 8
+  samples_below : (m : ℕ) (s : ℕ × Float) → s.0 < 8 → (count_up 8 (sampled_of trig) m s).0 < 8
   unfolding count_up
   samples_below zero s h = h
   samples_below (suc m) s h =
-      let v = abs_of (f_at_of a2 b2 c1 d1 e (8 - suc m + 4)) in
-      samples_below m (sampled_of a2 b2 c1 d1 e (8 - suc m) s) (either_way (λ (p : ℕ × Float). p.0 < 8) (total_le_of s.1 v)
+      let v = abs_of (f_at_of trig (8 - suc m + 4)) in
+      samples_below m (sampled_of trig (8 - suc m) s) (either_way (λ (p : ℕ × Float). p.0 < 8) (total_le_of s.1 v)
       {x = (8 - suc m, v)} {y = s} (omega arith) h)
 
-  sample_below : sample_of a2 b2 c1 d1 e < 8
+  sample_below : sample_of trig < 8
   unfolding sample_of
-  sample_below = samples_below 7 (0, abs_of (f_at_of a2 b2 c1 d1 e 4)) (omega arith)
+  sample_below = samples_below 7 (0, abs_of (f_at_of trig 4)) (omega arith)
 
   -- ---- the front
-  made : all_finite_of numbers ≡ true → all_finite_of q ≡ true → front ≡ record { number = 0; k = sample_of a2 b2 c1 d1 e; q = q }
+  made : all_finite_of numbers ≡ true → all_finite_of q ≡ true → front ≡ Ok (record { k = sample_of trig; q = q })
   unfolding crank_front_of
   made h g = rw (h, g)
 
-  unmade : all_finite_of q ≡ false → front ≡ no_crank (cond (all_finite_of numbers) 5 1)
+  abbrev refused : Bool → Result Crank Refusal
+  refused finite = Err (cond finite AnswerNotFinite NotFinite)
+
+  unmade : all_finite_of q ≡ false → front ≡ refused (all_finite_of numbers)
   unfolding crank_front_of
   unmade h = rw h (either (all_finite_of numbers))
     where
-      either : (a : Bool) → cond a (no_crank 5) (no_crank 1) ≡ no_crank (cond a 5 1)
+      either : (a : Bool) → cond a (refused true) (refused false) ≡ refused a
       either true = refl
       either false = refl
 
   -- all finite, or not: by the quartic alone
   by_quartic : {A : Type 0} → (all_finite_of numbers ≡ true → all_finite_of q ≡ true → A)
-      → (all_finite_of q ≡ false → front ≡ no_crank (cond (all_finite_of numbers) 5 1) → A) → A
+      → (all_finite_of q ≡ false → front ≡ refused (all_finite_of numbers) → A) → A
   by_quartic {A = A} f g = go (all_finite_of q) refl
     where
       go : (b : Bool) → all_finite_of q ≡ b → A
-      go true h = f (numbers_finite a2 b2 c1 d1 e (sample_of a2 b2 c1 d1 e) h) h
+      go true h = f (numbers_finite trig (sample_of trig) h) h
       go false h = g h (unmade h)
 
-  pub front_below : front.k < 8
+  pub front_below : (front_in front).k < 8
   front_below = by_quartic (λ h g. rw (made h g) sample_below) (λ h is. rw is (omega arith))
 
   pub quartic_five : trimmed_of q ≤ 5
@@ -100,18 +102,18 @@ module _ (a2 b2 c1 d1 e : Float) where
 
   module _ (confusion : Float) where
     abbrev number : ℕ
-    number = (crank_start_of confusion a2 b2 c1 d1 e).number
+    number = (crank_start_of confusion trig).number
 
     -- the front's quartic asks what the Rust's asks
-    pub same_asking : real_roots_touching front.q confusion ≡ real_roots_touching q confusion
+    pub same_asking : real_roots_touching (front_in front).q confusion ≡ real_roots_touching q confusion
     same_asking =
-        by_quartic (λ h g. ap (λ (f : Crank). real_roots_touching f.q confusion) (made h g))
-        (λ h is. ap (λ (f : Crank). real_roots_touching f.q confusion) is ∙ refused_asks (replicate 5 zero64) confusion zeros_refused
+        by_quartic (λ h g. ap (λ (f : Result Crank Refusal). real_roots_touching (front_in f).q confusion) (made h g))
+        (λ h is. ap (λ (f : Result Crank Refusal). real_roots_touching (front_in f).q confusion) is ∙ refused_asks (replicate 5 zero64) confusion zeros_refused
         ∙ sym (refused_asks q confusion (quartic_refused h)))
 
     -- its k is the Rust's, or nothing is asked
-    pub same_k : (front.k ≡ sample_of a2 b2 c1 d1 e) ⊎ (real_roots_touching q confusion ≡ done [])
-    same_k = by_quartic (λ h g. inl (ap (λ (f : Crank). f.k) (made h g))) (λ h is. inr (refused_asks q confusion (quartic_refused h)))
+    pub same_k : ((front_in front).k ≡ sample_of trig) ⊎ (real_roots_touching q confusion ≡ done [])
+    same_k = by_quartic (λ h g. inl (ap (λ (f : Result Crank Refusal). (front_in f).k) (made h g))) (λ h is. inr (refused_asks q confusion (quartic_refused h)))
 
     -- ---- the number
     listed_number : all_finite_of q ≡ true → refusal_of q ≡ cond (leb (trimmed_of q) 1) 2 0
@@ -122,18 +124,18 @@ module _ (a2 b2 c1 d1 e : Float) where
     number_by a b c = cond a (cond b (cond c 2 0) 5) 1
 
     -- by the front alone
-    abbrev by_front : Crank → ℕ
-    by_front f = cond (eqb f.number 0) (start_of f.q confusion).number f.number
+    abbrev by_front : Result Crank Refusal → ℕ
+    by_front f = number_in f (start_of (front_in f).q confusion).number
 
     number_is : number ≡ number_by (all_finite_of numbers) (all_finite_of q) (leb (trimmed_of q) 1)
     unfolding crank_start_of
     number_is =
         by_quartic (λ h g. ap by_front (made h g) ∙ start_number q confusion ∙ listed_number g ∙ rw (h, g))
-        (λ g is. ap by_front is ∙ refused (all_finite_of numbers) ∙ rw g)
+        (λ g is. ap by_front is ∙ said (all_finite_of numbers) ∙ rw g)
       where
-        refused : (a : Bool) → by_front (no_crank (cond a 5 1)) ≡ cond a 5 1
-        refused true = refl
-        refused false = refl
+        said : (a : Bool) → by_front (refused a) ≡ cond a 5 1
+        said true = refl
+        said false = refl
 
     -- what a number stands for
     abbrev Told : ℕ → Type 0
@@ -164,11 +166,11 @@ module _ (a2 b2 c1 d1 e : Float) where
         }
 
     -- ---- what is started
-    pub started : number ≡ 0 → (crank_start_of confusion a2 b2 c1 d1 e).crank ≡ record { k = sample_of a2 b2 c1 d1 e; inquiry = (start_of q confusion).inquiry }
+    pub started : number ≡ 0 → (crank_start_of confusion trig).crank ≡ record { k = sample_of trig; inquiry = (start_of q confusion).inquiry }
     unfolding crank_start_of
     started z =
         let s = start_numbers.zero.only_there z in
-        ap (λ (f : Crank). record { k = f.k; inquiry = (start_of f.q confusion).inquiry }) (made s.0 s.1)
+        ap (λ (f : Result Crank Refusal). record { k = (front_in f).k; inquiry = (start_of (front_in f).q confusion).inquiry }) (made s.0 s.1)
 
     -- nothing is asked where anything is refused
     pub refused_nothing : 0 < number → real_roots_touching q confusion ≡ done []
@@ -177,26 +179,3 @@ module _ (a2 b2 c1 d1 e : Float) where
         by_quartic
         (λ n g. refused_asks q confusion (ne_eqb (refusal_of q) 0 (λ z. absurd (omega (arith, h, z, ap by_front (made n g) ∙ start_number q confusion)))))
         (λ g is. refused_asks q confusion (quartic_refused g))
-
-    -- ---- the two ways out of `start`, and of `shown_after`
-    pub start_with : {n : ℕ} (f : Crank) (s : Started) → f ≡ front → s ≡ start_of f.q confusion → n ≡ cond (eqb f.number 0) s.number f.number
-        → record { number = n; crank = record { k = f.k; inquiry = s.inquiry } } ≡ crank_start_of confusion a2 b2 c1 d1 e
-    unfolding crank_start_of
-    start_with f s is_f is-s is-n =
-        ap (λ (m : ℕ). record { number = m; crank = record { k = f.k; inquiry = s.inquiry } }) is-n
-        ∙ ap (by f) is-s
-        ∙ ap (λ (g : Crank). by g (start_of g.q confusion)) is_f
-      where
-        by : Crank → Started → CrankStarted
-        by g t = record { number = cond (eqb g.number 0) t.number g.number; crank = record { k = g.k; inquiry = t.inquiry } }
-
-    pub shown_with : {n : ℕ} (rs : Replies) (f : Crank) (s : ShownAfter) → f ≡ front → s ≡ shown_after_of f.q confusion rs
-        → n ≡ cond (eqb f.number 0) s.number f.number → record { number = n; k = f.k; seen = s.seen } ≡ crank_shown_of confusion a2 b2 c1 d1 e rs
-    unfolding crank_shown_of crank_start_of shown_after_of
-    shown_with rs f s is_f is-s is-n =
-        ap (λ (m : ℕ). record { number = m; k = f.k; seen = s.seen }) is-n
-        ∙ ap (by f) is-s
-        ∙ ap (λ (g : Crank). by g (shown_after_of g.q confusion rs)) is_f
-      where
-        by : Crank → ShownAfter → CrankShown
-        by g t = record { number = cond (eqb g.number 0) t.number g.number; k = g.k; seen = t.seen }

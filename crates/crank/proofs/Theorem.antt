@@ -14,11 +14,12 @@ use Rattle.roots.proofs.Laws.{list_roots}
 use Rattle.roots.proofs.Sums.{within_none, within_more}
 use Rattle.poly.specs.Coefficients.{degree_left}
 use Rattle.asking.specs.Asking.{Asking, done, answered, places_asked}
+use Rattle.trig_quartic.specs.declared.TrigEquation.{TrigEquation}
 use Rattle.trig_quartic.specs.Crank.{sample_of, crank_front_of}
 use Rattle.inquiry.specs.Start.{real_roots_touching}
 use Rattle.inquiry.proofs.Theorem.{start_most, start_list}
 use Rattle.crank.specs.declared.CrankInquiry.{CrankInquiry}
-use Rattle.crank.specs.Crank.{trig_quartic_of, solve_trig_of, places_trig_of, crank_start_of, crank_of}
+use Rattle.crank.specs.Crank.{trig_quartic_of, solve_trig_of, places_trig_of, front_in, crank_start_of, crank_of}
 use Rattle.crank.specs.Claims.{CrankFed, Cranks}
 use Rattle.crank.proofs.Front.{front_below, quartic_five, same_asking, same_k, start_numbers, started, refused_nothing}
 use Rattle.crank.proofs.Feeding as feeding
@@ -33,56 +34,56 @@ module _ {X : Type 0} (touches : ℕ → Float → Bool) (read : (Float → Bool
       ∙ ⊎_elim (λ same. ap (λ (i : ℕ). read (touches i) t) same)
       (λ stop. ap (read (touches j)) stop ∙ none (touches j) (touches k) ∙ sym (ap (read (touches k)) stop)) h
 
-module _ (confusion a2 b2 c1 d1 e : Float) where
+module _ (confusion : Float) (trig : TrigEquation) where
   abbrev k : ℕ
-  k = sample_of a2 b2 c1 d1 e
+  k = sample_of trig
 
   abbrev q : List Float
-  q = trig_quartic_of a2 b2 c1 d1 e
+  q = trig_quartic_of trig
 
   -- the front's k and quartic read as the Rust's
   module _ (touches : ℕ → Float → Bool) where
     is_by_front : {X : Type 0} (read : (Float → Bool) → Asking (List RealRoot) → X) → ((f g : Float → Bool) → read f (done []) ≡ read g (done []))
-        → read (touches (crank_front_of a2 b2 c1 d1 e).k) (real_roots_touching (crank_front_of a2 b2 c1 d1 e).q confusion)
+        → read (touches (front_in (crank_front_of trig)).k) (real_roots_touching (front_in (crank_front_of trig)).q confusion)
         ≡ read (touches k) (real_roots_touching q confusion)
-    is_by_front read none = same_reading touches read _ _ _ _ none (same_asking a2 b2 c1 d1 e confusion) (same_k a2 b2 c1 d1 e confusion)
+    is_by_front read none = same_reading touches read _ _ _ _ none (same_asking trig confusion) (same_k trig confusion)
 
-    fed_so : CrankFed touches (crank_start_of confusion a2 b2 c1 d1 e).crank (places_trig_of touches confusion a2 b2 c1 d1 e)
-        (solve_trig_of touches confusion a2 b2 c1 d1 e).1
+    fed_so : CrankFed touches (crank_start_of confusion trig).crank (places_trig_of touches confusion trig)
+        (solve_trig_of touches confusion trig).1
     unfolding crank_start_of answered places_asked
     fed_so =
         rw (sym (is_by_front places_asked (λ f g. refl)), sym (is_by_front answered (λ f g. refl)))
-        (feeding.fed_so touches (crank_front_of a2 b2 c1 d1 e).k (crank_front_of a2 b2 c1 d1 e).q confusion)
+        (feeding.fed_so touches (front_in (crank_front_of trig)).k (front_in (crank_front_of trig)).q confusion)
 
-    refused : 0 < (crank_start_of confusion a2 b2 c1 d1 e).number → (places_trig_of touches confusion a2 b2 c1 d1 e ≡ [])
-        × ((solve_trig_of touches confusion a2 b2 c1 d1 e).1 ≡ [])
+    refused : 0 < (crank_start_of confusion trig).number → (places_trig_of touches confusion trig ≡ [])
+        × ((solve_trig_of touches confusion trig).1 ≡ [])
     unfolding answered places_asked
-    refused h = let none = refused_nothing a2 b2 c1 d1 e confusion h in (ap (places_asked (touches k)) none, ap (answered (touches k)) none)
+    refused h = let none = refused_nothing trig confusion h in (ap (places_asked (touches k)) none, ap (answered (touches k)) none)
 
-    list : Within (degree_left q) (solve_trig_of touches confusion a2 b2 c1 d1 e).1
+    list : Within (degree_left q) (solve_trig_of touches confusion trig).1
     list = start_list (touches k) q confusion
 
-  answer : Within (degree_left q) (list_of (crank_of confusion a2 b2 c1 d1 e).roots)
+  answer : Within (degree_left q) (list_of (crank_of confusion trig).roots)
   unfolding crank_of
-  answer = go (eqb (crank_start_of confusion a2 b2 c1 d1 e).number 0)
+  answer = go (eqb (crank_start_of confusion trig).number 0)
     where
       l : List RealRoot
-      l = (solve_trig_of (λ j u. false) confusion a2 b2 c1 d1 e).1
+      l = (solve_trig_of (λ j u. false) confusion trig).1
 
-      go : (b : Bool) → Within (degree_left q) (list_of (cond b (answers.listed confusion a2 b2 c1 d1 e) (answers.refused confusion a2 b2 c1 d1 e)).roots)
+      go : (b : Bool) → Within (degree_left q) (list_of (cond b (answers.listed confusion trig) (answers.refused confusion trig)).roots)
       go true = subst (Within (degree_left q)) (sym (list_roots l)) (list (λ j u. false))
       go false = within_more 0 (degree_left q) [] (omega arith) within_none
 
-  pub cranks : Cranks confusion a2 b2 c1 d1 e
+  pub cranks : Cranks confusion trig
   unfolding crank_start_of
   cranks =
       record {
-        numbers = start_numbers a2 b2 c1 d1 e confusion;
-        eighths = front_below a2 b2 c1 d1 e;
-        k_is = λ z touches. ap (λ (c : CrankInquiry). c.k) (started a2 b2 c1 d1 e confusion z);
+        numbers = start_numbers trig confusion;
+        eighths = front_below trig;
+        k_is = λ z touches. ap (λ (c : CrankInquiry). c.k) (started trig confusion z);
         fed_so = fed_so;
         refused = λ h touches. refused touches h;
-        degree = omega (arith, quartic_five a2 b2 c1 d1 e);
+        degree = omega (arith, quartic_five trig);
         most = λ touches. start_most (touches k) q confusion;
         list = list;
         answer = answer;

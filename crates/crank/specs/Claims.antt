@@ -1,5 +1,5 @@
 -- What is claimed of cranks: document 01, 'Crank equations'. Statements only; proofs/Theorem.antt has the proof, for all bits.
-use Rattle.std.specs.Prelude.{◌≡◌, Bool, true, false, List, [], ◌∷◌, ℕ, ◌-◌, ◌≤◌, ◌<◌, length, get_or, Float}
+use Rattle.std.specs.Prelude.{◌≡◌, Bool, true, false, List, [], ℕ, ◌-◌, ◌≤◌, ◌<◌, length, get_or, Float}
 use Rattle.std.specs.Float.{nan}
 use Rattle.float.specs.Literals.{zero64}
 use Rattle.float.specs.Methods.{all_finite_of}
@@ -8,6 +8,8 @@ use Rattle.roots.specs.Roots.{list_of, roots_of, no_roots}
 use Rattle.roots.specs.Listed.{Within}
 use Rattle.poly.specs.Coefficients.{trimmed_of, degree_left}
 use Rattle.poly.specs.Conditions.{Exactly}
+use Rattle.trig_quartic.specs.declared.TrigEquation.{TrigEquation}
+use Rattle.trig_quartic.specs.Crank.{numbers_of}
 use Rattle.crank.specs.declared.CrankInquiry.{CrankInquiry}
 use Rattle.crank.specs.Crank.{trig_quartic_of, solve_trig_of, places_trig_of, crank_start_of, crank_asked_of, crank_replied_of, crank_fed, crank_of}
 
@@ -27,22 +29,22 @@ pub record CrankFed (touches : ℕ → Float → Bool) (c : CrankInquiry) (place
   pub over : (reply : Bool) → let end = crank_fed touches (length places) c in crank_replied_of end reply ≡ record { number = 4; crank = end }
 
 -- What holds of every equation and every tolerance.
-pub record Cranks (confusion a2 b2 c1 d1 e : Float) : Type 0 where
-  pub numbers : Numbers (crank_start_of confusion a2 b2 c1 d1 e).number (a2 ∷ b2 ∷ c1 ∷ d1 ∷ e ∷ []) (trig_quartic_of a2 b2 c1 d1 e)
+pub record Cranks (confusion : Float) (trig : TrigEquation) : Type 0 where
+  pub numbers : Numbers (crank_start_of confusion trig).number (numbers_of trig) (trig_quartic_of trig)
   -- 'k (0 to 7, in eighths of a turn)', the Rust's where it is not refused
-  pub eighths : (crank_start_of confusion a2 b2 c1 d1 e).crank.k < 8
-  pub k_is : (crank_start_of confusion a2 b2 c1 d1 e).number ≡ 0 → (touches : ℕ → Float → Bool)
-      → (crank_start_of confusion a2 b2 c1 d1 e).crank.k ≡ (solve_trig_of touches confusion a2 b2 c1 d1 e).0
+  pub eighths : (crank_start_of confusion trig).crank.k < 8
+  pub k_is : (crank_start_of confusion trig).number ≡ 0 → (touches : ℕ → Float → Bool)
+      → (crank_start_of confusion trig).crank.k ≡ (solve_trig_of touches confusion trig).0
   -- for every yes-or-no function of k and u
   pub fed_so : (touches : ℕ → Float → Bool)
-      → CrankFed touches (crank_start_of confusion a2 b2 c1 d1 e).crank (places_trig_of touches confusion a2 b2 c1 d1 e)
-      (solve_trig_of touches confusion a2 b2 c1 d1 e).1
+      → CrankFed touches (crank_start_of confusion trig).crank (places_trig_of touches confusion trig)
+      (solve_trig_of touches confusion trig).1
   -- what is refused is not asked about, and the Rust's list is empty
-  pub refused : 0 < (crank_start_of confusion a2 b2 c1 d1 e).number → (touches : ℕ → Float → Bool)
-      → (places_trig_of touches confusion a2 b2 c1 d1 e ≡ []) × ((solve_trig_of touches confusion a2 b2 c1 d1 e).1 ≡ [])
+  pub refused : 0 < (crank_start_of confusion trig).number → (touches : ℕ → Float → Bool)
+      → (places_trig_of touches confusion trig ≡ []) × ((solve_trig_of touches confusion trig).1 ≡ [])
   -- at most (degree − 1) questions, 0 where the degree is 1; so at most three
-  pub degree : degree_left (trig_quartic_of a2 b2 c1 d1 e) ≤ 4
-  pub most : (touches : ℕ → Float → Bool) → length (places_trig_of touches confusion a2 b2 c1 d1 e) ≤ degree_left (trig_quartic_of a2 b2 c1 d1 e) - 1
+  pub degree : degree_left (trig_quartic_of trig) ≤ 4
+  pub most : (touches : ℕ → Float → Bool) → length (places_trig_of touches confusion trig) ≤ degree_left (trig_quartic_of trig) - 1
   -- demand 1, of every list, and of the answer where every question is replied no
-  pub list : (touches : ℕ → Float → Bool) → Within (degree_left (trig_quartic_of a2 b2 c1 d1 e)) (solve_trig_of touches confusion a2 b2 c1 d1 e).1
-  pub answer : Within (degree_left (trig_quartic_of a2 b2 c1 d1 e)) (list_of (crank_of confusion a2 b2 c1 d1 e).roots)
+  pub list : (touches : ℕ → Float → Bool) → Within (degree_left (trig_quartic_of trig)) (solve_trig_of touches confusion trig).1
+  pub answer : Within (degree_left (trig_quartic_of trig)) (list_of (crank_of confusion trig).roots)

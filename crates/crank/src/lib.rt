@@ -2,11 +2,15 @@
 // It rests on `trig_quartic` (k, and the quartic in u) and on `inquiry`, which asks and lists as for any list; the programs rest on it.
 #![tactic(auto)]
 
-ghost use Rattle.std.specs.Prelude.{◌≡◌, cond, eqb};
+ghost use Rattle.std.specs.Prelude.{◌≡◌};
 ghost use Rattle.roots.specs.Roots.{list_of};
 ghost use Rattle.roots.specs.Listed.{Within};
 ghost use Rattle.poly.specs.Coefficients.{degree_left};
-ghost use Rattle.crank.specs.Crank.{trig_quartic_of, crank_start_of, crank_asked_of, crank_replied_of, crank_shown_of, crank_of};
+ghost use Rattle.crank.specs.Crank.{trig_quartic_of, front_in, number_in, crank_start_of, crank_asked_of, crank_replied_of, crank_shown_of, crank_of};
+
+use inquiry::{Replied, ShownAfter, Started};
+use refusals::Refusal;
+use trig_quartic::{Crank, TrigEquation, crank_front};
 
 // k, and the inquiry about the quartic in u.
 #[derive(Clone, Copy)]
@@ -54,28 +58,33 @@ pub struct CrankAnswer {
     pub roots: roots::Roots,
 }
 
-// 1 and 5 are refused by the equation; 2 by the list, as for any list. Where the equation is refused the quartic is one of zeros.
-fn refusal(equation: u32, list: u32) -> u32
-    ensures { result ≡ cond (eqb equation 0) list equation }
+// k and the quartic; of a refused equation 0 and zeros, about which nothing is asked.
+fn front_in(front: Result<Crank, Refusal>) -> Crank
+    ensures { result ≡ front_in front }
 {
-    if equation == 0 {
-        return list;
-    }
-    equation
+    front.unwrap_or(Crank { k: 0, q: [0.0; 5] })
 }
 
-pub fn start(confusion: f64, a2: f64, b2: f64, c1: f64, d1: f64, e: f64) -> CrankStarted
-    ensures { result ≡ crank_start_of confusion a2 b2 c1 d1 e }
+// 1 and 5 are refused by the equation; 2 by the list, as for any list.
+fn number_in(front: Result<Crank, Refusal>, list: u32) -> u32
+    ensures { result ≡ number_in front list }
 {
-    let front = trig_quartic::crank_front(a2, b2, c1, d1, e);
-    let q = front.q;
-    let s = inquiry::start(&q, confusion);
-    let k = front.k as u32;
-    let inquiry = s.inquiry;
-    let crank = CrankInquiry { k, inquiry };
+    match front {
+        Ok(_) => list,
+        Err(refusal) => refusal.into(),
+    }
+}
+
+#[tactic(auto, unfolding(crate::specs::Crank::crank_start_of))]
+pub fn start(confusion: f64, trig: TrigEquation) -> CrankStarted
+    ensures { result ≡ crank_start_of confusion trig }
+{
+    let front = crank_front(trig);
+    let Crank { k, q } = front_in(front);
+    let Started { number, inquiry } = inquiry::start(&q, confusion);
     CrankStarted {
-        number: refusal(front.number, s.number),
-        crank,
+        number: number_in(front, number),
+        crank: CrankInquiry { k, inquiry },
     }
 }
 
@@ -84,14 +93,12 @@ impl CrankInquiry {
     pub fn ask(self) -> CrankAsked
         ensures { result ≡ crank_asked_of self }
     {
-        let inquiry = self.inquiry;
-        let a = inquiry.ask();
-        let list = a.list;
+        let a = self.inquiry.ask();
         CrankAsked {
             asking: a.asking,
             k: self.k,
             place: a.place,
-            list,
+            list: a.list,
         }
     }
 
@@ -99,62 +106,44 @@ impl CrankInquiry {
     pub fn reply(self, yes: bool) -> CrankReplied
         ensures { result ≡ crank_replied_of self yes }
     {
-        let before = self.inquiry;
-        let r = before.reply(yes);
-        let inquiry = r.inquiry;
+        let Replied { number, inquiry } = self.inquiry.reply(yes);
         let crank = CrankInquiry { k: self.k, inquiry };
-        CrankReplied {
-            number: r.number,
-            crank,
-        }
+        CrankReplied { number, crank }
     }
 }
 
 // What `start` and `see` show with these replies put in at once.
-pub fn shown_after(
-    confusion: f64,
-    a2: f64,
-    b2: f64,
-    c1: f64,
-    d1: f64,
-    e: f64,
-    replies: touching::Replies,
-) -> CrankShown
-    ensures { result ≡ crank_shown_of confusion a2 b2 c1 d1 e replies }
+#[tactic(auto, unfolding(crate::specs::Crank::crank_shown_of, crate::specs::Crank::crank_start_of, inquiry::specs::Start::shown_after_of))]
+pub fn shown_after(confusion: f64, trig: TrigEquation, replies: touching::Replies) -> CrankShown
+    ensures { result ≡ crank_shown_of confusion trig replies }
 {
-    let front = trig_quartic::crank_front(a2, b2, c1, d1, e);
-    let q = front.q;
-    let s = inquiry::shown_after(&q, confusion, replies);
-    let k = front.k as u32;
-    let number = refusal(front.number, s.number);
-    let seen = s.seen;
+    let front = crank_front(trig);
+    let Crank { k, q } = front_in(front);
+    let ShownAfter { number, seen } = inquiry::shown_after(&q, confusion, replies);
+    let number = number_in(front, number);
     CrankShown { number, k, seen }
 }
 
 // Every question replied no: at most three are asked, so four replies at hand answer them all.
 // Demand 1 holds of the answer: at most four finite roots, each counting at least once, together at most the degree left.
-pub fn crank(confusion: f64, a2: f64, b2: f64, c1: f64, d1: f64, e: f64) -> CrankAnswer
-    ensures { (result ≡ crank_of confusion a2 b2 c1 d1 e) × Within (degree_left (trig_quartic_of a2 b2 c1 d1 e)) (list_of result.roots) }
+pub fn crank(confusion: f64, trig: TrigEquation) -> CrankAnswer
+    ensures { (result ≡ crank_of confusion trig) × Within (degree_left (trig_quartic_of trig)) (list_of result.roots) }
 {
     let replies = touching::Replies {
         reply: [false; 4],
         count: 4,
     };
-    let s = shown_after(confusion, a2, b2, c1, d1, e, replies);
+    let s = shown_after(confusion, trig, replies);
     if s.number == 0 {
-        let seen = s.seen;
-        let a = seen.asked;
-        let roots = a.list;
         return CrankAnswer {
             number: 0,
             k: s.k,
-            roots,
+            roots: s.seen.asked.list,
         };
     }
-    let roots = roots::Roots::none();
     CrankAnswer {
         number: s.number,
         k: 0,
-        roots,
+        roots: roots::Roots::none(),
     }
 }

@@ -1,9 +1,11 @@
--- One turn of `critical_point` by what its tests found.
-use mathlib.Core.Path.{◌≡◌, sym}
-use mathlib.Core.Bool.{true, false}
+-- One turn of `critical_point` by what its tests found, and Rust's `then_some`.
+use mathlib.Core.Path.{◌≡◌, refl, sym}
+use mathlib.Core.Bool.{Bool, true, false, cond}
 use mathlib.Core.List.{List}
 use mathlib.Core.Option.{none, some}
 use Prim.Native.Nat.{ℕ}
+use Rattle.std.specs.Bool.{then_some}
+use Rattle.std.specs.Prelude.{Some, None}
 use lib.Ieee.{Float, binary64, sub, div}
 use Rattle.horner.specs.Taylor.{derivs12_of}
 use Rattle.horner.specs.declared.Derivs.{Derivs}
@@ -31,3 +33,7 @@ module _ (f : List Float) (d : ℕ) (lo hi y : Float) {v : Derivs} (here : v ≡
       pub critical_moved : no_gain_of v.d1 u.d1 ≡ false → critical_next f d lo hi y ≡ some next
       unfolding critical_next
       critical_moved t = simp (sym here, steep, inside, sym there, t)
+
+pub some_where : {A : Type 0} (b : Bool) (x : A) → then_some b x ≡ cond b (Some x) None
+some_where true x = refl
+some_where false x = refl

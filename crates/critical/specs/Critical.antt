@@ -1,6 +1,6 @@
 -- `critical_point` and `extremum` of Scaled in poly.rs: Newton's method on f', since a double root, and a contact that only brushes, stand where f' is zero.
 -- Definitions only.
-use Rattle.std.specs.Prelude.{Bool, cond, not, ◌&&◌, List, ℕ, Float}
+use Rattle.std.specs.Prelude.{Bool, cond, not, ◌&&◌, List, ℕ, Float, Option as RustOption, Some, None}
 use Rattle.std.proofs.Math.Option.{Option, none, some}
 use Rattle.std.specs.Float.Ieee.{le}
 use Rattle.facts.specs.Turns.{turns_of}
@@ -10,8 +10,6 @@ use Rattle.horner.specs.Taylor.{derivs12_of}
 use Rattle.refine.specs.Newton.{flat_of, no_gain_of}
 use Rattle.scaled.specs.declared.Scaled.{Scaled}
 use Rattle.band.specs.Band.{base_of, band_of}
-use Rattle.critical.specs.declared.TurningPoint.{TurningPoint}
-use Rattle.critical.specs.declared.TurningPoint.TheVariants.{At, None}
 
 -- `lo <= next && next <= hi`
 unfoldable pub is_between_of : Float → Float → Float → Bool
@@ -39,7 +37,7 @@ abbrev pub double_at : Scaled → Float → Float → Float
 double_at poly mid tol = let band = band_of poly mid tol in critical_point_of poly mid (mid -ᶠ band) (mid +ᶠ band)
 
 -- `extremum`: the place where these turns end, if Newton's step |d1 / d2| from there is within the caller's band
-unfoldable pub extremum_of : Scaled → Float → Float → Float → Float → TurningPoint
+unfoldable pub extremum_of : Scaled → Float → Float → Float → Float → RustOption Float
 extremum_of poly y lo hi tol =
     -- let y = self.critical_point(y, lo, hi);
     let at = critical_point_of poly y lo hi in
@@ -48,4 +46,4 @@ extremum_of poly y lo hi tol =
     let d1 = there.d1 in
     let d2 = there.d2 in
     -- (d1.abs() <= tol * (self.unit + y.abs()) * d2.abs()).then_some(y)
-    cond (le (abs_of d1) (base_of poly.unit at tol *ᶠ abs_of d2)) (At at) None
+    cond (le (abs_of d1) (base_of poly.unit at tol *ᶠ abs_of d2)) (Some at) None

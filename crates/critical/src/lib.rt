@@ -7,13 +7,9 @@ ghost use Rattle.facts.specs.Turns.{turns_of};
 ghost use Rattle.band.specs.Band.{bare};
 ghost use Rattle.critical.specs.Critical.{is_between_of, critical_next, critical_point_of, extremum_of, double_at};
 
-// The Rust's Option.
-#[derive(Clone, Copy)]
-pub enum TurningPoint {
-    At(f64),
-    None,
-}
+use horner::Polynomial;
 
+#[tactic(auto, unfolding(crate::specs::Critical::is_between_of))]
 fn is_between(lo: f64, x: f64, hi: f64) -> bool
     ensures { result ≡ is_between_of lo x hi }
 {
@@ -24,19 +20,16 @@ pub fn critical_point(poly: scaled::Scaled, y0: f64, lo: f64, hi: f64) -> f64
     requires { poly.d ≤ 4 }
     ensures { result ≡ critical_point_of poly y0 lo hi }
 {
-    let f = poly.f;
-    critical(f, poly.d, y0, lo, hi)
+    critical(poly.polynomial(), y0, lo, hi)
 }
 
-// Newton's method on f', each step to a place within [lo, hi].
-fn critical(f: [f64; 5], d: usize, y0: f64, lo: f64, hi: f64) -> f64
-    requires { d ≤ 4 }
-    ensures { result ≡ turns_of (critical_next f d lo hi) 4 y0 }
+// Newton's method on p', each step to a place within [lo, hi].
+fn critical(p: Polynomial, y0: f64, lo: f64, hi: f64) -> f64
+    ensures { result ≡ turns_of (critical_next p.f p.d lo hi) 4 y0 }
 {
     let mut y = y0;
-    let mut at = horner::derivs12(f, d, y0);
-    let mut k: usize = 0;
-    while k < 4 {
+    let mut at = p.derivs12(y0);
+    for k in 0..4usize {
         if refine::flat(at.d1, at.d2) {
             return y;
         }
@@ -44,37 +37,30 @@ fn critical(f: [f64; 5], d: usize, y0: f64, lo: f64, hi: f64) -> f64
         if !is_between(lo, next, hi) {
             return y;
         }
-        let there = horner::derivs12(f, d, next);
+        let there = p.derivs12(next);
         if refine::no_gain(at.d1, there.d1) {
             return y;
         }
         y = next;
         at = there;
-        k += 1;
     }
     y
 }
 
 // The critical point, if Newton's step from there is within the caller's band.
-pub fn extremum(poly: scaled::Scaled, y: f64, lo: f64, hi: f64, tol: f64) -> TurningPoint
+pub fn extremum(poly: scaled::Scaled, y: f64, lo: f64, hi: f64, tol: f64) -> Option<f64>
     requires { poly.d ≤ 4 }
     ensures { result ≡ extremum_of poly y lo hi tol }
 {
     let at = critical_point(poly, y, lo, hi);
-    let f = poly.f;
-    let v = horner::derivs12(f, poly.d, at);
-    if float::abs(v.d1) <= band::base_band(poly.unit, at, tol) * float::abs(v.d2) {
-        return TurningPoint::At(at);
-    }
-    TurningPoint::None
+    let v = poly.polynomial().derivs12(at);
+    (float::abs(v.d1) <= band::base_band(poly.unit, at, tol) * float::abs(v.d2)).then_some(at)
 }
 
 // Where a double root within the band about mid is.
-pub fn double_at(f: [f64; 5], d: usize, unit: f64, mid: f64, tol: f64) -> f64
-    requires { d ≤ 4 }
-    ensures { result ≡ double_at (bare f d unit) mid tol }
+pub fn double_at(p: Polynomial, unit: f64, mid: f64, tol: f64) -> f64
+    ensures { result ≡ double_at (bare p.f p.d unit) mid tol }
 {
-    let reach = band::base_band(unit, mid, tol)
-        + band::noise_within(f, d, mid, band::budget(f, d, mid));
-    critical(f, d, mid, mid - reach, mid + reach)
+    let reach = band::base_band(unit, mid, tol) + band::noise_within(p, mid, band::budget(p, mid));
+    critical(p, mid, mid - reach, mid + reach)
 }

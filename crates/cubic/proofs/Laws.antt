@@ -1,33 +1,14 @@
--- How many roots the closed form gives, its one constant, and what the fold over one and over three roots that finds the most isolated comes to.
+-- The one constant of the closed form, and what the fold over one and over three roots that finds the most isolated comes to.
 use mathlib.Core.Path.{◌≡◌, refl, sym, ◌∙◌}
-use mathlib.Core.Bool.{Bool, true, false, cond, ◌||◌}
-use mathlib.Core.List.{List}
-use mathlib.Core.Logic.{◌⊎◌, inl, inr}
-use Prim.Native.Nat.{ℕ}
+use mathlib.Core.Bool.{Bool, true, false, cond}
+use mathlib.Core.List.{List, [], ◌∷◌}
 use lib.ListN.{get_or}
-use lib.Ieee.{Float, nan, binary64, of_bits, mul, lt, le}
+use lib.Ieee.{Float, nan, binary64, of_bits, mul}
 use Rattle.facts.specs.Count.{count_up}
-use Rattle.facts.specs.Cond.{either_way}
-use Rattle.float.specs.Literals.{zero64, half64, three64}
+use Rattle.float.specs.Literals.{half64, three64}
 use Rattle.float.specs.Methods.{total_le_of}
 use Rattle.sqrt.specs.Root.{sqrt_of}
-use Rattle.cubic.specs.declared.CubicRoots.{CubicRoots}
-use Rattle.cubic.specs.Cubic.{one_root_of, three_roots_of, depressed_roots_of, cubic_closed_form_of, OneOrThree}
 use Rattle.cubic.specs.Cubic.{isolation_of, isolation_among, better_of, most_isolated_of}
-
--- ---- one root or three
-
-depressed_counts : (shift p q disc : Float) → OneOrThree (depressed_roots_of shift p q disc).n
-unfolding depressed_roots_of one_root_of three_roots_of
-depressed_counts shift p q disc = either_way (λ (s : CubicRoots). OneOrThree s.n) (lt zero64 disc || le zero64 p) (inl refl) (inr refl)
-
-pub counts : (b c d : Float) → OneOrThree (cubic_closed_form_of b c d).n
-unfolding cubic_closed_form_of
-counts b c d = depressed_counts _ _ _ _
-
-pub three : {n : ℕ} → (n ≡ 1) ⊎ (n ≡ 3) → (n ≡ 1 → ⊥) → n ≡ 3
-three (inl e) differs = absurd (differs e)
-three (inr e) differs = e
 
 -- what code has for 0.5 * 3f64.sqrt()
 pub half_root_three : mul binary64 half64 (sqrt_of three64) ≡ of_bits binary64 0x3feb_b67a_e858_4caa
@@ -36,11 +17,11 @@ half_root_three = refl
 
 -- ---- the most isolated root
 
-pub only_root : (roots : List Float) (n : ℕ) → n ≡ 1 → get_or roots 0 nan ≡ most_isolated_of roots n
+pub only_root : (r : Float) → r ≡ most_isolated_of (r ∷ []) 1
 unfolding most_isolated_of count_up
-only_root roots n e = rw e
+only_root r = refl
 
-module _ (roots : List Float) (n : ℕ) (i0 i1 i2 : Float) (all : n ≡ 3) (e0 : i0 ≡ isolation_among (get_or roots 0 nan) (get_or roots 1 nan) (get_or roots 2 nan))
+module _ (roots : List Float) (i0 i1 i2 : Float) (e0 : i0 ≡ isolation_among (get_or roots 0 nan) (get_or roots 1 nan) (get_or roots 2 nan))
     (e1 : i1 ≡ isolation_among (get_or roots 1 nan) (get_or roots 0 nan) (get_or roots 2 nan))
     (e2 : i2 ≡ isolation_among (get_or roots 2 nan) (get_or roots 0 nan) (get_or roots 1 nan)) where
   f0 : i0 ≡ isolation_of roots 3 0
@@ -55,12 +36,12 @@ module _ (roots : List Float) (n : ℕ) (i0 i1 i2 : Float) (all : n ≡ 3) (e0 :
   unfolding isolation_of count_up
   f2 = e2
 
-  after_two : (t : Bool) → total_le_of i0 i1 ≡ t → most_isolated_of roots n ≡ get_or roots (better_of roots 3 2 (cond t 1 0)) nan
+  after_two : (t : Bool) → total_le_of i0 i1 ≡ t → most_isolated_of roots 3 ≡ get_or roots (better_of roots 3 2 (cond t 1 0)) nan
   unfolding most_isolated_of better_of count_up
-  after_two t h = rw all (simp (rw (f0, f1) at h))
+  after_two t h = simp (rw (f0, f1) at h)
 
   -- the second takes the place of the first where t, and the third the place of the better of them where u
-  pub of_three : (t u : Bool) → total_le_of i0 i1 ≡ t → total_le_of (cond t i1 i0) i2 ≡ u → get_or roots (cond u 2 (cond t 1 0)) nan ≡ most_isolated_of roots n
+  pub of_three : (t u : Bool) → total_le_of i0 i1 ≡ t → total_le_of (cond t i1 i0) i2 ≡ u → get_or roots (cond u 2 (cond t 1 0)) nan ≡ most_isolated_of roots 3
   unfolding better_of
   of_three true u h k = sym (after_two true h ∙ simp (rw (f1, f2) at k))
   of_three false u h k = sym (after_two false h ∙ simp (rw (f0, f2) at k))

@@ -15,6 +15,7 @@ use Rattle.square.specs.Square.{size_sum_of, scale_of, least_pivot_of, larger_of
 use Rattle.square.specs.Square.{reduce_step, reduce_of, remainder_of, substitute_step, substitute_of, solve_from, solve_square_of}
 use Rattle.refine.specs.Refine.{over_of, weighted_of, norm_of, is_settled_of, weigh_row_of, weigh_rows_of, advanced_of, trial_of, no_less_of, kept_of, next_of, refine_of}
 use Rattle.refine.specs.Newton.{flat_of, no_gain_of, newton_next, newton_cubic_of}
+use Rattle.cubic.specs.declared.CubicRoots.TheVariants.{Three}
 use Rattle.cubic.specs.Cubic.{one_root_of, three_roots_of, depressed_roots_of, cubic_closed_form_of, isolation_of, better_of, most_isolated_of, cubic_factor_of}
 
 -- what has to unfold for the definitions to compute: a fact says `unfolding computes`
@@ -32,7 +33,7 @@ bits n = of_bits binary64 n
 -- three roots, by the trigonometric form
 
 closed_three : cubic_closed_form_of (bits 0x0000_0000_0000_0000) (bits 0xbff0_0000_0000_0000) (bits 0x3fd0_0000_0000_0000)
-    ≡ record { root = bits 0x3fea_cd56_0719_a8f9 ∷ bits 0x3fd1_4109_05e2_e03b ∷ bits 0xbff1_b6ed_4505_8c8b ∷ []; n = 3 }
+    ≡ Three (bits 0x3fea_cd56_0719_a8f9 ∷ bits 0x3fd1_4109_05e2_e03b ∷ bits 0xbff1_b6ed_4505_8c8b ∷ [])
 unfolding computes
 closed_three = refl
 

@@ -1,5 +1,5 @@
 -- `cubic_closed_form`, the real roots of the monic cubic y^3 + b*y^2 + c*y + d, and `cubic_factor`, that cubic as (y - r) * (y^2 + e*y + f). Definitions only.
-use Rattle.std.specs.Prelude.{◌≡◌, ◌⊎◌, cond, ◌||◌, List, [], ◌∷◌, ℕ, ◌-◌, eqb, get_or, Float}
+use Rattle.std.specs.Prelude.{cond, ◌||◌, List, [], ◌∷◌, ℕ, ◌-◌, eqb, get_or, Float}
 use Rattle.std.specs.Float.{nan}
 use Rattle.std.specs.Float.Ieee.{neg, lt, le, ne}
 use Rattle.facts.specs.Count.{count_up}
@@ -13,6 +13,7 @@ use Rattle.refine.specs.Refine.{refine_of}
 use Rattle.refine.specs.Systems.{cubic_system}
 use Rattle.refine.specs.Newton.{newton_cubic_of}
 use Rattle.cubic.specs.declared.CubicRoots.{CubicRoots}
+use Rattle.cubic.specs.declared.CubicRoots.TheVariants.{One, Three}
 use Rattle.cubic.specs.declared.CubicFactor.{CubicFactor}
 
 -- `let t = if a != 0.0 { a - p / (3.0 * a) } else { 0.0 };`: Cardano's larger term a, and the other 'from their product -p/3 (no cancellation)'
@@ -26,7 +27,7 @@ one_root_of shift p q disc =
     -- let a = -(0.5 * q + disc.max(0.0).sqrt().copysign(q)).cbrt();
     let a = neg (cbrt_of (half64 *ᶠ q +ᶠ copysign_of (sqrt_of (max_of disc zero64)) q)) in
     let t = cardano_of p a in
-    record { root = t +ᶠ shift ∷ zero64 ∷ zero64 ∷ []; n = 1 }
+    One (t +ᶠ shift)
 
 -- Three, by the trigonometric form: m * cos(θ), and m * cos(θ ∓ 2π/3) = m * (-cos(θ)/2 ± sin(θ)*√3/2), where θ is a third of the angle whose cosine is cos3.
 -- A cos3 that is a NaN (0 times infinity, for a tiny p) stays one, and so do the roots.
@@ -44,7 +45,7 @@ three_roots_of shift p q =
     let a = neg half64 *ᶠ cos in
     let b = half64 *ᶠ sqrt_of three64 *ᶠ sin in
     -- [m * cos + shift, m * (a + b) + shift, m * (a - b) + shift]
-    record { root = m *ᶠ cos +ᶠ shift ∷ m *ᶠ (a +ᶠ b) +ᶠ shift ∷ m *ᶠ (a -ᶠ b) +ᶠ shift ∷ []; n = 3 }
+    Three (m *ᶠ cos +ᶠ shift ∷ m *ᶠ (a +ᶠ b) +ᶠ shift ∷ m *ᶠ (a -ᶠ b) +ᶠ shift ∷ [])
 
 -- `if disc > 0.0 || p >= 0.0`: one root, else three, also where disc is 0. They are what the formulas give for t^3 + p*t + q, moved by shift.
 unfoldable pub depressed_roots_of : Float → Float → Float → Float → CubicRoots
@@ -63,9 +64,14 @@ cubic_closed_form_of b c d =
     let disc = (half64 *ᶠ q) *ᶠ (half64 *ᶠ q) +ᶠ (p /ᶠ three64) *ᶠ (p /ᶠ three64) *ᶠ (p /ᶠ three64) in
     depressed_roots_of shift p q disc
 
--- what the functions say of n, the number of roots
-abbrev pub OneOrThree : ℕ → Type 0
-OneOrThree n = (n ≡ 1) ⊎ (n ≡ 3)
+-- `roots` and n of what it answers: the places up to n, and how many they are
+abbrev pub places_of : CubicRoots → List Float
+places_of (One r) = r ∷ []
+places_of (Three roots) = roots
+
+abbrev pub count_of : CubicRoots → ℕ
+count_of (One r) = 1
+count_of (Three roots) = 3
 
 -- `let isolation = |i: usize|`, `.map(|j| (roots[i] - roots[j]).abs())` of each other j, and `.fold(f64::INFINITY, f64::min)`: how far root i is from
 -- the nearest of the others, infinity where there is none. It is never a NaN: the minimum passes a NaN over.
@@ -95,7 +101,7 @@ cubic_factor_of b c d =
     -- let (roots, n) = cubic_closed_form(b, c, d);
     let s = cubic_closed_form_of b c d in
     -- let r = newton_cubic(&[d, c, b, 1.0, 0.0], roots[best]);
-    let r = newton_cubic_of (d ∷ c ∷ b ∷ one64 ∷ zero64 ∷ []) (most_isolated_of s.root s.n) in
+    let r = newton_cubic_of (d ∷ c ∷ b ∷ one64 ∷ zero64 ∷ []) (most_isolated_of (places_of s) (count_of s)) in
     -- let f = if r != 0.0 { -d / r } else { c };
     let f = over_or (neg d) r c in
     -- let x = refine([r, b + r, f], ..);

@@ -5,14 +5,14 @@
 ghost use Rattle.std.specs.Prelude.{◌≡◌, ◌||◌};
 ghost use Rattle.std.specs.Float.Ieee.{lt, le};
 ghost use Rattle.float.specs.Literals.{zero64};
-ghost use Rattle.cubic.specs.Cubic.{cardano_of, one_root_of, three_roots_of, cubic_closed_form_of, OneOrThree};
+ghost use Rattle.cubic.specs.Cubic.{cardano_of, one_root_of, three_roots_of, cubic_closed_form_of, places_of, count_of};
 ghost use Rattle.cubic.specs.Cubic.{isolation_among, most_isolated_of, over_or, cubic_factor_of};
 
-// The first n places hold roots.
+// The real roots of a cubic.
 #[derive(Clone, Copy)]
-pub struct CubicRoots {
-    pub root: [f64; 3],
-    pub n: usize,
+pub enum CubicRoots {
+    One(f64),
+    Three([f64; 3]),
 }
 
 fn has_one_root(disc: f64, p: f64) -> bool
@@ -28,16 +28,14 @@ fn cardano(p: f64, a: f64) -> f64
 }
 
 // Cardano: the term of larger size first.
+#[tactic(auto, unfolding(crate::specs::Cubic::one_root_of))]
 fn one_root(shift: f64, p: f64, q: f64, disc: f64) -> CubicRoots
     ensures { result ≡ one_root_of shift p q disc }
 {
     let root = sqrt::sqrt(float::max(disc, 0.0));
     let a = -cbrt::cbrt(0.5 * q + float::copysign(root, q));
     let t = cardano(p, a);
-    CubicRoots {
-        root: [t + shift, 0.0, 0.0],
-        n: 1,
-    }
+    CubicRoots::One(t + shift)
 }
 
 // 0.5 * 3f64.sqrt()
@@ -52,16 +50,14 @@ fn three_roots(shift: f64, p: f64, q: f64) -> CubicRoots
     let third = angle::third_angle(cos3);
     let a = -0.5 * third.cos;
     let b = HALF_ROOT_THREE * third.sin;
-    CubicRoots {
-        root: [
-            m * third.cos + shift,
-            m * (a + b) + shift,
-            m * (a - b) + shift,
-        ],
-        n: 3,
-    }
+    CubicRoots::Three([
+        m * third.cos + shift,
+        m * (a + b) + shift,
+        m * (a - b) + shift,
+    ])
 }
 
+#[tactic(auto, unfolding(crate::specs::Cubic::cubic_closed_form_of, crate::specs::Cubic::depressed_roots_of))]
 pub fn cubic_closed_form(b: f64, c: f64, d: f64) -> CubicRoots
     ensures { result ≡ cubic_closed_form_of b c d }
 {
@@ -70,9 +66,10 @@ pub fn cubic_closed_form(b: f64, c: f64, d: f64) -> CubicRoots
     let q = d + b * (2.0 * b * b - 9.0 * c) / 27.0;
     let disc = (0.5 * q) * (0.5 * q) + (p / 3.0) * (p / 3.0) * (p / 3.0);
     if has_one_root(disc, p) {
-        return one_root(shift, p, q, disc);
+        one_root(shift, p, q, disc)
+    } else {
+        three_roots(shift, p, q)
     }
-    three_roots(shift, p, q)
 }
 
 // (y - r) * (y^2 + e*y + f)
@@ -92,29 +89,24 @@ fn isolation(a: f64, b: f64, c: f64) -> f64
 }
 
 // The last of equally isolated roots.
-fn most_isolated(roots: [f64; 3], n: usize) -> f64
-    requires { OneOrThree n }
-    ensures { result ≡ most_isolated_of roots n }
+fn most_isolated(roots: CubicRoots) -> f64
+    ensures { result ≡ most_isolated_of (places_of roots) (count_of roots) }
 {
-    let a = roots[0];
-    if n == 1 {
-        return a;
-    }
-    let b = roots[1];
-    let c = roots[2];
-    let i0 = isolation(a, b, c);
-    let i1 = isolation(b, a, c);
-    let i2 = isolation(c, a, b);
-    if float::total_le(i0, i1) {
-        if float::total_le(i1, i2) {
-            return c;
+    match roots {
+        CubicRoots::One(r) => r,
+        CubicRoots::Three(roots) => {
+            let [a, b, c] = roots;
+            let i0 = isolation(a, b, c);
+            let i1 = isolation(b, a, c);
+            let i2 = isolation(c, a, b);
+            let (best, iso) = if float::total_le(i0, i1) {
+                (b, i1)
+            } else {
+                (a, i0)
+            };
+            if float::total_le(iso, i2) { c } else { best }
         }
-        return b;
     }
-    if float::total_le(i0, i2) {
-        return c;
-    }
-    a
 }
 
 // x / z, or other where z is a zero.
@@ -124,18 +116,13 @@ pub fn over_or(x: f64, z: f64, other: f64) -> f64
     if z != 0.0 { x / z } else { other }
 }
 
+#[tactic(auto, unfolding(crate::specs::Cubic::cubic_factor_of))]
 pub fn cubic_factor(b: f64, c: f64, d: f64) -> CubicFactor
     ensures { result ≡ cubic_factor_of b c d }
 {
-    let s = cubic_closed_form(b, c, d);
-    let roots = s.root;
-    let start = most_isolated(roots, s.n);
+    let start = most_isolated(cubic_closed_form(b, c, d));
     let r = refine::newton_cubic([d, c, b, 1.0, 0.0], start);
     let f = over_or(-d, r, c);
-    let x = refine::refine_cubic(b, c, d, [r, b + r, f]);
-    CubicFactor {
-        r: x[0],
-        e: x[1],
-        f: x[2],
-    }
+    let [r, e, f] = refine::refine_cubic(b, c, d, [r, b + r, f]);
+    CubicFactor { r, e, f }
 }

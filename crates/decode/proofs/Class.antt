@@ -2,7 +2,7 @@
 use mathlib.Core.Path.{◌≡◌, refl, sym, ap, ap₂, ◌∙◌, subst}
 use mathlib.Core.Logic.{◌⊎◌, inl, inr, ⊎_elim}
 use mathlib.Core.Bool.{Bool, true, false, not, ◌||◌, beq, false≢true}
-use Prim.Native.Nat.{ℕ, zero, suc, ◌+◌, ◌*◌, ◌/◌, ◌%◌, ◌^◌, ◌≤◌, ◌<◌}
+use Prim.Native.Nat.{ℕ, zero, suc, ◌+◌, ◌*◌, ◌/◌, ◌%◌, ◌^◌, ◌<◌}
 use native.Mathlib.Omega.{arith}
 use native.Mathlib.Nat.{mul-one, zero-mul, mul-pos, zero-div, zero-lt-suc, lt_of_lt_of_le, lt_irrefl}
 use lib.Dec.{T, eqb, ltb, eqb→eq, ltb→lt}
@@ -18,6 +18,8 @@ use Rattle.float.specs.Units.{Finite, units_of}
 use Rattle.float.proofs.Bits.{of_true}
 use Rattle.decode.specs.Exponent.{regular_of}
 use Rattle.decode.specs.Shape.{Normal, Decoded}
+use Rattle.decode.specs.declared.Digits.{Digits}
+use Rattle.std.specs.Prelude.{Some, None}
 use Rattle.decode.proofs.Fields.{units_pos, Pattern, not_top, normal, fraction_is}
 
 no_product : (a b : ℕ) → 0 < a * b → a * b ≡ 0 → ⊥
@@ -72,26 +74,26 @@ irregular_units (inf s) r = refl
 irregular_units (fin s zero e) r = ap (λ (a : ℕ). a * 2 ^ 1074 / down e) (zero-mul (up e)) ∙ zero-div (down e)
 irregular_units (fin s (suc m) e) r = absurd (false≢true (sym r ∙ lt-ltb 0 (suc m) (zero-lt-suc m)))
 
-pub decoded_none : (x : Float) → fits binary64 x ≡ true → units_of x ≡ 0 → Decoded x 0 0
+pub decoded_none : (x : Float) → fits binary64 x ≡ true → units_of x ≡ 0 → Decoded x None
 decoded_none x f z = record {
   regular = λ r. absurd (lt_irrefl 0 (subst (λ (n : ℕ). 0 < n) z (regular_units x f r)));
-  other = λ r. (refl, refl);
+  other = λ r. refl;
 }
 
-pub decoded_digits : (x : Float) (w k : ℕ) → Normal (units_of x) w k → Decoded x w k
-decoded_digits x w k h = record {
-  regular = λ r. h;
+pub decoded_digits : (x : Float) (n : Digits) → Normal (units_of x) n.w n.k → Decoded x (Some n)
+decoded_digits x n h = record {
+  regular = λ r. (n, refl, h);
   other =
-      λ r. absurd (no_product w (2 ^ k) (mul-pos (lt_of_lt_of_le (pow_pos 52) h.led) (pow_pos k))
-      (h.value ∙ ap (λ (n : ℕ). n * 2 ^ 52) (irregular_units x r)));
+      λ r. absurd (no_product n.w (2 ^ n.k) (mul-pos (lt_of_lt_of_le (pow_pos 52) h.led) (pow_pos n.k))
+      (h.value ∙ ap (λ (u : ℕ). u * 2 ^ 52) (irregular_units x r)));
 }
 
 -- ---- what it reads from the pattern b of an x without its sign
 
-pub nan_none : (x : Float) → ne x x ≡ true → Decoded x 0 0
+pub nan_none : (x : Float) → ne x x ≡ true → Decoded x None
 nan_none x e =
-    subst (λ (y : Float). Decoded y 0 0) (sym (differs_from_itself x (subst T (sym e) tt)))
-    (record { regular = λ r. absurd (false≢true r); other = λ r. (refl, refl) })
+    subst (λ (y : Float). Decoded y None) (sym (differs_from_itself x (subst T (sym e) tt)))
+    (record { regular = λ r. absurd (false≢true r); other = λ r. refl })
 
 pub self_not_nan : (x : Float) → ne x x ≡ false → T (not (is_nan x))
 unfolding ne is_nan
@@ -100,43 +102,44 @@ self_not_nan (inf s) e = tt
 self_not_nan (fin s m k) e = tt
 
 module _ (x : Float) (f : fits binary64 x ≡ true) (b : ℕ) (p : Pattern x b) where
-  pub top_none : b / 2 ^ 52 ≡ 2047 → Decoded x 0 0
+  pub top_none : b / 2 ^ 52 ≡ 2047 → Decoded x None
   top_none t = ⊎_elim (λ i. decoded_none x f i.1) (λ h. absurd (not_top _ _ _ b h.2 h.3 t)) p
 
-  pub field_digits : (b / 2 ^ 52 ≡ 2047 → ⊥) → (b / 2 ^ 52 ≡ 0 → ⊥) → Decoded x (2 ^ 52 + b % 2 ^ 52) (b / 2 ^ 52 + 51)
+  pub field_digits : (b / 2 ^ 52 ≡ 2047 → ⊥) → (b / 2 ^ 52 ≡ 0 → ⊥) → Decoded x (Some (record { w = 2 ^ 52 + b % 2 ^ 52; k = b / 2 ^ 52 + 51 }))
   field_digits t z =
-      ⊎_elim (λ i. absurd (t (let e : b / 2 ^ 52 ≡ 2047 = omega (arith, i.0) in e))) (λ h. decoded_digits x _ _ (normal _ _ _ b h.2 h.3 z)) p
+      ⊎_elim (λ i. absurd (t (let e : b / 2 ^ 52 ≡ 2047 = omega (arith, i.0) in e))) (λ h. decoded_digits x (record { w = 2 ^ 52 + b % 2 ^ 52; k = b / 2 ^ 52 + 51 }) (normal _ _ _ b h.2 h.3 z)) p
 
   units_are : b / 2 ^ 52 ≡ 0 → b % 2 ^ 52 ≡ units_of x
   units_are z = ⊎_elim (λ i. absurd (let e : ⊥ = omega (arith, i.0) in e)) (λ h. fraction_is _ _ _ b h.2 h.3 z) p
 
-  pub fraction_none : b / 2 ^ 52 ≡ 0 → b % 2 ^ 52 ≡ 0 → Decoded x 0 0
+  pub fraction_none : b / 2 ^ 52 ≡ 0 → b % 2 ^ 52 ≡ 0 → Decoded x None
   fraction_none z n = decoded_none x f (sym (units_are z) ∙ n)
 
-  pub fraction_digits : b / 2 ^ 52 ≡ 0 → (w k : ℕ) → Normal (b % 2 ^ 52) w k → Decoded x w k
-  fraction_digits z w k h = decoded_digits x w k (subst (λ (n : ℕ). Normal n w k) (units_are z) h)
+  pub fraction_digits : b / 2 ^ 52 ≡ 0 → (n : Digits) → Normal (b % 2 ^ 52) n.w n.k → Decoded x (Some n)
+  fraction_digits z n h = decoded_digits x n (subst (λ (u : ℕ). Normal u n.w n.k) (units_are z) h)
 
--- ---- what its answer says, by a test of w
+-- ---- what its answer says
 
-pub decoded_irregular : (x : Float) (w k : ℕ) → Decoded x w k → w ≡ 0 → regular_of x ≡ false
-decoded_irregular x w k d z = go (regular_of x) (λ e. d.regular e)
+pub decoded_irregular : (x : Float) → Decoded x None → regular_of x ≡ false
+decoded_irregular x D = go (regular_of x) (λ e. D.regular e)
   where
-    none : 2 ^ 52 ≤ 0 → ⊥
-    none h = omega arith
-
-    go : (b : Bool) → (b ≡ true → Normal (units_of x) w k) → b ≡ false
-    go true h = absurd (none (subst (λ (a : ℕ). 2 ^ 52 ≤ a) z (h refl).led))
+    go : (b : Bool) → (b ≡ true → (n : Digits) × (None ≡ Some n) × Normal (units_of x) n.w n.k) → b ≡ false
+    go true h = let e = (h refl).1 in cc
     go false h = refl
 
-pub decoded_regular : (x : Float) (w k : ℕ) → Decoded x w k → (w ≡ 0 → ⊥) → regular_of x ≡ true
-decoded_regular x w k d z = go (regular_of x) (λ e. d.other e)
-  where
-    go : (b : Bool) → (b ≡ false → (w ≡ 0) × (k ≡ 0)) → b ≡ true
-    go true h = refl
-    go false h = absurd (z (h refl).0)
+module _ (x : Float) (n : Digits) (D : Decoded x (Some n)) where
+  pub decoded_regular : regular_of x ≡ true
+  decoded_regular = go (regular_of x) (λ e. D.other e)
+    where
+      go : (b : Bool) → (b ≡ false → Some n ≡ None) → b ≡ true
+      go true h = refl
+      go false h = let e = h refl in cc
 
-pub decoded_normal : (x : Float) (w k : ℕ) → Decoded x w k → (w ≡ 0 → ⊥) → Normal (units_of x) w k
-decoded_normal x w k d z = d.regular (decoded_regular x w k d z)
+  pub decoded_normal : Normal (units_of x) n.w n.k
+  decoded_normal =
+      let h = D.regular decoded_regular in
+      let e : h.0 ≡ n = let q = h.1 in cc in
+      subst (λ (m : Digits). Normal (units_of x) m.w m.k) e h.2
 
 -- ---- by the sign
 

@@ -14,33 +14,33 @@ pub struct Digits {
 }
 
 // The digits of a finite x that is not zero, all 53 of them. Below 2^-1022 the leading zeros of the 52-bit fraction say how far they
-// are shifted. 0 and 0 for a zero, an infinity and a NaN.
-pub fn normal_of(x: f64) -> Digits
-    ensures { Decoded x result.w result.k }
+// are shifted. None for a zero, an infinity and a NaN.
+pub fn normal_of(x: f64) -> Option<Digits>
+    ensures { Decoded x result }
 {
     if x != x {
-        return Digits { w: 0, k: 0 };
+        return None;
     }
     let b = f64::to_bits(x) % 0x8000_0000_0000_0000;
     let field = b / 0x10_0000_0000_0000;
     let fraction = b % 0x10_0000_0000_0000;
     if field == 0x7ff {
-        return Digits { w: 0, k: 0 };
+        return None;
     }
     if field != 0 {
-        return Digits {
+        return Some(Digits {
             w: 0x10_0000_0000_0000 + fraction,
             k: field + 51,
-        };
+        });
     }
     if fraction == 0 {
-        return Digits { w: 0, k: 0 };
+        return None;
     }
     let z = u64::leading_zeros(fraction) - 11;
-    Digits {
+    Some(Digits {
         w: fraction << z,
         k: 52 - z as u64,
-    }
+    })
 }
 
 // The exponent of x: the greatest k with 2^k <= |x|. 1024 for an infinity and a NaN, -1075 for a zero.
@@ -50,9 +50,8 @@ pub fn exponent(x: f64) -> i32
     if x == 0.0 {
         return -1075;
     }
-    let n = normal_of(x);
-    if n.w == 0 {
-        return 1024;
+    match normal_of(x) {
+        None => 1024,
+        Some(n) => n.k as i32 - 1074,
     }
-    n.k as i32 - 1074
 }

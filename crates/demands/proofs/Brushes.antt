@@ -38,7 +38,8 @@ use Rattle.inquiry.specs.Start.{real_roots_touching, real_roots_touching_of, pla
 use Rattle.inquiry.proofs.Sound.{sound_is, sound_holds}
 use Rattle.inquiry.proofs.Fresh.{start_sound, start_asks}
 use Rattle.inquiry.proofs.Theorem.{has_seen}
-use Rattle.crank.specs.Crank.{trig_quartic_of, solve_trig_of, crank_start_of, crank_shown_of, crank_of}
+use Rattle.trig_quartic.specs.declared.TrigEquation.{TrigEquation}
+use Rattle.crank.specs.Crank.{trig_quartic_of, solve_trig_of, front_in, crank_start_of, crank_shown_of, crank_of}
 use Rattle.crank.proofs.Front.{same_asking}
 use Rattle.crank.proofs.Answer as answers
 use Rattle.trig_quartic.specs.Crank.{crank_front_of}
@@ -314,15 +315,15 @@ never_yes coeffs tol =
     subst (AllOf Plain) (sym (list_formed replies coeffs tol (answered (λ x. false) t) [] (finish (λ x. false) t)).0)
     (plain_kinded places (roots_formed (reply_in replies) (solve_of coeffs tol)))
 
-crank_kinds : (confusion a2 b2 c1 d1 e : Float) → NeverBrush (list_of (crank_of confusion a2 b2 c1 d1 e).roots)
+crank_kinds : (confusion : Float) (trig : TrigEquation) → NeverBrush (list_of (crank_of confusion trig).roots)
 unfolding crank_of
-crank_kinds confusion a2 b2 c1 d1 e = go (eqb (crank_start_of confusion a2 b2 c1 d1 e).number 0)
+crank_kinds confusion trig = go (eqb (crank_start_of confusion trig).number 0)
   where
     l : List RealRoot
-    l = (solve_trig_of (λ k u. false) confusion a2 b2 c1 d1 e).1
+    l = (solve_trig_of (λ k u. false) confusion trig).1
 
-    go : (b : Bool) → NeverBrush (list_of (cond b (answers.listed confusion a2 b2 c1 d1 e) (answers.refused confusion a2 b2 c1 d1 e)).roots)
-    go true = never_brush (list_of (roots_of l)) (subst (AllOf Plain) (sym (list_roots l)) (never_yes (trig_quartic_of a2 b2 c1 d1 e) confusion))
+    go : (b : Bool) → NeverBrush (list_of (cond b (answers.listed confusion trig) (answers.refused confusion trig)).roots)
+    go true = never_brush (list_of (roots_of l)) (subst (AllOf Plain) (sym (list_roots l)) (never_yes (trig_quartic_of trig) confusion))
     go false = never_brush [] tt
 
 -- ---- fed by a function; a contact
@@ -347,8 +348,8 @@ kinds = record {
   list = plain_list;
   fed = fed_kinds;
   inquiry = λ rs coeffs tol. given_kinds rs coeffs coeffs tol refl;
-  crank_inquiry = λ rs confusion a2 b2 c1 d1 e.
-      given_kinds rs (crank_front_of a2 b2 c1 d1 e).q (trig_quartic_of a2 b2 c1 d1 e) confusion (same_asking a2 b2 c1 d1 e confusion);
+  crank_inquiry = λ rs confusion trig.
+      given_kinds rs (front_in (crank_front_of trig)).q (trig_quartic_of trig) confusion (same_asking trig confusion);
   crank = crank_kinds;
   contact = contact_kinds;
   line = λ r. sym (append_assoc (place_text r.value) (32 ∷ decimal r.multiplicity) (32 ∷ letter_of r.kind ∷ []));

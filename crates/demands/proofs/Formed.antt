@@ -18,8 +18,7 @@ use Rattle.roots.specs.declared.RootKind.{RootKind}
 use Rattle.roots.specs.declared.RootKind.TheVariants.{Brush}
 use Rattle.roots.specs.declared.Pair.{Pair}
 use Rattle.roots.specs.Roots.{kind_of, root_by, root}
-use Rattle.critical.specs.declared.TurningPoint.{TurningPoint}
-use Rattle.critical.specs.declared.TurningPoint.TheVariants.{At, None}
+use Rattle.std.specs.Prelude.{Option, Some, None}
 use Rattle.critical.specs.Critical.{extremum_of}
 use Rattle.poly.specs.RealRoots.{unscaled_of}
 use Rattle.finish.specs.Finish.{by_value}
@@ -111,11 +110,11 @@ module _ (reply : ℕ → Bool) where
         go true e = e
         go false e = cc
 
-    pair_so : (n : ℕ) (its : List Formed) (f : TurningPoint)
+    pair_so : (n : ℕ) (its : List Formed) (f : Option Float)
         → let s = paired_by reply poly tol (n, its) f in numbered reply n (pair_at poly tol (map kinded its) f) ≡ (s.0, map kinded s.1)
     unfolding paired_by pair_at numbered
     pair_so n its None = refl
-    pair_so n its (At y) = rw (apart_same (apart_of poly tol y) y its) (go (all_apart (apart_of poly tol y) y (map item_of its)))
+    pair_so n its (Some y) = rw (apart_same (apart_of poly tol y) y its) (go (all_apart (apart_of poly tol y) y (map item_of its)))
       where
         it : Formed
         it = record { value = y; multiplicity = cond (touched n y).0 2 0; questions = cond (touched n y).0 (n ∷ []) [] }
@@ -135,7 +134,7 @@ module _ (reply : ℕ → Bool) where
         go false = refl
 
     -- the pair's place is sought within this of its centre
-    abbrev pub sought_by : List Formed → Pair → TurningPoint
+    abbrev pub sought_by : List Formed → Pair → Option Float
     sought_by its p =
         let m = p.centre in
         let reach = reach_of m p.half (map item_of its) in
@@ -212,11 +211,11 @@ module _ (reply : ℕ → Bool) where
     unfolding numbered
     parted_so n c out it = λ i. (n, (chain_of (begun_by it), emitted_so out c i))
 
-    link_so : (n : ℕ) (c : Joined) (out : List Formed) (it : Formed) (f : TurningPoint) → (c.mult ≡ 0 → ⊥) → (it.multiplicity ≡ 0 → ⊥)
+    link_so : (n : ℕ) (c : Joined) (out : List Formed) (it : Formed) (f : Option Float) → (c.mult ≡ 0 → ⊥) → (it.multiplicity ≡ 0 → ⊥)
         → numbered reply n (link_at poly.e (shown_of out) (chain_of c) (kinded it) f) ≡ as_shown (linked_by reply poly tol n c out it f)
     unfolding link_at linked_by numbered
     link_so n c out it None some more = parted_so n c out it
-    link_so n c out it (At y) some more = go (lt c.last y && lt y it.value)
+    link_so n c out it (Some y) some more = go (lt c.last y && lt y it.value)
       where
         after : Bool → Asking (Chain × List RealRoot)
         after r = done (cond r (extended_by (chain_of c) (kinded it) y, shown_of out) (parted poly.e (shown_of out) (chain_of c) (kinded it)))
@@ -239,7 +238,7 @@ module _ (reply : ℕ → Bool) where
     unfolding item_turn joined_by numbered kind_of
     item_so n c out it = go (eqb it.multiplicity 0) (eqb c.mult 0) refl refl
       where
-        between : TurningPoint
+        between : Option Float
         between = extremum_of poly (half64 *ᶠ (c.last +ᶠ it.value)) c.last it.value tol
 
         go : (z w : Bool) → eqb it.multiplicity 0 ≡ z → eqb c.mult 0 ≡ w → numbered reply n (cond z (done (no_chain, emitted poly.e (shown_of out) (chain_of c)))

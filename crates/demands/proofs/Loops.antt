@@ -15,8 +15,7 @@ use Rattle.scaled.specs.declared.Scaled.{Scaled}
 use Rattle.roots.specs.declared.RealRoot.{RealRoot}
 use Rattle.roots.specs.Roots.{kept}
 use Rattle.roots.specs.Listed.{blank}
-use Rattle.critical.specs.declared.TurningPoint.{TurningPoint}
-use Rattle.critical.specs.declared.TurningPoint.TheVariants.{At, None}
+use Rattle.std.specs.Prelude.{Option as RustOption, Some, None}
 use Rattle.critical.specs.Critical.{extremum_of}
 use Rattle.finish.specs.Finish.{value_at, multiplicity_at, is_near_of, join_of, joined_from, joined_of}
 use Rattle.asking.specs.Asking.{Asking, done, ask, ◌then◌, each}
@@ -128,7 +127,7 @@ module _ (poly : Scaled) (tol : Float) where
   along_opened out it l n = rw (ne_eqb it.multiplicity 0 n)
 
   -- a link, or none
-  abbrev between : Float → Float → TurningPoint
+  abbrev between : Float → Float → RustOption Float
   between lo hi = extremum_of poly (mul binary64 half64 (add binary64 lo hi)) lo hi tol
 
   module _ (c : Chain) (out : List RealRoot) (it : RealRoot) (l : List RealRoot) where
@@ -136,11 +135,11 @@ module _ (poly : Scaled) (tol : Float) where
     after_link none = along (opened_by it) (emitted poly.e out c) l
     after_link (some y) = along (extended_by c it y) out l
 
-    link_so : (p : TurningPoint) → ((link_at poly.e out c it p then λ s. each (item_turn poly tol) s l) then λ s. done (emitted poly.e s.1 s.0))
+    link_so : (p : RustOption Float) → ((link_at poly.e out c it p then λ s. each (item_turn poly tol) s l) then λ s. done (emitted poly.e s.1 s.0))
         ≡ (filtered poly c.last it.value p then after_link)
     unfolding link_at filtered ◌then◌
     link_so None = refl
-    link_so (At y) = go (lt c.last y && lt y it.value) (touches_at poly.e y)
+    link_so (Some y) = go (lt c.last y && lt y it.value) (touches_at poly.e y)
       where
         through : (t : Asking Bool)
             → (((t then λ reply. done (cond reply (extended_by c it y, out) (parted poly.e out c it))) then λ s. each (item_turn poly tol) s l)

@@ -15,8 +15,7 @@ use Rattle.float.specs.Methods.{is_finite_of, total_le_of}
 use Rattle.scaled.specs.declared.Scaled.{Scaled}
 use Rattle.roots.specs.declared.RealRoot.{RealRoot}
 use Rattle.roots.specs.declared.Pair.{Pair}
-use Rattle.critical.specs.declared.TurningPoint.{TurningPoint}
-use Rattle.critical.specs.declared.TurningPoint.TheVariants.{At, None}
+use Rattle.std.specs.Prelude.{Option, Some, None}
 use Rattle.critical.specs.Critical.{extremum_of}
 use Rattle.poly.specs.RealRoots.{unscaled_of}
 use Rattle.touching.specs.Touching.{pair_order, all_apart, apart_of}
@@ -83,10 +82,10 @@ module _ (reply : ℕ → Bool) (i : ℕ) where
     fair_unasked [] = tt
     fair_unasked (r ∷ l) = ((λ h. refl), fair_unasked l)
 
-    fair_pair : (s : ℕ × List Formed) (f : TurningPoint) → AllOf Fair s.1 → AllOf Fair (paired_by reply poly tol s f).1
+    fair_pair : (s : ℕ × List Formed) (f : Option Float) → AllOf Fair s.1 → AllOf Fair (paired_by reply poly tol s f).1
     unfolding paired_by
     fair_pair s None fair = fair
-    fair_pair s (At y) fair = go (all_apart (apart_of poly tol y) y (map item_of s.1)) (touched s.0 y).0
+    fair_pair s (Some y) fair = go (all_apart (apart_of poly tol y) y (map item_of s.1)) (touched s.0 y).0
       where
         it : Bool → Formed
         it r = record { value = y; multiplicity = cond r 2 0; questions = cond r (s.0 ∷ []) [] }
@@ -110,11 +109,11 @@ module _ (reply : ℕ → Bool) (i : ℕ) where
     fair_sorted (p ∷ ps) its fair = all_sorted (λ (a b : Formed). total_le_of a.value b.value) Fair its fair
 
     -- ---- pairs
-    pair_once : (s : ℕ × List Formed) (f : TurningPoint) → times_of i s.1 ≡ yes_to s.0
+    pair_once : (s : ℕ × List Formed) (f : Option Float) → times_of i s.1 ≡ yes_to s.0
         → times_of i (paired_by reply poly tol s f).1 ≡ yes_to (paired_by reply poly tol s f).0
     unfolding paired_by
     pair_once s None h = h
-    pair_once s (At y) h = go (all_apart (apart_of poly tol y) y (map item_of s.1))
+    pair_once s (Some y) h = go (all_apart (apart_of poly tol y) y (map item_of s.1))
       where
         t : Bool × ℕ
         t = touched s.0 y
@@ -135,7 +134,7 @@ module _ (reply : ℕ → Bool) (i : ℕ) where
     pairs_once [] s h = h
     pairs_once (p ∷ ps) s h = pairs_once ps (paired_by reply poly tol s (sought p)) (pair_once s (sought p) h)
       where
-        sought : Pair → TurningPoint
+        sought : Pair → Option Float
         sought p = sought_by reply poly tol s.1 p
 
     -- ---- chains: a chain of no multiplicity has no question
@@ -167,11 +166,11 @@ module _ (reply : ℕ → Bool) (i : ℕ) where
     counted_at : (n m : ℕ) (c : Joined) (out : List Formed) (its : List Formed) → yes_to m ≡ yes_to n → Counted (n, (c, out)) its → Counted (m, (c, out)) its
     counted_at n m c out its e h = (h.0 ∙ sym e, h.1)
 
-    link_once : (n : ℕ) (c : Joined) (out : List Formed) (it : Formed) (its : List Formed) (f : TurningPoint) → (it.multiplicity ≡ 0 → ⊥) → (c.mult ≡ 0 → ⊥)
+    link_once : (n : ℕ) (c : Joined) (out : List Formed) (it : Formed) (its : List Formed) (f : Option Float) → (it.multiplicity ≡ 0 → ⊥) → (c.mult ≡ 0 → ⊥)
         → Counted (n, (c, out)) (it ∷ its) → Counted (linked_by reply poly tol n c out it f) its
     unfolding linked_by
     link_once n c out it its None some at-hand h = parted_once n c out it its some h
-    link_once n c out it its (At y) some at-hand h = go (lt c.last y && lt y it.value) (touched n y).0 (touched_once n y)
+    link_once n c out it its (Some y) some at-hand h = go (lt c.last y && lt y it.value) (touched n y).0 (touched_once n y)
       where
         m : ℕ
         m = (touched n y).1
@@ -191,7 +190,7 @@ module _ (reply : ℕ → Bool) (i : ℕ) where
     unfolding joined_by
     item_once n c out it its fair h = go (eqb it.multiplicity 0) (eqb c.mult 0) refl refl
       where
-        between : TurningPoint
+        between : Option Float
         between = extremum_of poly (half64 *ᶠ (c.last +ᶠ it.value)) c.last it.value tol
 
         go : (z w : Bool) → eqb it.multiplicity 0 ≡ z → eqb c.mult 0 ≡ w

@@ -12,8 +12,11 @@ use Rattle.float.proofs.Finite.{finite_at}
 use Rattle.solution.specs.declared.QuadraticSolution.{QuadraticSolution}
 use Rattle.solution.specs.declared.QuadraticSolution.TheVariants.{Two, One, Linear, Degenerate, Empty}
 use Rattle.solution.specs.Solution.{number_of, values_of}
-use Rattle.equation.specs.declared.QuadraticAnswer.{QuadraticAnswer}
-use Rattle.equation.specs.Quadratic.{solve_quadratic_of, refused_quadratic, quadratic_of}
+use Rattle.std.specs.Prelude.{Result, Ok, Err}
+use Rattle.refusals.specs.declared.Refusal.{Refusal}
+use Rattle.refusals.specs.declared.Refusal.TheVariants.{NotFinite, AnswerNotFinite}
+use Rattle.refusals.specs.Refusals.{outcome_of}
+use Rattle.equation.specs.Quadratic.{solve_quadratic_of, quadratic_of, places_in}
 use Rattle.poly.specs.Conditions.{Exactly}
 use Rattle.poly.proofs.Refusals.{some_not, finite_all, not_all}
 use Rattle.demands.specs.Demands.{QuadraticNumbers, Quadratics}
@@ -30,11 +33,11 @@ apart : (l : List Float) → all_finite_of l ≡ true → all_finite_of l ≡ fa
 apart l e f = true≢false (sym e ∙ f)
 
 -- s is the Rust's answer
-abbrev answered_by : Bool → Bool → QuadraticSolution → QuadraticAnswer
-answered_by f g s = cond f (cond g (record { number = 0; solution = s }) (refused_quadratic 5)) (refused_quadratic 1)
+abbrev answered_by : Bool → Bool → QuadraticSolution → Result QuadraticSolution Refusal
+answered_by f g s = cond f (cond g (Ok s) (Err AnswerNotFinite)) (Err NotFinite)
 
 module _ (handed : List Float) (s : QuadraticSolution) where
-  numbers_so : (f g : Bool) → all_finite_of handed ≡ f → all_finite_of (values_of s) ≡ g → QuadraticNumbers (answered_by f g s).number handed (values_of s)
+  numbers_so : (f g : Bool) → all_finite_of handed ≡ f → all_finite_of (values_of s) ≡ g → QuadraticNumbers (outcome_of (answered_by f g s)) handed (values_of s)
   numbers_so true true e h = record {
     zero = is_it refl (finite_at handed e, finite_at (values_of s) h);
     one = is_not (λ z. omega arith) (λ r. apart handed e (not_all handed r));
@@ -54,19 +57,19 @@ module _ (handed : List Float) (s : QuadraticSolution) where
     nothing_else = inr (inl refl);
   }
 
-answer_so : (s : QuadraticSolution) (f g : Bool) → (answered_by f g s).number ≡ 0 → (answered_by f g s).solution ≡ s
+answer_so : (s : QuadraticSolution) (f g : Bool) → outcome_of (answered_by f g s) ≡ 0 → answered_by f g s ≡ Ok s
 answer_so s true true z = refl
 answer_so s true false z = absurd (omega (arith, z))
 answer_so s false g z = absurd (omega (arith, z))
 
-places_so : (s : QuadraticSolution) (f g : Bool) → all_finite_of (values_of s) ≡ g → all_finite_of (values_of (answered_by f g s).solution) ≡ true
-unfolding values_of
+places_so : (s : QuadraticSolution) (f g : Bool) → all_finite_of (values_of s) ≡ g → all_finite_of (places_in (answered_by f g s)) ≡ true
+unfolding places_in
 places_so s true true h = h
 places_so s true false h = refl
 places_so s false g h = refl
 
-refused_so : (s : QuadraticSolution) (f g : Bool) → 0 < (answered_by f g s).number → values_of (answered_by f g s).solution ≡ []
-unfolding values_of
+refused_so : (s : QuadraticSolution) (f g : Bool) → 0 < outcome_of (answered_by f g s) → places_in (answered_by f g s) ≡ []
+unfolding places_in
 refused_so s true true z = absurd (omega (arith, z))
 refused_so s true false z = refl
 refused_so s false g z = refl
@@ -85,7 +88,7 @@ quadratics = record {
   numbers = λ a b c confusion angular. numbers_so (a ∷ b ∷ c ∷ []) (solve_quadratic_of a b c confusion angular) _ _ refl refl;
   answer = λ a b c confusion angular. by answer_so a b c (solve_quadratic_of a b c confusion angular);
   places = λ a b c confusion angular.
-      finite_at (values_of (quadratic_of a b c confusion angular).solution) (by places_so a b c (solve_quadratic_of a b c confusion angular) refl);
+      finite_at (places_in (quadratic_of a b c confusion angular)) (by places_so a b c (solve_quadratic_of a b c confusion angular) refl);
   refused = λ a b c confusion angular. by refused_so a b c (solve_quadratic_of a b c confusion angular);
   words = words_so;
 }

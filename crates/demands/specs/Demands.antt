@@ -1,6 +1,6 @@
 -- What is promised, as theorems about the definitions: the customer's demands (document 00) and the claims of documents 01 and 02, in their words. Statements
 -- only; proofs/Proved.antt has the proof of `Demands`, the last of them.
-use Rattle.std.specs.Prelude.{◌≡◌, ◌⊎◌, Bool, true, false, cond, ◌&&◌, ℕ, suc, ◌+◌, ◌-◌, ◌*◌, ◌^◌, ◌≤◌, ◌<◌, ltb, ℤ, pos, negsuc, ◌*ℤ◌, ◌≤ℤ◌, length, take, get_or, Float}
+use Rattle.std.specs.Prelude.{◌≡◌, ◌⊎◌, Bool, true, false, cond, ◌&&◌, ℕ, suc, ◌+◌, ◌-◌, ◌*◌, ◌^◌, ◌≤◌, ◌<◌, ltb, ℤ, pos, negsuc, ◌*ℤ◌, ◌≤ℤ◌, length, take, get_or, Float, Ok}
 use mathlib.Core.List.{List, [], ◌∷◌, ◌++◌, map, Memᴰ}
 use Rattle.std.specs.Float.{nan, inf, fin, binary64}
 use Rattle.std.specs.Float.Ieee.{up, down, lt, fits}
@@ -36,7 +36,8 @@ use Rattle.poly.specs.RealRoots.{real_roots_of}
 use Rattle.poly.specs.Conditions.{Trimmed, AllDoubles, AllFinite, SomeNotFinite, Exactly}
 use Rattle.solution.specs.declared.QuadraticSolution.{QuadraticSolution}
 use Rattle.solution.specs.Solution.{number_of, values_of}
-use Rattle.equation.specs.Quadratic.{solve_quadratic_of, quadratic_of}
+use Rattle.refusals.specs.Refusals.{outcome_of}
+use Rattle.equation.specs.Quadratic.{solve_quadratic_of, quadratic_of, places_in}
 use Rattle.asking.specs.Asking.{answered}
 use Rattle.touching.specs.declared.Replies.{Replies}
 use Rattle.touching.specs.Touching.{chained, touching}
@@ -44,6 +45,7 @@ use Rattle.touching.specs.Replies as given
 use Rattle.touching.specs.Walk.{RepliesFit}
 use Rattle.inquiry.specs.Start.{real_roots_touching_of, places_touching_of, start_of, shown_after_of}
 use Rattle.inquiry.specs.Claims.{Fed}
+use Rattle.trig_quartic.specs.declared.TrigEquation.{TrigEquation}
 use Rattle.crank.specs.Crank.{trig_quartic_of, crank_shown_of, crank_of}
 use Rattle.crank.specs.Claims.{Cranks}
 use Rattle.contact.specs.declared.Path.{Path}
@@ -280,12 +282,12 @@ pub record QuadraticNumbers (number : ℕ) (handed answer : List Float) : Type 0
 -- finite. It is the Rust's, and a refusal has no place.
 pub record Quadratics : Type 0 where
   pub numbers : (a b c confusion angular : Float)
-      → QuadraticNumbers (quadratic_of a b c confusion angular).number (a ∷ b ∷ c ∷ []) (values_of (solve_quadratic_of a b c confusion angular))
-  pub answer : (a b c confusion angular : Float) → (quadratic_of a b c confusion angular).number ≡ 0
-      → (quadratic_of a b c confusion angular).solution ≡ solve_quadratic_of a b c confusion angular
-  pub places : (a b c confusion angular : Float) → AllFinite (values_of (quadratic_of a b c confusion angular).solution)
-  pub refused : (a b c confusion angular : Float) → 0 < (quadratic_of a b c confusion angular).number
-      → values_of (quadratic_of a b c confusion angular).solution ≡ []
+      → QuadraticNumbers (outcome_of (quadratic_of a b c confusion angular)) (a ∷ b ∷ c ∷ []) (values_of (solve_quadratic_of a b c confusion angular))
+  pub answer : (a b c confusion angular : Float) → outcome_of (quadratic_of a b c confusion angular) ≡ 0
+      → quadratic_of a b c confusion angular ≡ Ok (solve_quadratic_of a b c confusion angular)
+  pub places : (a b c confusion angular : Float) → AllFinite (places_in (quadratic_of a b c confusion angular))
+  pub refused : (a b c confusion angular : Float) → 0 < outcome_of (quadratic_of a b c confusion angular)
+      → places_in (quadratic_of a b c confusion angular) ≡ []
   pub words : (s : QuadraticSolution) → (number_of s ≤ 4) × (length (values_of s) ≡ get_or (2 ∷ 1 ∷ 1 ∷ 0 ∷ 0 ∷ []) (number_of s) 0)
 
 -- ---- 'Crank equations'
@@ -293,7 +295,7 @@ pub record Quadratics : Type 0 where
 -- `Cranks`: each refusal stands exactly for its condition, k is 0 to 7, and what holds of inquiries about lists holds of those about a crank's quartic, whose
 -- questions name k and u: the Rust's list, its places in its order, at most (degree − 1) questions, demand 1.
 pub record CrankEquations : Type 0 where
-  pub every : (confusion a2 b2 c1 d1 e : Float) → Cranks confusion a2 b2 c1 d1 e
+  pub every : (confusion : Float) (trig : TrigEquation) → Cranks confusion trig
 
 -- ---- demand 3: 'However many polishing steps are allowed, those that move nothing counted, and wherever they start, no run of them by demand 2's definition
 -- can worsen a simple root beyond rounding.'
@@ -396,10 +398,10 @@ pub record Kinds : Type 0 where
   pub inquiry : (replies : Replies) (coeffs : List Float) (tol : Float) → RepliesFit replies
       → let shown = (shown_after_of coeffs tol replies).seen.asked in shown.asking ≡ false
       → KindsBy (given.replies_of replies) coeffs tol (list_of shown.list)
-  pub crank_inquiry : (replies : Replies) (confusion a2 b2 c1 d1 e : Float) → RepliesFit replies
-      → let shown = (crank_shown_of confusion a2 b2 c1 d1 e replies).seen.asked in shown.asking ≡ false
-      → KindsBy (given.replies_of replies) (trig_quartic_of a2 b2 c1 d1 e) confusion (list_of shown.list)
-  pub crank : (confusion a2 b2 c1 d1 e : Float) → NeverBrush (list_of (crank_of confusion a2 b2 c1 d1 e).roots)
+  pub crank_inquiry : (replies : Replies) (confusion : Float) (trig : TrigEquation) → RepliesFit replies
+      → let shown = (crank_shown_of confusion trig replies).seen.asked in shown.asking ≡ false
+      → KindsBy (given.replies_of replies) (trig_quartic_of trig) confusion (list_of shown.list)
+  pub crank : (confusion : Float) (trig : TrigEquation) → NeverBrush (list_of (crank_of confusion trig).roots)
   pub contact : (confusion : Float) (path : Path) (circle : Circle) → (pin_contact_of confusion path circle).number ≡ 0
       → let touches = replies_of confusion path circle in
       KindsBy (map touches (places_touching_of touches (made_of path circle) confusion)) (made_of path circle) confusion

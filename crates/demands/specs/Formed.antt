@@ -15,8 +15,7 @@ use Rattle.scaled.specs.declared.Scaled.{Scaled}
 use Rattle.roots.specs.declared.RealRoot.{RealRoot}
 use Rattle.roots.specs.declared.Pair.{Pair}
 use Rattle.roots.specs.Roots.{root, list_of, pair_list_of}
-use Rattle.critical.specs.declared.TurningPoint.{TurningPoint}
-use Rattle.critical.specs.declared.TurningPoint.TheVariants.{At, None}
+use Rattle.std.specs.Prelude.{Option, Some, None}
 use Rattle.critical.specs.Critical.{extremum_of}
 use Rattle.poly.specs.declared.Solved.{Solved}
 use Rattle.poly.specs.RealRoots.{unscaled_of}
@@ -104,10 +103,10 @@ module _ (reply : ℕ → Bool) (poly : Scaled) (tol : Float) where
   touches_by n y = cond (is_finite_of (unscaled_of poly.e y)) (reply n, n + 1) (false, n)
 
   -- a pair: a double root, formed by the yes to its question, or a separator
-  unfoldable pub paired_by : ℕ × List Formed → TurningPoint → ℕ × List Formed
+  unfoldable pub paired_by : ℕ × List Formed → Option Float → ℕ × List Formed
   unfolding touches_by
   paired_by s None = s
-  paired_by s (At y) =
+  paired_by s (Some y) =
       let t = touches_by s.0 y in
       let it : Formed = record { value = y; multiplicity = cond t.0 2 0; questions = cond t.0 (s.0 ∷ []) [] } in
       cond (all_apart (apart_of poly tol y) y (map item_of s.1)) (t.1, s.1 ++ it ∷ []) s
@@ -125,10 +124,10 @@ module _ (reply : ℕ → Bool) (poly : Scaled) (tol : Float) where
   parted_by n c out it = (n, (begun_by it, ended_with out c))
 
   -- the item is linked to the chain by a yes, or parted from it
-  unfoldable pub linked_by : ℕ → Joined → List Formed → Formed → TurningPoint → ℕ × (Joined × List Formed)
+  unfoldable pub linked_by : ℕ → Joined → List Formed → Formed → Option Float → ℕ × (Joined × List Formed)
   unfolding touches_by ended_with
   linked_by n c out it None = parted_by n c out it
-  linked_by n c out it (At y) =
+  linked_by n c out it (Some y) =
       let t = touches_by n y in
       cond (lt c.last y && lt y it.value) (cond t.0 (t.1, (linked_to c it n y, out)) (parted_by t.1 c out it)) (parted_by n c out it)
 

@@ -18,8 +18,7 @@ use Rattle.roots.specs.declared.RealRoot.{RealRoot}
 use Rattle.roots.specs.Roots.{root, kept}
 use Rattle.roots.specs.Listed.{blank}
 use Rattle.band.specs.Band.{within_band_of}
-use Rattle.critical.specs.declared.TurningPoint.{TurningPoint}
-use Rattle.critical.specs.declared.TurningPoint.TheVariants.{At, None}
+use Rattle.std.specs.Prelude.{Option as RustOption, Some, None}
 use Rattle.critical.specs.Critical.{extremum_of}
 use Rattle.finish.specs.Finish.{value_at, multiplicity_at}
 use Rattle.poly.specs.RealRoots.{unscaled_of}
@@ -67,10 +66,10 @@ abbrev pub is_double : ℕ → ℕ
 is_double m = cond (ltb 1 m) 1 0
 
 -- `.filter(|&y| lo < y && y < hi && touches_at(y));`
-unfoldable pub filtered : Scaled → Float → Float → TurningPoint → Asking (Option Float)
+unfoldable pub filtered : Scaled → Float → Float → RustOption Float → Asking (Option Float)
 unfolding ◌then◌
 filtered poly lo hi None = done none
-filtered poly lo hi (At y) = cond (lt lo y && lt y hi) (touches_at poly.e y then λ reply. done (cond reply (some y) none)) (done none)
+filtered poly lo hi (Some y) = cond (lt lo y && lt y hi) (touches_at poly.e y then λ reply. done (cond reply (some y) none)) (done none)
 
 -- `mult += items[k].1;`, `touching += 1 + u32::from(items[k].1 >= 2);` and `at = y;`
 abbrev pub grown : Linked → ℕ → Float → Linked

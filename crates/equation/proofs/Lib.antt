@@ -1,2 +1,2 @@
--- What the functions come to, over plain variables.
+-- Facts of the definitions.
 pub mod Solving

@@ -1,8 +1,9 @@
 -- `quadratic_centre` and `solve_quadratic` of equation.rs, and the quadratic that document 01 answers or refuses. Tolerances are taken as they are: a NaN
 -- or a negative one is not read as 0. Definitions only.
-use Rattle.std.specs.Prelude.{Bool, cond, ◌&&◌, [], ◌∷◌, ℕ, Float}
+use Rattle.std.specs.Prelude.{Bool, cond, ◌&&◌, List, [], ◌∷◌, Float, Result, Ok, Err}
 use Rattle.std.specs.Float.Ieee.{neg, lt, le}
-use Rattle.refusals.specs.Refusals.{not_finite, answer_not_finite}
+use Rattle.refusals.specs.declared.Refusal.{Refusal}
+use Rattle.refusals.specs.declared.Refusal.TheVariants.{NotFinite, AnswerNotFinite}
 use Rattle.float.specs.Rounded.{◌+ᶠ◌, ◌-ᶠ◌, ◌*ᶠ◌, ◌/ᶠ◌}
 use Rattle.float.specs.Literals.{zero64, epsilon64, half64, one64, two64, four64}
 use Rattle.float.specs.Methods.{abs_of, is_finite_of, copysign_of, min_of, max_of, all_finite_of}
@@ -10,7 +11,6 @@ use Rattle.sqrt.specs.Root.{sqrt_of}
 use Rattle.solution.specs.declared.QuadraticSolution.{QuadraticSolution}
 use Rattle.solution.specs.declared.QuadraticSolution.TheVariants.{Two, One, Linear, Degenerate, Empty}
 use Rattle.solution.specs.Solution.{values_of}
-use Rattle.equation.specs.declared.QuadraticAnswer.{QuadraticAnswer}
 
 -- ---- the equation a*t^2 + b*t + c = 0
 
@@ -64,13 +64,13 @@ solve_quadratic_of a b c confusion angular =
 
 -- ---- what document 01 refuses
 
--- a refusal: its number, and no answer
-abbrev pub refused_quadratic : ℕ → QuadraticAnswer
-refused_quadratic n = record { number = n; solution = Empty }
-
--- 'Quadratic: 1, one of a, b, c not finite; 5, a number in the Rust's answer is not finite'; 0 where it is answered
-unfoldable pub quadratic_of : Float → Float → Float → Float → Float → QuadraticAnswer
+-- 'Quadratic: 1, one of a, b, c not finite; 5, a number in the Rust's answer is not finite'
+unfoldable pub quadratic_of : Float → Float → Float → Float → Float → Result QuadraticSolution Refusal
 quadratic_of a b c confusion angular =
     let s = solve_quadratic_of a b c confusion angular in
-    cond (all_finite_of (a ∷ b ∷ c ∷ [])) (cond (all_finite_of (values_of s)) (record { number = 0; solution = s }) (refused_quadratic answer_not_finite))
-    (refused_quadratic not_finite)
+    cond (all_finite_of (a ∷ b ∷ c ∷ [])) (cond (all_finite_of (values_of s)) (Ok s) (Err AnswerNotFinite)) (Err NotFinite)
+
+-- the places that are answered: those of a solution, and none of a refusal
+unfoldable pub places_in : Result QuadraticSolution Refusal → List Float
+places_in (Ok s) = values_of s
+places_in (Err refusal) = []

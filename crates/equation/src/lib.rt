@@ -3,23 +3,25 @@
 #![tactic(auto)]
 
 ghost use Rattle.std.specs.Prelude.{◌≡◌};
-ghost use Rattle.equation.specs.Quadratic.{quadratic_centre_of, linear_of, is_grazing_of, two_of, solve_quadratic_of, refused_quadratic, quadratic_of};
+ghost use Rattle.equation.specs.Quadratic.{quadratic_centre_of, linear_of, is_grazing_of, two_of, solve_quadratic_of, quadratic_of};
 
+use refusals::Refusal;
 use solution::QuadraticSolution;
 
 // The middle of the roots, and 0 where the equation is near linear.
+#[tactic(auto, unfolding(crate::specs::Quadratic::quadratic_centre_of))]
 pub fn quadratic_centre(a: f64, b: f64, angular: f64) -> f64
     ensures { result ≡ quadratic_centre_of a b angular }
 {
     let t0 = -b / (2.0 * a);
-    if float::abs(a) > angular {
-        if float::is_finite(t0) {
-            return t0;
-        }
+    if float::abs(a) > angular && float::is_finite(t0) {
+        t0
+    } else {
+        0.0
     }
-    0.0
 }
 
+#[tactic(auto, unfolding(crate::specs::Quadratic::linear_of))]
 fn linear(b: f64, c: f64, confusion: f64) -> QuadraticSolution
     ensures { result ≡ linear_of b c confusion }
 {
@@ -32,6 +34,7 @@ fn linear(b: f64, c: f64, confusion: f64) -> QuadraticSolution
 const EPSILON: f64 = 2.220446049250313e-16;
 
 // Whether the half-separation of the roots, root / (2|a|), is within the band or the discriminant's rounding noise.
+#[tactic(auto, unfolding(crate::specs::Quadratic::is_grazing_of))]
 fn is_grazing(a: f64, b: f64, c: f64, mid: f64, root: f64, confusion: f64) -> bool
     ensures { result ≡ is_grazing_of a b c mid root confusion }
 {
@@ -41,6 +44,7 @@ fn is_grazing(a: f64, b: f64, c: f64, mid: f64, root: f64, confusion: f64) -> bo
 }
 
 // Cancellation-free: the root of larger size first, the other from the product c/a.
+#[tactic(auto, unfolding(crate::specs::Quadratic::two_of))]
 fn two(a: f64, b: f64, c: f64, root: f64) -> QuadraticSolution
     ensures { result ≡ two_of a b c root }
 {
@@ -51,6 +55,7 @@ fn two(a: f64, b: f64, c: f64, root: f64) -> QuadraticSolution
 }
 
 // The root of |disc| serves twice: from the root of a disc that is not below 0 it differs at -0 alone, and there copysign decides the sign.
+#[tactic(auto, using(crate::proofs::Solving::same_two), unfolding(crate::specs::Quadratic::solve_quadratic_of))]
 pub fn solve_quadratic(a: f64, b: f64, c: f64, confusion: f64, angular: f64) -> QuadraticSolution
     ensures { result ≡ solve_quadratic_of a b c confusion angular }
 {
@@ -69,35 +74,23 @@ pub fn solve_quadratic(a: f64, b: f64, c: f64, confusion: f64, angular: f64) -> 
     two(a, b, c, root)
 }
 
-// A refusal's number, 0 where there is none; Empty where refused.
-#[derive(Clone, Copy)]
-pub struct QuadraticAnswer {
-    pub number: u32,
-    pub solution: QuadraticSolution,
-}
-
-fn refused(number: u32) -> QuadraticAnswer
-    ensures { result ≡ refused_quadratic number }
-{
-    QuadraticAnswer {
-        number,
-        solution: QuadraticSolution::Empty,
-    }
-}
-
-pub fn quadratic(a: f64, b: f64, c: f64, confusion: f64, angular: f64) -> QuadraticAnswer
+// The answer; refused is what is not finite, of the numbers handed in or of those in the answer.
+#[tactic(auto, unfolding(crate::specs::Quadratic::quadratic_of))]
+pub fn quadratic(
+    a: f64,
+    b: f64,
+    c: f64,
+    confusion: f64,
+    angular: f64,
+) -> Result<QuadraticSolution, Refusal>
     ensures { result ≡ quadratic_of a b c confusion angular }
 {
-    let handed = [a, b, c];
-    if float::all_finite(&handed) {
-        let solution = solve_quadratic(a, b, c, confusion, angular);
-        if solution.is_finite() {
-            return QuadraticAnswer {
-                number: 0,
-                solution,
-            };
-        }
-        return refused(refusals::ANSWER_NOT_FINITE);
+    if !float::all_finite(&[a, b, c]) {
+        return Err(Refusal::NotFinite);
     }
-    refused(refusals::NOT_FINITE)
+    let solution = solve_quadratic(a, b, c, confusion, angular);
+    if !solution.is_finite() {
+        return Err(Refusal::AnswerNotFinite);
+    }
+    Ok(solution)
 }

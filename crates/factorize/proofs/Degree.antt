@@ -6,18 +6,16 @@ use Prim.Native.Nat.{ℕ, zero, suc, ◌-◌, ◌≤◌}
 use native.Mathlib.Nat.{le_refl}
 use native.Mathlib.Omega.{arith}
 use borrow.Author.Tests.{eqb-true}
+use Rattle.std.specs.Prelude.{Option, Some, None}
 use lib.Dec.{leb, eqb}
 use lib.Ieee.{Float}
 use Rattle.facts.specs.Cond.{first_holds}
 use Rattle.quartic.specs.declared.QuarticFactor.{QuarticFactor}
-use Rattle.isolated.specs.declared.LoneRoot.{LoneRoot}
-use Rattle.isolated.specs.declared.LoneRoot.TheVariants as lone
 use Rattle.quartic.specs.Quartic.{quartic_factor_of}
 use Rattle.isolated.specs.Isolated.{isolated_root_of}
 use Rattle.scaled.specs.declared.Scaled.{Scaled}
 use Rattle.scaled.specs.Scaled.{scaled_of}
-use Rattle.split.specs.declared.Split.{Split}
-use Rattle.split.specs.declared.Split.TheVariants.{Gap, None}
+use Rattle.split.specs.declared.Gap.{Gap}
 use Rattle.split.specs.Gap.{Inside, magnitude_split_of}
 use Rattle.split.proofs.Gaps.{split_inside}
 use Rattle.factors.specs.declared.Factors.{Factors}
@@ -32,10 +30,10 @@ cubic_degree : (b c d : Float) → degree_of (cubic_factors_of b c d) ≡ 3
 unfolding cubic_factors_of push_lin_of push_quad_of
 cubic_degree b c d = refl
 
-paired_degree : (b c d e : Float) (quads : QuarticFactor) (far : LoneRoot) → degree_of (paired_of b c d e quads far) ≡ 4
+paired_degree : (b c d e : Float) (quads : QuarticFactor) (far : Option Float) → degree_of (paired_of b c d e quads far) ≡ 4
 unfolding paired_of push_lin_of push_quad_of
-paired_degree b c d e quads (lone.At r) = refl
-paired_degree b c d e quads lone.None = refl
+paired_degree b c d e quads (Some r) = refl
+paired_degree b c d e quads None = refl
 
 quartic_degree : (b c d e : Float) → degree_of (quartic_factors_of b c d e) ≡ 4
 unfolding quartic_factors_of
@@ -55,14 +53,14 @@ pub record Parted (d : ℕ) (second : Second) : Type 0 where
   pub most : second.sub.d ≤ d
   pub rest : second.found ≡ true → degree_of second.large ≡ d - second.sub.d
 
-parted_at : (sc : Scaled) (out : Factors) (gap : Split) → Inside sc.d gap → Parted sc.d (second_at sc out gap)
+parted_at : (sc : Scaled) (out : Factors) (gap : Option Gap) → Inside sc.d gap → Parted sc.d (second_at sc out gap)
 unfolding scaled_of
-parted_at sc out (Gap small threshold) I =
-    let large = large_of out (sc.d - small) threshold in
-    let fine = usable_of (quotient_of sc.g (product_of large) small) small in
+parted_at sc out (Some gap) I =
+    let large = large_of out (sc.d - gap.small) gap.threshold in
+    let fine = usable_of (quotient_of sc.g (product_of large) gap.small) gap.small in
     record {
       most = omega (arith, I.1);
-      rest = λ h. eqb-true (degree_of large) (sc.d - small) (first_holds (eqb (degree_of large) (sc.d - small)) fine h);
+      rest = λ h. eqb-true (degree_of large) (sc.d - gap.small) (first_holds (eqb (degree_of large) (sc.d - gap.small)) fine h);
     }
 parted_at sc out None I = record { most = le_refl sc.d; rest = λ h. absurd (false≢true h) }
 

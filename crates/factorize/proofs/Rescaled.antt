@@ -5,6 +5,7 @@ use mathlib.Core.Bool.{true, ◌&&◌, false≢true}
 use mathlib.Core.List.{List}
 use Prim.Native.Nat.{ℕ, ◌-◌, ◌^◌, ◌≤◌, ◌<◌}
 use native.Mathlib.Omega.{arith}
+use Rattle.std.specs.Prelude.{Option, Some, None}
 use lib.Dec.{eqb}
 use lib.ListN.{get_or}
 use lib.Ieee.{Float, nan, binary64, fits, le}
@@ -15,8 +16,7 @@ use Rattle.float.specs.Units.{units_of}
 use Rattle.scaled.specs.declared.Scaled.{Scaled}
 use Rattle.scaled.specs.Scaled.{scaled_of}
 use Rattle.scaled.proofs.Promise.{f_held, f_leading, f_small}
-use Rattle.split.specs.declared.Split.{Split}
-use Rattle.split.specs.declared.Split.TheVariants.{Gap, None}
+use Rattle.split.specs.declared.Gap.{Gap}
 use Rattle.split.specs.Gap.{Inside, magnitude_split_of}
 use Rattle.split.proofs.Gaps.{split_inside}
 use Rattle.factors.specs.declared.Factors.{Factors}
@@ -42,13 +42,13 @@ promised g p small D U =
     let P = usable_last g p small D U in
     record { held = f_held s small D F P; leading = f_leading s small D F P; small = f_small s small D F P }
 
-promised_at : (sc : Scaled) (out : Factors) (gap : Split) → sc.d ≤ 4 → Inside sc.d gap → (second_at sc out gap).found ≡ true
+promised_at : (sc : Scaled) (out : Factors) (gap : Option Gap) → sc.d ≤ 4 → Inside sc.d gap → (second_at sc out gap).found ≡ true
     → Promised (second_at sc out gap).sub
-promised_at sc out (Gap small threshold) D I h =
-    let large = large_of out (sc.d - small) threshold in
-    let apart = eqb (degree_of large) (sc.d - small) in
-    let fine = usable_of (quotient_of sc.g (product_of large) small) small in
-    promised sc.g (product_of large) small (omega (arith, D, I.1)) (second_holds apart fine h)
+promised_at sc out (Some gap) D I h =
+    let large = large_of out (sc.d - gap.small) gap.threshold in
+    let apart = eqb (degree_of large) (sc.d - gap.small) in
+    let fine = usable_of (quotient_of sc.g (product_of large) gap.small) gap.small in
+    promised sc.g (product_of large) gap.small (omega (arith, D, I.1)) (second_holds apart fine h)
 promised_at sc out None D I h = absurd (false≢true h)
 
 pub second_promised : (sc : Scaled) (out : Factors) → sc.d ≤ 4 → (second_of sc out).found ≡ true → Promised (second_of sc out).sub

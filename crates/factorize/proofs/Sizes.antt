@@ -3,6 +3,7 @@ use mathlib.Core.Path.{◌≡◌, sym, ap, ◌∙◌, subst}
 use mathlib.Core.List.{List}
 use Prim.Native.Nat.{ℕ, ◌-◌, ◌^◌, ◌≤◌, ◌<◌}
 use native.Mathlib.Omega.{arith}
+use Rattle.std.specs.Prelude.{Some}
 use lib.IntN.{ℤ, nat_abs}
 use lib.Ieee.{Float}
 use mir.Syntax.{w32}
@@ -12,8 +13,7 @@ use Rattle.scaled.specs.declared.Scaled.{Scaled}
 use Rattle.scaled.specs.Scaled.{scaled_of}
 use Rattle.scaled.proofs.Best.{exponent_bounded}
 use Rattle.scaled.proofs.Signed.{small_fits}
-use Rattle.split.specs.declared.Split.{Split}
-use Rattle.split.specs.declared.Split.TheVariants.{Gap}
+use Rattle.split.specs.declared.Gap.{Gap}
 use Rattle.split.specs.Gap.{Inside, magnitude_split_of}
 use Rattle.split.proofs.Gaps.{split_inside}
 use Rattle.factors.specs.declared.Factors.{Factors}
@@ -26,9 +26,9 @@ use Rattle.factorize.proofs.Degree.{out_degree, degrees_add}
 pub out_fits : (g : List Float) (d : ℕ) (out : Factors) → out ≡ out_of g d → d ≤ 4 → degree_of out ≤ 4
 out_fits g d out e D = omega (arith, ap degree_of e, out_degree g d D)
 
-pub gap_inside : (lg : List Float) (d : ℕ) (gap : Split) (small : ℕ) (threshold : Float) → gap ≡ magnitude_split_of lg d → gap ≡ Gap small threshold
-    → d ≤ 4 → small < d
-gap_inside lg d gap small threshold e f D = (subst (Inside d) (sym e ∙ f) (split_inside lg d D)).1
+pub gap_inside : (lg : List Float) (d : ℕ) (part : Gap) → Some part ≡ magnitude_split_of lg d
+    → d ≤ 4 → part.small < d
+gap_inside lg d part e D = (subst (Inside d) (sym e) (split_inside lg d D)).1
 
 pub sized : (f : Factors) (want : ℕ) (threshold : Float) (large : Factors) → large ≡ large_of f want threshold → Sized large
 sized f want threshold large e = subst Sized (sym e) (large_sized f want threshold)

@@ -1,18 +1,15 @@
 -- factorize of poly.rs: 'Degree 3 splits into a line and a quadratic, degree 4 into two quadratics, or line and cubic where three roots are tight. [..] A gap
 -- strictly above 8 bits between root sizes starts a second scaling, the topmost gap first; never at depth 3 or degree 2 and below.' Definitions only.
-use Rattle.std.specs.Prelude.{Bool, false, cond, ◌&&◌, List, ℕ, zero, suc, ◌-◌, leb, eqb, get_or, Float}
+use Rattle.std.specs.Prelude.{Bool, false, cond, ◌&&◌, List, ℕ, zero, suc, ◌-◌, leb, eqb, get_or, Float, Option, Some, None}
 use Rattle.std.specs.Float.{nan}
 use Rattle.std.specs.Float.Ieee.{neg}
 use Rattle.quartic.specs.declared.QuarticFactor.{QuarticFactor}
-use Rattle.isolated.specs.declared.LoneRoot.{LoneRoot}
-use Rattle.isolated.specs.declared.LoneRoot.TheVariants as lone
 use Rattle.cubic.specs.Cubic.{cubic_factor_of}
 use Rattle.quartic.specs.Quartic.{quartic_factor_of}
 use Rattle.isolated.specs.Isolated.{isolated_root_of, peel_root_of}
 use Rattle.scaled.specs.declared.Scaled.{Scaled}
 use Rattle.scaled.specs.Scaled.{scaled_of}
-use Rattle.split.specs.declared.Split.{Split}
-use Rattle.split.specs.declared.Split.TheVariants.{Gap, None}
+use Rattle.split.specs.declared.Gap.{Gap}
 use Rattle.split.specs.Gap.{magnitude_split_of}
 use Rattle.factors.specs.declared.Factors.{Factors}
 use Rattle.factors.specs.Factors.{no_factors, push_lin_of, push_quad_of, degree_of}
@@ -25,15 +22,15 @@ cubic_factors_of b c d = let k = cubic_factor_of b c d in push_quad_of (push_lin
 
 -- the arm `_`: 'A tight cluster of three roots cannot sit in one quadratic: peel off the far root, solve the cluster as a cubic.'
 -- `None => { for (al, be) in quads { out.push_quad(al, be); } }`
-unfoldable pub paired_of : Float → Float → Float → Float → QuarticFactor → LoneRoot → Factors
-paired_of b c d e quads (lone.At r) =
+unfoldable pub paired_of : Float → Float → Float → Float → QuarticFactor → Option Float → Factors
+paired_of b c d e quads (Some r) =
     -- let (r, h2, h1, h0) = peel_root(g[3], g[2], g[1], g[0], r);
     let p = peel_root_of b c d e r in
     -- let (r2, e, f) = cubic_factor(h2, h1, h0);
     let k = cubic_factor_of p.h2 p.h1 p.h0 in
     -- out.push_lin(r); out.push_lin(r2); out.push_quad(e, f);
     push_quad_of (push_lin_of (push_lin_of no_factors p.r) k.r) k.e k.f
-paired_of b c d e quads lone.None = push_quad_of (push_quad_of no_factors quads.al quads.be) quads.ga quads.de
+paired_of b c d e quads None = push_quad_of (push_quad_of no_factors quads.al quads.be) quads.ga quads.de
 
 -- `let quads = quartic_factor(g[3], g[2], g[1], g[0]);` and `match isolated_root(&quads)`
 unfoldable pub quartic_factors_of : Float → Float → Float → Float → Factors
@@ -59,9 +56,10 @@ pub record Second : Type 0 where
 
 -- None where there is no gap, `if large.degree() != sc.d - small`, and `if !(s[..=small].iter().all(|v| v.is_finite()) && s[0] != 0.0 && s[small] != 0.0)`;
 -- else `let sub = Scaled::new(&s[..=small]);`
-abbrev pub second_at : Scaled → Factors → Split → Second
-second_at sc out (Gap small threshold) =
-    let large = large_of out (sc.d - small) threshold in
+abbrev pub second_at : Scaled → Factors → Option Gap → Second
+second_at sc out (Some gap) =
+    let small = gap.small in
+    let large = large_of out (sc.d - small) gap.threshold in
     let s = quotient_of sc.g (product_of large) small in
     record { found = eqb (degree_of large) (sc.d - small) && usable_of s small; large = large; sub = scaled_of s small }
 second_at sc out None = record { found = false; large = no_factors; sub = sc }

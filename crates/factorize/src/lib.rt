@@ -6,6 +6,7 @@ ghost use Rattle.std.specs.Prelude.{◌≡◌, ◌≤◌, ◌<◌};
 ghost use Rattle.factorize.specs.Factorize.{cubic_factors_of, quartic_factors_of, out_of, factorize_of};
 ghost use Rattle.factorize.specs.Discs.{disc_at, rooted_of};
 
+#[tactic(auto, unfolding(crate::specs::Factorize::cubic_factors_of))]
 fn cubic_factors(b: f64, c: f64, d: f64) -> factors::Factors
     ensures { result ≡ cubic_factors_of b c d }
 {
@@ -36,6 +37,7 @@ fn disc_at(f: factors::Factors, i: usize) -> isolated::Disc
     }
 }
 
+#[tactic(auto, unfolding(crate::specs::Discs::rooted_of))]
 fn with_discs(f: factors::Factors) -> Rooted
     ensures { result ≡ rooted_of f }
 {
@@ -48,9 +50,8 @@ fn quartic_factors(b: f64, c: f64, d: f64, e: f64) -> Rooted
 {
     let quads = quartic::quartic_factor(b, c, d, e);
     let s = isolated::isolated(quads);
-    let far = s.far;
-    match far {
-        isolated::LoneRoot::At(r) => {
+    match s.far {
+        Some(r) => {
             let p = isolated::peel_root(b, c, d, e, r);
             let k = cubic::cubic_factor(p.h2, p.h1, p.h0);
             with_discs(
@@ -60,13 +61,11 @@ fn quartic_factors(b: f64, c: f64, d: f64, e: f64) -> Rooted
                     .push_quad(k.e, k.f),
             )
         }
-        isolated::LoneRoot::None => {
+        None => {
             let f = factors::Factors::default()
                 .push_quad(quads.al, quads.be)
                 .push_quad(quads.ga, quads.de);
-            let first = s.first;
-            let second = s.second;
-            let disc = [first, second];
+            let disc = [s.first, s.second];
             Rooted { f, disc }
         }
     }
@@ -94,18 +93,14 @@ pub fn factorize_rooted(sc: scaled::Scaled, depth: u32) -> Rooted
     let g = sc.g;
     let d = sc.d;
     let out = out_of(g, d);
-    if depth >= 3 {
+    if depth >= 3 || d <= 2 {
         return out;
     }
-    if d <= 2 {
-        return out;
-    }
-    let lg = sc.lg;
-    let gap = split::magnitude_split(lg, d);
-    let split::Split::Gap(small, threshold) = gap else {
+    let Some(gap) = split::magnitude_split(sc.lg, d) else {
         return out;
     };
-    let large = large_factors::large(out.f, d - small, threshold);
+    let small = gap.small;
+    let large = large_factors::large(out.f, d - small, gap.threshold);
     if large.degree() != d - small {
         return out;
     }
@@ -113,16 +108,15 @@ pub fn factorize_rooted(sc: scaled::Scaled, depth: u32) -> Rooted
     if !quotient::usable(s, small) {
         return out;
     }
-    let sub = scaled::Scaled::new(s, small);
-    let e = sub.e;
+    let p = horner::Polynomial { f: s, d: small };
+    let sub = scaled::Scaled::new(p);
     let inner = factorize_rooted(sub, depth + 1);
-    with_discs(quotient::merged(large, inner.f, e))
+    with_discs(quotient::merged(large, inner.f, sub.e))
 }
 
 pub fn factorize(sc: scaled::Scaled, depth: u32) -> factors::Factors
     requires { sc.d ≤ 4 }
     ensures { result ≡ factorize_of sc depth }
 {
-    let r = factorize_rooted(sc, depth);
-    r.f
+    factorize_rooted(sc, depth).f
 }

@@ -12,7 +12,9 @@ pub struct Quad {
     pub be: f64,
 }
 
-// The first nlin of `lin` are factors y - r, and the first nquad of `quad` quadratic ones.
+// The first nlin of `lin` are factors y - r, and the first nquad of `quad` quadratic ones, as in the Rust: fixed memory. One buffer type for both would need a
+// filler of each type, and each definition that reads lin[i] would read through it: no plainer. The counts have no bound here, since push_lin and push_quad
+// take any.
 #[derive(Clone, Copy)]
 pub struct Factors {
     pub lin: [f64; 4],
@@ -21,10 +23,10 @@ pub struct Factors {
     pub nquad: usize,
 }
 
-impl Factors {
-    pub fn default() -> Factors
-        ensures { result ≡ no_factors }
-    {
+impl Default for Factors {
+    ghost is_default = { λ f. f ≡ no_factors };
+
+    fn default() -> Factors {
         Factors {
             lin: [0.0; 4],
             nlin: 0,
@@ -32,31 +34,27 @@ impl Factors {
             nquad: 0,
         }
     }
+}
 
+impl Factors {
     #[tactic(auto, unfolding(crate::specs::Factors::push_lin_of))]
-    pub fn push_lin(self, r: f64) -> Factors
+    pub fn push_lin(mut self, r: f64) -> Factors
         ensures { result ≡ push_lin_of self r }
     {
-        let at = self.nlin;
-        if at < 4 {
-            let mut out = self;
-            out.lin[at] = r;
-            out.nlin = at + 1;
-            return out;
+        if self.nlin < 4 {
+            self.lin[self.nlin] = r;
+            self.nlin += 1;
         }
         self
     }
 
     #[tactic(auto, unfolding(crate::specs::Factors::push_quad_of))]
-    pub fn push_quad(self, al: f64, be: f64) -> Factors
+    pub fn push_quad(mut self, al: f64, be: f64) -> Factors
         ensures { result ≡ push_quad_of self al be }
     {
-        let at = self.nquad;
-        if at < 2 {
-            let mut out = self;
-            out.quad[at] = Quad { al, be };
-            out.nquad = at + 1;
-            return out;
+        if self.nquad < 2 {
+            self.quad[self.nquad] = Quad { al, be };
+            self.nquad += 1;
         }
         self
     }

@@ -1,6 +1,6 @@
 -- The places of an array of four by their numbers: in order and polished. Each law is of any place k.
-use mathlib.Core.Path.{◌≡◌, refl, sym, ap, ◌∙◌}
-use mathlib.Core.Bool.{Bool, true, false, cond}
+use mathlib.Core.Path.{◌≡◌, refl, sym, ap, ap₂, ◌∙◌}
+use mathlib.Core.Bool.{Bool, true, false}
 use mathlib.Core.List.{List, [], ◌∷◌, ◌++◌, map}
 use Prim.Native.Nat.{ℕ, zero, suc, ◌+◌, ◌-◌, ◌≤◌, ◌<◌}
 use native.Mathlib.Numerals.{add-one}
@@ -22,9 +22,8 @@ use Rattle.roots.specs.Roots.{list_of}
 use Rattle.roots.specs.Listed.{blank, Fits}
 use Rattle.roots.specs.declared.RealRoot.{RealRoot}
 use Rattle.roots.specs.declared.Roots.{Roots}
-use Rattle.roots.proofs.Laws.{length_list}
 use Rattle.finish.specs.Finish.{value_at, by_value, below_of, above_of, ordered_at, polished_at, polished_of}
-use Rattle.finish.specs.Places.{inserted, place_of}
+use Rattle.finish.specs.Places.{inserted, place_of, place_polished}
 
 -- ---- a list, read place by place
 read_left : (l : List RealRoot) (i k : ℕ) → i + k ≡ length l → fill_from i k (λ j. get_or l j blank) ≡ drop i l
@@ -138,14 +137,17 @@ module _ (poly : Scaled) (o : Roots) where
   unfolding ordered_at polished_at
   polished_is k h g e = e ∙ rw (get_or-take o.len o.root k blank h, g)
 
-  pub none_polished : o.len ≡ 0 → list_of o ≡ polished_of 4 poly (from_fn o.len (ordered_at (list_of o)))
-  unfolding polished_of
-  none_polished e = rw e
+-- the first n of an array made by a rule that is f there
+pub taken_made : {A : Type 0} (rule f : ℕ → A) (n m i : ℕ) → n ≤ m → ((j : ℕ) → j < i + n → rule j ≡ f j) → take n (fill_from i m rule) ≡ fill_from i n f
+taken_made rule f zero m i h e = refl
+taken_made rule f (suc n) zero i h e = absurd (omega arith)
+taken_made {A} rule f (suc n) (suc m) i h e =
+    ap₂ (λ (a : A) (l : List A). a ∷ l) (e i (omega arith)) (taken_made rule f n m (i + 1) (omega arith) (λ j l. e j (omega arith)))
 
-  pub all_polished : (k : ℕ) {l : List RealRoot} → o.len ≡ k → l ≡ from_fn k polished_in
-      → (l ≡ polished_of 4 poly (from_fn o.len (ordered_at (list_of o)))) × (k ≡ o.len)
-  unfolding polished_of
-  all_polished k n e = (
-    e ∙ sym (map_filled (polished_at 4 poly) (ordered_at (list_of o)) 0 k) ∙ ap (λ (j : ℕ). polished_of 4 poly (from_fn j (ordered_at (list_of o)))) (sym n),
-    sym n,
-  )
+pub all_polished : (poly : Scaled) (o : Roots) {l : List RealRoot} → o.len ≤ 4 → l ≡ from_fn 4 (place_polished poly o)
+    → take o.len l ≡ polished_of 4 poly (from_fn o.len (ordered_at (list_of o)))
+unfolding polished_of
+all_polished poly o h e =
+    ap (take o.len) e
+    ∙ taken_made (place_polished poly o) (polished_in poly o) o.len 4 0 h (λ j l. rw (lt-ltb j o.len (omega arith)))
+    ∙ sym (map_filled (polished_at 4 poly) (ordered_at (list_of o)) 0 o.len)

@@ -1,9 +1,13 @@
 -- What the functions for one place say. Definitions only.
-use Rattle.std.specs.Prelude.{List, Float}
+use Rattle.std.specs.Prelude.{cond, List, ℕ, ltb, get_or, Float}
 use Rattle.facts.specs.Sort.{inserted_by}
 use Rattle.float.specs.Methods.{total_le_of}
+use Rattle.scaled.specs.declared.Scaled.{Scaled}
+use Rattle.roots.specs.Roots.{list_of}
+use Rattle.roots.specs.Listed.{blank}
 use Rattle.roots.specs.declared.RealRoot.{RealRoot}
-use Rattle.finish.specs.Finish.{Ordered}
+use Rattle.roots.specs.declared.Roots.{Roots}
+use Rattle.finish.specs.Finish.{Ordered, ordered_at, polished_at}
 
 -- x put behind those of l that stand before it, ties among them
 abbrev pub inserted : RealRoot → List RealRoot → List RealRoot
@@ -12,3 +16,7 @@ inserted x l = inserted_by (λ a b. total_le_of a.value b.value) x l
 -- a root, and the distance to its nearest neighbour
 abbrev pub place_of : RealRoot → Float → Ordered
 place_of r gap = record { value = r.value; multiplicity = r.multiplicity; gap = gap }
+
+-- place k of an array of four: polished where it counts
+abbrev pub place_polished : Scaled → Roots → ℕ → RealRoot
+place_polished poly o k = cond (ltb k o.len) (polished_at 4 poly (ordered_at (list_of o) k)) (get_or o.root k blank)

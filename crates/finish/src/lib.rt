@@ -1,5 +1,5 @@
 // Scaled::finish of poly.rs: the candidates in order, the simple ones polished, and runs of them within the band joined.
-// Each place is named by its number, so that the compiler keeps the roots in registers.
+// The places that are put in order are named by their numbers, so that the compiler keeps the roots in registers.
 // It rests on `roots`, `polish` and `band`; the lists and the inquiry rest on it.
 #![tactic(auto)]
 
@@ -9,7 +9,7 @@ ghost use Rattle.float.specs.Methods.{min_of};
 ghost use Rattle.roots.specs.Roots.{list_of, roots_of, kept_in};
 ghost use Rattle.roots.specs.Listed.{multiplicities};
 ghost use Rattle.finish.specs.Finish.{by_value, below_of, above_of, ordered_at, polished_at, polished_of, is_near_of, join_of, joined_of, finish_of};
-ghost use Rattle.finish.specs.Places.{inserted, place_of};
+ghost use Rattle.finish.specs.Places.{inserted, place_of, place_polished};
 ghost use Rattle.finish.specs.Run.{next_run, Joining};
 
 use roots::{RealRoot, Roots};
@@ -23,6 +23,7 @@ struct Run {
 }
 
 // The root x put behind those of the places before it that stand before it, ties among them: one, two and three.
+// No one function over any number of places n says this, since the result's length, n + 1, is no const argument.
 fn behind_one(a: RealRoot, x: RealRoot) -> [RealRoot; 2]
     ensures { result ≡ inserted x (a ∷ []) }
 {
@@ -142,9 +143,21 @@ fn polished_by(poly: Scaled, r: RealRoot, gap: f64) -> RealRoot
     if r.multiplicity != 1 {
         return RealRoot::new(r.value, r.multiplicity);
     }
-    let f = poly.f;
-    let y = polish::polish(f, poly.d, r.value, gap);
+    let y = polish::polish(poly.polynomial(), r.value, gap);
     RealRoot::new(y, 1)
+}
+
+// Place k, where it counts.
+fn place_polished(poly: Scaled, o: Roots, k: usize) -> RealRoot
+    requires poly_d_high { poly.d ≤ 4 }
+    requires o_len_high { o.len ≤ 4 }
+    requires k_high { k < 4 }
+    ensures { result ≡ place_polished poly o k }
+{
+    if k < o.len {
+        return polished_by(poly, o.root[k], gap(o, k));
+    }
+    o.root[k]
 }
 
 fn polished(poly: Scaled, o: Roots) -> Roots
@@ -152,35 +165,8 @@ fn polished(poly: Scaled, o: Roots) -> Roots
     requires o_len_high { o.len ≤ 4 }
     ensures { (list_of result ≡ polished_of 4 poly (from_fn o.len (ordered_at (list_of o)))) × (result.len ≡ o.len) }
 {
-    if o.len == 0 {
-        return o;
-    }
-    let first = polished_by(poly, o.root[0], gap(o, 0));
-    if o.len < 2 {
-        return Roots {
-            root: [first, o.root[1], o.root[2], o.root[3]],
-            len: 1,
-        };
-    }
-    let second = polished_by(poly, o.root[1], gap(o, 1));
-    if o.len < 3 {
-        return Roots {
-            root: [first, second, o.root[2], o.root[3]],
-            len: 2,
-        };
-    }
-    let third = polished_by(poly, o.root[2], gap(o, 2));
-    if o.len < 4 {
-        return Roots {
-            root: [first, second, third, o.root[3]],
-            len: 3,
-        };
-    }
-    let fourth = polished_by(poly, o.root[3], gap(o, 3));
-    Roots {
-        root: [first, second, third, fourth],
-        len: 4,
-    }
+    let root = std::array::from_fn(|k| place_polished(poly, o, k));
+    Roots { root, len: o.len }
 }
 
 // Whether the next place is within the band of y.
@@ -244,19 +230,11 @@ fn joined(poly: Scaled, p: Roots, tol: f64) -> Roots
         return none;
     }
     let at = p.root[0];
-    let first = Run { out: none, at };
-    if p.len < 2 {
-        return ended(first);
+    let mut run = Run { out: none, at };
+    for k in 1..p.len {
+        run = run_at(poly, run, p, k, tol);
     }
-    let second = run_at(poly, first, p, 1, tol);
-    if p.len < 3 {
-        return ended(second);
-    }
-    let third = run_at(poly, second, p, 2, tol);
-    if p.len < 4 {
-        return ended(third);
-    }
-    ended(run_at(poly, third, p, 3, tol))
+    ended(run)
 }
 
 // The u32 sums do not overflow: what the candidates' multiplicities add up to is a u32.

@@ -10,7 +10,8 @@ use lib.Dec.{T, eqb, eqb→eq}
 use lib.Ieee.{Float, nan, inf, fin, binary64, up, down, neg, lt, eq, ne, fits, is_nan, of_bits, div}
 use lib.Ieee.Fits.{and_l}
 use lib.Ieee.Back.{whole_unique}
-use Rattle.float.specs.Literals.{zero64, one64, inf64}
+use Rattle.std.specs.Float.{float_is_finite, is_sign_negative}
+use Rattle.float.specs.Literals.{zero64}
 use Rattle.float.specs.Methods.{abs_of, is_finite_of, is_sign_negative_of, copysign_of}
 
 -- x differs from itself exactly where it is nan
@@ -22,16 +23,24 @@ ne_self (inf false) = refl
 ne_self (fin true m e) = simp (eq-eqb (m * up e * down e) (m * up e * down e) refl)
 ne_self (fin false m e) = simp (eq-eqb (m * up e * down e) (m * up e * down e) refl)
 
--- finite: between the infinities
-between : (x : Float) → (lt (neg inf64) x && lt x inf64) ≡ is_finite_of x
-unfolding lt neg of_bits is_finite_of
-between nan = refl
-between (inf true) = refl
-between (inf false) = refl
-between (fin s m e) = refl
+-- std's names for what is finite and for the sign
+pub finite_as : (x : Float) → float_is_finite x ≡ is_finite_of x
+unfolding float_is_finite is_finite_of
+finite_as nan = refl
+finite_as (inf s) = refl
+finite_as (fin s m e) = refl
 
-pub finite_is : (x i : Float) → i ≡ inf64 → (lt (neg i) x && lt x i) ≡ is_finite_of x
-finite_is x i h = rw h (between x)
+pub sign_as : (x : Float) → is_sign_negative x ≡ is_sign_negative_of x
+unfolding is_sign_negative is_sign_negative_of
+sign_as nan = refl
+sign_as (inf s) = refl
+sign_as (fin s m e) = refl
+
+pub nan_sign : (x : Float) → is_nan x ≡ true → false ≡ is_sign_negative_of x
+unfolding is_nan is_sign_negative_of
+nan_sign nan h = refl
+nan_sign (inf s) h = absurd (false≢true h)
+nan_sign (fin s m e) h = absurd (false≢true h)
 
 -- ---- the sign, told by comparisons with 0
 
@@ -68,24 +77,6 @@ level_zero (inf s) t h = absurd (false≢true h)
 level_zero (fin s m e) t h =
     let level = and_l (eqb (m * up e * 1) (0 * 1 * down e)) (beq s false || eqb (m * up e * 1) 0) (subst T (sym h) tt) in
     whole_unique binary64 (fin s m e) (fin s 0 (pos 0)) s 0 t tt (refl, eqb→eq _ _ level) (refl, refl)
-
--- 1 / ±0 is an infinity of that sign
-over_zero : (s : Bool) → lt (div binary64 one64 (fin s 0 (pos 0))) zero64 ≡ s
-unfolding lt div of_bits
-over_zero true = refl
-over_zero false = refl
-
--- so a division tells the sign of a zero
-pub zero_sign : (x : Float) → T (fits binary64 x) → eq x zero64 ≡ true → lt (div binary64 one64 x) zero64 ≡ is_sign_negative_of x
-zero_sign x t h = ap (λ (y : Float). lt (div binary64 one64 y) zero64) (level_zero x t h) ∙ over_zero (is_sign_negative_of x)
-
--- of anything but a zero, a comparison with 0 does
-pub other_sign : (x : Float) → eq x zero64 ≡ false → lt x zero64 ≡ is_sign_negative_of x
-other_sign x h = told (lt x zero64) refl
-  where
-    told : (b : Bool) → lt x zero64 ≡ b → lt x zero64 ≡ is_sign_negative_of x
-    told true k = k ∙ sym (below_zero x k)
-    told false k = k ∙ sym (not_below x k h)
 
 -- ---- the size, by the sign
 

@@ -1,4 +1,5 @@
-// Doubles: the methods of Rust's f64 that Rattle has not, and doubles as bits and as bytes. Every function takes all bits; every NaN is one NaN.
+// Doubles: Rust's methods on f64 for all bits, and doubles as bits and as bytes. Every NaN is one NaN. Where std's method asks for more, or its contract says
+// less, the method is written here.
 // It rests on `facts` and `rounding`. Every crate that computes with doubles rests on it.
 #![tactic(auto)]
 
@@ -11,31 +12,30 @@ ghost use Rattle.float.specs.Methods.{abs_of, is_finite_of, all_finite_of, is_si
 ghost use Rattle.float.specs.Floor.{floor_of};
 ghost use Rattle.float.specs.Bytes.{u64_at, f64_at, bytes_of};
 
-// Rattle has no infinite constant.
 pub fn infinity() -> f64
     ensures { result ≡ inf64 }
 {
-    f64::from_bits(0x7ff0_0000_0000_0000)
+    f64::INFINITY
 }
 
 pub fn is_nan(x: f64) -> bool
     ensures { result ≡ is_nan x }
 {
-    x != x
+    x.is_nan()
 }
 
-// 0 - x where x is at most 0, so that -0 gives +0.
+// 0 - x where x is at most 0, so that -0 gives +0: one test, where std's makes two.
 pub fn abs(x: f64) -> f64
     ensures { result ≡ abs_of x }
 {
     if x <= 0.0 { 0.0 - x } else { x }
 }
 
+#[tactic(auto, using(crate::proofs::Zero::finite_as))]
 pub fn is_finite(x: f64) -> bool
     ensures { result ≡ is_finite_of x }
 {
-    let most = infinity();
-    -most < x && x < most
+    x.is_finite()
 }
 
 // No way out before the end: the loop of a few numbers is unrolled then.
@@ -43,30 +43,20 @@ pub fn all_finite(s: &[f64]) -> bool
     ensures { result ≡ all_finite_of s.now }
 {
     let mut all = true;
-    let mut i = 0;
-    while i < s.len() {
-        all = all & is_finite(s[i]);
-        i += 1;
+    for x in s {
+        all = all & is_finite(*x);
     }
     all
 }
 
-// Below 0 where the sign is set: 1 / -0 is -infinity.
-fn signed(x: f64) -> f64
-    ensures { lt result zero64 ≡ is_sign_negative_of x }
-{
-    if x == 0.0 {
-        return 1.0 / x;
-    }
-    x
-}
-
+#[tactic(auto, using(crate::proofs::Zero::sign_as, crate::proofs::Zero::nan_sign))]
 pub fn is_sign_negative(x: f64) -> bool
     ensures { result ≡ is_sign_negative_of x }
 {
-    signed(x) < 0.0
+    !is_nan(x) && x.is_sign_negative()
 }
 
+// std's takes no NaN for y.
 pub fn copysign(x: f64, y: f64) -> f64
     ensures { result ≡ copysign_of x y }
 {
@@ -74,17 +64,11 @@ pub fn copysign(x: f64, y: f64) -> f64
     if is_sign_negative(y) { -a } else { a }
 }
 
-// y where it is to be taken, and where x is NaN.
+// y where it is to be taken, and where x is NaN. (Of two zeros std's min and max may answer either; these answer the first.)
 fn pick(second: bool, x: f64, y: f64) -> f64
     ensures { result ≡ cond (second || is_nan x) y x }
 {
-    if second {
-        return y;
-    }
-    if is_nan(x) {
-        return y;
-    }
-    x
+    if second || is_nan(x) { y } else { x }
 }
 
 pub fn min(x: f64, y: f64) -> f64
@@ -99,37 +83,24 @@ pub fn max(x: f64, y: f64) -> f64
     pick(x < y, x, y)
 }
 
+// std's asks that lo is at most hi.
+#[tactic(auto, unfolding(crate::specs::Methods::clamp_of))]
 pub fn clamp(x: f64, lo: f64, hi: f64) -> f64
     ensures { result ≡ clamp_of x lo hi }
 {
-    let mut y = x;
-    if y < lo {
-        y = lo;
-    }
-    if y > hi {
-        y = hi;
-    }
-    y
+    let y = if x < lo { lo } else { x };
+    if y > hi { hi } else { y }
 }
 
+// std's total_cmp takes no NaN.
+#[tactic(auto, unfolding(crate::specs::Methods::total_le_of))]
 pub fn total_le(x: f64, y: f64) -> bool
     ensures { result ≡ total_le_of x y }
 {
-    if is_nan(y) {
-        return true;
-    }
-    if x < y {
-        return true;
-    }
-    if x == y {
-        if is_sign_negative(x) {
-            return true;
-        }
-        return !is_sign_negative(y);
-    }
-    false
+    is_nan(y) || x < y || (x == y && (is_sign_negative(x) || !is_sign_negative(y)))
 }
 
+// The five powers written out: std's makes a loop of them.
 pub fn powi(v: f64, n: usize) -> f64
     requires { n ≤ 4 }
     ensures { result ≡ powi_of v n }
@@ -155,7 +126,7 @@ pub fn difference(p: u64, q: u64) -> f64
     -((q - p) as f64)
 }
 
-// x rounded down, and 8192. It lies between low and high, and each turn halves what is left.
+// x rounded down, and 8192. It lies between low and high, and each turn halves what is left. (std's floor answers a double, of any size.)
 pub fn floor(x: f64) -> u64
     ensures { result ≡ floor_of x }
 {
@@ -177,7 +148,7 @@ pub fn from_bits(n: u64) -> f64
     ensures { result ≡ of_bits binary64 n }
 {
     if n % 0x8000_0000_0000_0000 > 0x7FF0_0000_0000_0000 {
-        return 0.0 / 0.0;
+        return f64::NAN;
     }
     f64::from_bits(n)
 }
@@ -192,28 +163,12 @@ pub fn to_bits(x: f64) -> u64
     f64::to_bits(x)
 }
 
-// A byte, as a number that sums can take.
-fn byte_at(s: &[u8], i: usize) -> u64
-    requires { i < length s.now }
-    ensures { (result ≡ get_or s.now i 0) × (result < 256) }
-{
-    s[i] as u64
-}
-
 // The number in the eight bytes from at on, lowest first.
 pub fn u64_at(s: &[u8], at: usize) -> u64
     requires { at + 8 ≤ length s.now }
     ensures { result ≡ u64_at s.now at }
 {
-    let b0 = byte_at(s, at);
-    let b1 = byte_at(s, at + 1);
-    let b2 = byte_at(s, at + 2);
-    let b3 = byte_at(s, at + 3);
-    let b4 = byte_at(s, at + 4);
-    let b5 = byte_at(s, at + 5);
-    let b6 = byte_at(s, at + 6);
-    let b7 = byte_at(s, at + 7);
-    b0 + 256 * (b1 + 256 * (b2 + 256 * (b3 + 256 * (b4 + 256 * (b5 + 256 * (b6 + 256 * b7))))))
+    u64::from_le_bytes(std::array::from_fn(|i| s[at + i]))
 }
 
 // n into the eight bytes from at on, lowest first.
@@ -221,13 +176,7 @@ pub fn put_u64(out: &mut [u8], at: usize, n: u64)
     requires { at + 8 ≤ length out.old }
     ensures { out.new ≡ sets out.old at (bytes_of n) }
 {
-    let mut rest = n;
-    let mut i = 0;
-    while i < 8 {
-        out[at + i] = (rest % 256) as u8;
-        rest /= 256;
-        i += 1;
-    }
+    out[at..at + 8].copy_from_slice(&n.to_le_bytes());
 }
 
 pub fn f64_at(s: &[u8], at: usize) -> f64

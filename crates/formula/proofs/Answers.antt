@@ -81,20 +81,17 @@ floats_padded p =
 pub answer_refused : (a : Part) (r : Expanded) → (a.number ≡ 0 → ⊥) → r ≡ answered_of (refused a.number) → r ≡ answered_of (value_in a)
 answer_refused a r f e = e ∙ ap answered_of (sym (value_refused a f))
 
-module _ (a : Part) (n : ℕ) (v w x y z : Float) where
-  -- x is the coefficient of t^k
-  abbrev Is : Float → ℕ → Type 0
-  Is x k = x ≡ of_int binary64 (coefficient_in a k)
+-- the coefficient of t^k
+abbrev pub float_of : Part → ℕ → Float
+float_of a k = of_int binary64 (coefficient_in a k)
 
+module _ (a : Part) (n : ℕ) (coeffs : List Float) where
   abbrev answer : Expanded
-  answer = record { number = 0; len = n; coeffs = v ∷ w ∷ x ∷ y ∷ z ∷ [] }
+  answer = record { number = 0; len = n; coeffs = coeffs }
 
-  pub answer_is : a.number ≡ 0 → n ≡ length_in a → Is v 0 → Is w 1 → Is x 2 → Is y 3 → Is z 4 → answer ≡ answered_of (value_in a)
+  pub answer_is : a.number ≡ 0 → n ≡ length_in a → coeffs ≡ from_fn 5 (float_of a) → answer ≡ answered_of (value_in a)
   unfolding answered_of
-  answer_is o e f g h i j = made ∙ ap answered_of (sym (value_exact a o))
+  answer_is o e f = made ∙ ap answered_of (sym (value_exact a o))
     where
-      list : v ∷ w ∷ x ∷ y ∷ z ∷ [] ≡ floats_of (from_fn 5 (coefficient_in a))
-      list = λ k. f k ∷ g k ∷ h k ∷ i k ∷ j k ∷ []
-
       made : answer ≡ answered_of (exact (trimmed (from_fn 5 (coefficient_in a))))
-      made = λ k. record { number = 0; len = e k; coeffs = (list ∙ floats_padded (from_fn 5 (coefficient_in a))) k }
+      made = λ k. record { number = 0; len = e k; coeffs = (f ∙ floats_padded (from_fn 5 (coefficient_in a))) k }

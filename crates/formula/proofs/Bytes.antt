@@ -4,7 +4,7 @@ use mathlib.Core.Bool.{Bool, true, false, cond, ◌&&◌, ◌||◌, true≢false
 use mathlib.Core.List.{List, [], ◌∷◌, ◌++◌}
 use mathlib.Core.Logic.{⊎_elim}
 use mathlib.Core.Option.{Option, none, some}
-use Prim.Native.Nat.{ℕ, ◌+◌, ◌-◌, ◌≤◌, ◌<◌}
+use Prim.Native.Nat.{ℕ, ◌+◌, ◌≤◌, ◌<◌}
 use lib.Dec.{leb, ltb, eqb}
 use lib.ListN.{length, get_or, drop, drop_of_length-le}
 use borrow.Author.Tests.{ltb-true, leb-true, lt-ltb, le-ltb}
@@ -16,7 +16,9 @@ use Rattle.parts.specs.Products.{operator_of}
 use Rattle.formula.specs.Grammar.{is_digit, Sign, plus, minus}
 use Rattle.formula.specs.Parts.{sign_of}
 use Rattle.formula.specs.Reading.{if_some, after, after_sign, digits_of, behind_digits}
-use Rattle.formula.specs.Readers.{is_at, sign_at, digit_at, operator_at}
+use Rattle.std.specs.Prelude.{Some, None}
+use Rattle.parts.specs.declared.Operator.{Operator}
+use Rattle.formula.specs.Readers.{is_at, sign_at, digit_at, operator_at, sign_operator}
 use Rattle.formula.proofs.Sound.{digits_are}
 
 -- ---- inside the text
@@ -103,6 +105,21 @@ operator_is s i = go (is_at s i 43)
     go : (b : Bool) → operator_of (cond b Sum Difference) ≡ sign_of (sign_in b)
     go true = refl
     go false = refl
+
+-- the operator that was found, or none
+pub sign_some : (s : List ℕ) (i : ℕ) (op : Operator) → Some op ≡ sign_operator s i → (sign_at s i ≡ true) × (op ≡ operator_at s i)
+sign_some s i op = go (sign_at s i)
+  where
+    go : (b : Bool) → Some op ≡ cond b (Some (operator_at s i)) None → (b ≡ true) × (op ≡ operator_at s i)
+    go true e = (refl, cc)
+    go false e = absurd cc
+
+pub sign_none : (s : List ℕ) (i : ℕ) → None ≡ sign_operator s i → sign_at s i ≡ false
+sign_none s i = go (sign_at s i)
+  where
+    go : (b : Bool) → None ≡ cond b (Some (operator_at s i)) None → b ≡ false
+    go true e = absurd cc
+    go false e = refl
 
 -- ---- a digit
 pub digits_true : (s : List ℕ) (i : ℕ) → digit_at s i ≡ true → digits_of (drop i s) ≡ get_or s i 0 ∷ digits_of (drop (i + 1) s)

@@ -2,7 +2,7 @@
 // coefficients. It rests on `parts`; the hall file rests on it.
 #![tactic(auto)]
 
-ghost use Rattle.std.specs.Prelude.{◌≡◌, true, ◌&&◌, ◌+◌, ◌-◌, ◌≤◌, ◌<◌, length, get_or, drop};
+ghost use Rattle.std.specs.Prelude.{◌≡◌, ◌≤◌, length, drop, IfSome};
 ghost use Rattle.std.specs.Float.{binary64};
 ghost use Rattle.std.specs.Float.Ieee.{of_int};
 ghost use Rattle.parts.specs.Value.{refused as refusedAs};
@@ -10,9 +10,12 @@ ghost use Rattle.parts.specs.Part.{coefficient_in, value_in, Sound};
 ghost use Rattle.formula.specs.Expansion.{sum_of, term_of, factor_of};
 ghost use Rattle.formula.specs.Reading.{read_sum, read_term, read_factor, read_unit, read_number};
 ghost use Rattle.formula.specs.Formula.{answered_of, expand_of};
-ghost use Rattle.formula.specs.Readers.{is_at, sign_at, digit_at, operator_at, Ahead, Failed, Reads, Based, Closed, Powered, Joined};
+ghost use Rattle.formula.specs.Readers.{is_at, sign_operator, Digit, Ahead, Reads, Based, Closed, Powered, Joined};
 
+use cursor::Cursor;
 use parts::{Operator, Part};
+
+mod cursor;
 
 // Coefficients for the list operation, and how many; or nothing but the number under which the text is refused, where that is not 0.
 #[derive(Clone, Copy)]
@@ -22,248 +25,166 @@ pub struct Expanded {
     pub coeffs: [f64; 5],
 }
 
-// Whether something was read, where what is left begins, and what was read.
-#[derive(Clone, Copy)]
-struct Cursor {
-    read: bool,
-    next: usize,
-    part: Part,
-}
-
 // ---- bytes
 
+#[tactic(auto, unfolding(crate::specs::Readers::is_at))]
 fn is_at(s: &[u8], i: usize, b: u8) -> bool
     ensures { result ≡ is_at s.now i b }
 {
-    if i < s.len() {
-        return s[i] == b;
-    }
-    false
+    s.get(i) == Some(&b)
 }
 
-fn sign_at(s: &[u8], i: usize) -> bool
-    ensures { result ≡ sign_at s.now i }
+// The operator of the sign at i, if there is one.
+#[tactic(auto, unfolding(crate::specs::Readers::is_at, crate::specs::Readers::sign_at))]
+fn operator_at(s: &[u8], i: usize) -> Option<Operator>
+    ensures { result ≡ sign_operator s.now i }
 {
-    if is_at(s, i, b'+') {
-        return true;
+    match s.get(i)? {
+        b'+' => Some(Operator::Sum),
+        b'-' => Some(Operator::Difference),
+        _ => None,
     }
-    is_at(s, i, b'-')
 }
 
-fn digit_at(s: &[u8], i: usize) -> bool
-    ensures { result ≡ digit_at s.now i }
+// The digit at i, if there is one.
+#[tactic(auto, unfolding(crate::specs::Readers::digit_at))]
+fn digit(s: &[u8], i: usize) -> Option<u64>
+    ensures { Digit s.now i result }
 {
-    if i < s.len() {
-        if s[i] < b'0' {
-            return false;
-        }
-        return s[i] <= b'9';
+    let b = *s.get(i)?;
+    if b.is_ascii_digit() {
+        return Some((b - b'0') as u64);
     }
-    false
-}
-
-fn digit(s: &[u8], i: usize) -> u64
-    requires { digit_at s.now i ≡ true }
-    ensures value { result ≡ get_or s.now i 0 - 48 }
-    ensures high { result < 10 }
-{
-    (s[i] - b'0') as u64
-}
-
-fn operator_at(s: &[u8], i: usize) -> Operator
-    ensures { result ≡ operator_at s.now i }
-{
-    if is_at(s, i, b'+') {
-        return Operator::Sum;
-    }
-    Operator::Difference
-}
-
-// ---- what is not read further
-
-fn failed(at: usize) -> Cursor
-    ensures { Failed at result }
-{
-    Cursor {
-        read: false,
-        next: at,
-        part: parts::number(0),
-    }
+    None
 }
 
 // ---- factors
 
 // A whole number of one to nine digits.
 #[tactic(auto, using(crate::proofs::Factors::read_long, crate::proofs::Factors::digit_more))]
-fn number(s: &[u8], at: usize) -> Cursor
+fn number(s: &[u8], at: usize) -> Option<Cursor>
     requires { at ≤ length s.now }
-    ensures ahead { Ahead s.now at result }
+    ensures ahead { IfSome result (Ahead s.now at) }
     ensures based { Based s.now result (read_number (drop at s.now)) }
 {
     let mut n: u64 = 0;
     let mut i = at;
-    while digit_at(s, i) {
+    while let Some(d) = digit(s, i) {
         if i - at == 9 {
-            return failed(at);
+            return None;
         }
-        n = 10 * n + digit(s, i);
+        n = 10 * n + d;
         i += 1;
     }
     if i == at {
-        return failed(at);
+        return None;
     }
-    Cursor {
-        read: true,
+    Some(Cursor {
         next: i,
         part: parts::number(n),
-    }
+    })
 }
 
 // A whole number, or the letter t.
-fn unit(s: &[u8], at: usize) -> Cursor
+fn unit(s: &[u8], at: usize) -> Option<Cursor>
     requires { at ≤ length s.now }
-    ensures ahead { Ahead s.now at result }
+    ensures ahead { IfSome result (Ahead s.now at) }
     ensures based { Based s.now result (read_unit (drop at s.now)) }
 {
     if is_at(s, at, b't') {
-        return Cursor {
-            read: true,
+        return Some(Cursor {
             next: at + 1,
             part: parts::letter(),
-        };
+        });
     }
     number(s, at)
 }
 
 // A sum, where its bracket closes next.
-fn closed(s: &[u8], inner: Cursor) -> Cursor
-    requires inner_next_high { inner.next ≤ length s.now }
-    requires sound { Sound inner.part }
-    ensures ahead { Ahead s.now inner.next result }
+fn closed(s: &[u8], inner: Cursor) -> Option<Cursor>
+    requires { inner.next ≤ length s.now }
+    ensures ahead { IfSome result (Ahead s.now inner.next) }
     ensures closed { Closed s.now inner result }
 {
     let at = inner.next;
-    if !inner.read {
-        return inner;
-    }
     if is_at(s, at, b')') {
         let part = inner.part;
-        return Cursor {
-            read: true,
-            next: at + 1,
-            part,
-        };
+        return Some(Cursor { next: at + 1, part });
     }
-    failed(at)
+    None
 }
 
 // What was read, to the power that comes next, if one does.
-fn powered(s: &[u8], base: Cursor) -> Cursor
-    requires base_next_high { base.next ≤ length s.now }
-    requires sound { Sound base.part }
-    ensures ahead { Ahead s.now base.next result }
+fn powered(s: &[u8], base: Cursor) -> Option<Cursor>
+    requires { base.next ≤ length s.now }
+    ensures ahead { IfSome result (Ahead s.now base.next) }
     ensures powered { Powered s.now base result }
 {
     let at = base.next;
-    if !base.read {
-        return base;
-    }
     if !is_at(s, at, b'^') {
-        return base;
+        return Some(base);
     }
-    if !digit_at(s, at + 1) {
-        return failed(at);
-    }
+    let d = digit(s, at + 1)?;
     let part = base.part;
-    let d = digit(s, at + 1);
-    Cursor {
-        read: true,
+    Some(Cursor {
         next: at + 2,
         part: parts::power(part, d),
-    }
+    })
 }
 
 // ---- joins
 
 // The result takes the place of the right operand, which spares 64 bytes of stack for each open bracket.
 fn joined(op: Operator, left: Cursor, right: Cursor) -> Cursor
-    requires left_sound { Sound left.part }
-    requires right_sound { Sound right.part }
     ensures { Joined op left right result }
 {
-    if !right.read {
-        return right;
-    }
     let mut part = right.part;
     let a = left.part;
     part = parts::join(op, a, part);
     Cursor {
-        read: true,
         next: right.next,
         part,
     }
 }
 
-// Whether a term goes on, and whether a sum does.
-fn starred(s: &[u8], left: Cursor) -> bool
-    ensures { result ≡ (left.read && is_at s.now left.next 42) }
-{
-    if !left.read {
-        return false;
-    }
-    is_at(s, left.next, b'*')
-}
-
-fn signed(s: &[u8], left: Cursor) -> bool
-    ensures { result ≡ (left.read && sign_at s.now left.next) }
-{
-    if !left.read {
-        return false;
-    }
-    sign_at(s, left.next)
-}
-
 // ---- the readers: a sum reads terms, a term factors, and a factor in brackets a sum, from a place on
 
 #[cycle(factor_sum_term)]
-fn sum(s: &[u8], at: usize) -> Cursor
+fn sum(s: &[u8], at: usize) -> Option<Cursor>
     requires { at ≤ length s.now }
     ensures { Reads read_sum sum_of 3 s.now at result }
 {
-    let mut left = term(s, at);
-    while signed(s, left) {
-        let i = left.next;
-        let op = operator_at(s, i);
-        let right = term(s, i + 1);
+    let mut left = term(s, at)?;
+    while let Some(op) = operator_at(s, left.next) {
+        let right = term(s, left.next + 1)?;
         left = joined(op, left, right);
     }
-    left
+    Some(left)
 }
 
 #[cycle(factor_sum_term)]
-fn term(s: &[u8], at: usize) -> Cursor
+fn term(s: &[u8], at: usize) -> Option<Cursor>
     requires { at ≤ length s.now }
     ensures { Reads read_term term_of 2 s.now at result }
 {
-    let mut left = factor(s, at);
-    while starred(s, left) {
-        let i = left.next;
-        let right = factor(s, i + 1);
+    let mut left = factor(s, at)?;
+    while is_at(s, left.next, b'*') {
+        let right = factor(s, left.next + 1)?;
         left = joined(Operator::Product, left, right);
     }
-    left
+    Some(left)
 }
 
 #[cycle(factor_sum_term)]
-fn factor(s: &[u8], at: usize) -> Cursor
+fn factor(s: &[u8], at: usize) -> Option<Cursor>
     requires { at ≤ length s.now }
     ensures { Reads read_factor factor_of 1 s.now at result }
 {
     let base = if is_at(s, at, b'(') {
-        let inner = sum(s, at + 1);
-        closed(s, inner)
+        let inner = sum(s, at + 1)?;
+        closed(s, inner)?
     } else {
-        unit(s, at)
+        unit(s, at)?
     };
     powered(s, base)
 }
@@ -299,24 +220,16 @@ fn answered(a: Part) -> Expanded
     Expanded {
         number: 0,
         len: parts::len(a),
-        coeffs: [
-            float_at(a, 0),
-            float_at(a, 1),
-            float_at(a, 2),
-            float_at(a, 3),
-            float_at(a, 4),
-        ],
+        coeffs: std::array::from_fn(|k| float_at(a, k)),
     }
 }
 
-#[tactic(auto, using(crate::proofs::Whole::text_met, crate::proofs::Whole::none_left))]
 pub fn expand(s: &[u8]) -> Expanded
     ensures { result ≡ expand_of s.now }
 {
-    let all = sum(s, 0);
-    if !all.read {
+    let Some(all) = sum(s, 0) else {
         return refused(refusals::NOT_A_SUM);
-    }
+    };
     if all.next < s.len() {
         return refused(refusals::NOT_A_SUM);
     }

@@ -8,13 +8,14 @@ use std::io::Write;
 fn main(rt: HostRuntime) {
     let mut file = input::buffer();
     let mut out = listing_io::output_buffer();
-    let listed = listing_io::list_fd(&mut rt.stdin(), &mut file, &mut out);
-    if let Some(e) = listed.failed {
-        let _ = eprintln!(rt; "reading the hall file: {e}");
-        return;
-    }
-    let n = listed.len;
-    if let Err(e) = Write::write_all(&mut rt.stdout(), &out[..n]) {
+    let listed = match listing_io::list_fd(&mut rt.stdin(), &mut file, &mut out) {
+        Ok(listed) => listed,
+        Err(e) => {
+            let _ = eprintln!(rt; "reading the hall file: {e}");
+            return;
+        }
+    };
+    if let Err(e) = Write::write_all(&mut rt.stdout(), &out[..listed.len]) {
         let _ = eprintln!(rt; "writing the listing: {e}");
     }
 }

@@ -1,12 +1,16 @@
--- One turn and the end of a downward loop, with the count as code has it; and that a small number is exact as a float.
+-- One turn and the end of a downward loop, with the count as code has it; that a small number is exact as a float; and what the proofs rest on: the laws of
+-- the loops, and the definitions.
 use mathlib.Core.Path.{◌≡◌, ap, ◌∙◌}
 use Prim.Native.Nat.{ℕ, suc, ◌+◌, ◌-◌, ◌^◌, ◌≤◌, ◌<◌}
 use native.Mathlib.Omega.{arith}
 use lib.Dec.{T, le→leb}
 use lib.IntN.{pos}
 use lib.Ieee.{binary64, in_float}
-use Rattle.facts.specs.Count.{count_down, down_end}
+use Rattle.facts.specs.Count.{count_down, up_turn, up_end, down_turn, down_end}
 use Rattle.horner.specs.Loops.{down_to}
+use Rattle.horner.specs.Product.{split_high, product_error, two_prod_of, discriminant_of}
+use Rattle.horner.specs.Horner.{horner_step, value_slope_of, sum_error, compensated_step, compensated_of, value_slope_compensated_of}
+use Rattle.horner.specs.Taylor.{derivs_step, derivs12_of, taylor_step, sweep_of, taylor_of}
 
 module _ {A : Type 0} where
   pub down_to_turn : (k : ℕ) (f : ℕ → A → A) (i : ℕ) (a : A) → k < i → down_to k f i a ≡ down_to k f (i - 1) (f (i - 1) a)
@@ -23,3 +27,10 @@ module _ {A : Type 0} where
 pub small_exact : (i : ℕ) → i ≤ 4 → T (in_float binary64 (pos i))
 unfolding in_float
 small_exact i h = le→leb i (2 ^ 53) (omega arith)
+
+pub ruleset turns = (up_turn, up_end, down_turn, down_end, down_to_turn, down_to_end, small_exact)
+
+unfoldable pub definitions : ℕ
+unfolding split_high product_error two_prod_of discriminant_of horner_step value_slope_of sum_error compensated_step compensated_of value_slope_compensated_of
+    derivs_step derivs12_of taylor_step sweep_of taylor_of
+definitions = 0

@@ -1,7 +1,7 @@
 // Evaluation: two_prod and the discriminant, a polynomial's value and slope by Horner's rule, plain and compensated, its derivatives and its
 // Taylor coefficients. Each function is the one of poly.rs of that name, on all bits. It rests on `float` and `facts`; refining, factoring, scaling and
 // polishing rest on it.
-#![tactic(auto)]
+#![tactic(auto, using(crate::proofs::Loops::turns), unfolding(crate::proofs::Loops::definitions))]
 
 ghost use Rattle.std.specs.Prelude.{◌≡◌, ◌≤◌};
 ghost use Rattle.horner.specs.Product.{split_high, two_prod_of, discriminant_of};
@@ -28,43 +28,74 @@ pub struct Derivs {
     pub d2: f64,
 }
 
-pub fn value_slope(p: [f64; 5], d: usize, y: f64) -> ValueSlope
-    requires { d ≤ 4 }
-    ensures { result ≡ value_slope_of p d y }
-{
-    let mut v = p[d];
-    let mut s = 0.0;
-    let mut i = d;
-    while i > 0 {
-        i -= 1;
-        s = s * y + v;
-        v = v * y + p[i];
-    }
-    ValueSlope { value: v, slope: s }
+/// f[0] + f[1]*y + .. + f[d]*y^d.
+#[derive(Clone, Copy)]
+pub struct Polynomial {
+    pub f: [f64; 5],
+    pub d: usize,
+    ghost degree: { d ≤ 4 },
 }
 
-pub fn value_slope_compensated(p: [f64; 5], d: usize, y: f64) -> ValueSlope
-    requires { d ≤ 4 }
-    ensures { result ≡ value_slope_compensated_of p d y }
-{
-    let mut v = p[d];
-    let mut err = 0.0;
-    let mut s = 0.0;
-    let mut i = d;
-    while i > 0 {
-        i -= 1;
-        let c = p[i];
-        s = s * y + v;
-        let t = two_prod(v, y);
-        let sum = t.prod + c;
-        let back = sum - t.prod;
-        let sum_err = (t.prod - (sum - back)) + (c - back);
-        err = err * y + (t.err + sum_err);
-        v = sum;
+impl Polynomial {
+    pub fn value_slope(self, y: f64) -> ValueSlope
+        ensures { result ≡ value_slope_of self.f self.d y }
+    {
+        let mut v = self.f[self.d];
+        let mut s = 0.0;
+        for i in (0..self.d).rev() {
+            s = s * y + v;
+            v = v * y + self.f[i];
+        }
+        ValueSlope { value: v, slope: s }
     }
-    ValueSlope {
-        value: v + err,
-        slope: s,
+
+    pub fn value_slope_compensated(self, y: f64) -> ValueSlope
+        ensures { result ≡ value_slope_compensated_of self.f self.d y }
+    {
+        let mut v = self.f[self.d];
+        let mut err = 0.0;
+        let mut s = 0.0;
+        for i in (0..self.d).rev() {
+            let c = self.f[i];
+            s = s * y + v;
+            let t = two_prod(v, y);
+            let sum = t.prod + c;
+            let back = sum - t.prod;
+            let sum_err = (t.prod - (sum - back)) + (c - back);
+            err = err * y + (t.err + sum_err);
+            v = sum;
+        }
+        ValueSlope {
+            value: v + err,
+            slope: s,
+        }
+    }
+
+    pub fn derivs12(self, y: f64) -> Derivs
+        ensures { result ≡ derivs12_of self.f self.d y }
+    {
+        let mut d1 = 0.0;
+        let mut d2 = 0.0;
+        for i in (1..self.d + 1).rev() {
+            let k = i as f64;
+            d1 = d1 * y + k * self.f[i];
+            if i >= 2 {
+                d2 = d2 * y + k * (k - 1.0) * self.f[i];
+            }
+        }
+        Derivs { d1, d2 }
+    }
+
+    pub fn taylor(self, y: f64) -> [f64; 5]
+        ensures { result ≡ taylor_of self.f self.d y }
+    {
+        let mut t = self.f;
+        for k in 0..self.d {
+            for i in (k..self.d).rev() {
+                t[i] = t[i] + y * t[i + 1];
+            }
+        }
+        t
     }
 }
 
@@ -98,39 +129,4 @@ pub fn discriminant(al: f64, be: f64) -> f64
 {
     let sq = two_prod(al, al);
     (sq.prod - 4.0 * be) + sq.err
-}
-
-pub fn derivs12(p: [f64; 5], d: usize, y: f64) -> Derivs
-    requires { d ≤ 4 }
-    ensures { result ≡ derivs12_of p d y }
-{
-    let mut d1 = 0.0;
-    let mut d2 = 0.0;
-    let mut i = d + 1;
-    while i > 1 {
-        i -= 1;
-        let k = i as f64;
-        d1 = d1 * y + k * p[i];
-        if i >= 2 {
-            d2 = d2 * y + k * (k - 1.0) * p[i];
-        }
-    }
-    Derivs { d1, d2 }
-}
-
-pub fn taylor(p: [f64; 5], d: usize, y: f64) -> [f64; 5]
-    requires { d ≤ 4 }
-    ensures { result ≡ taylor_of p d y }
-{
-    let mut t = p;
-    let mut k = 0;
-    while k < d {
-        let mut i = d;
-        while i > k {
-            i -= 1;
-            t[i] = t[i] + y * t[i + 1];
-        }
-        k += 1;
-    }
-    t
 }

@@ -1,5 +1,5 @@
 -- What one read leaves, by what it came to, and what several reads left together.
-use Rattle.std.proofs.Common.{◌≡◌, refl, sym, ap, ◌∙◌, subst, ℕ, zero, suc, ◌+◌, ◌≤◌, ◌<◌, List, [], ◌++◌, length, take, Option, Result, Ok, Err, arith}
+use Rattle.std.proofs.Common.{◌≡◌, refl, sym, ap, ◌∙◌, subst, ℕ, zero, suc, ◌+◌, ◌≤◌, ◌<◌, List, [], ◌++◌, length, take, Option, Some, None, Result, Ok, Err, arith}
 use Rattle.std.proofs.lemmas.List.{append-nil, length-take-le, take-append-le}
 use Rattle.std.proofs.lemmas.Slice.{take-put_mid_below}
 use Rattle.std.proofs.Math.Seq.{take-append-add}
@@ -9,15 +9,13 @@ use Rattle.std.specs.Io.{ReadsAtMost}
 use Rattle.std.specs.Io.KnownBytes.{Consumes, IsAtEnd, ReadConsumes}
 use borrow.Rule.Slice.PartMut.{put_mid, post_of}
 use Rattle.std.specs.declared.io.Error.{Error}
-use Rattle.input.specs.declared.ReadAnswer.{ReadAnswer}
-use Rattle.input.specs.declared.ReadAnswer.TheVariants.{Failed, End, More}
 use Rattle.input.specs.Answers.{meaning_of}
 
 -- a reader that had a has b left, after a read into part, which has room
-abbrev pub Leaves : Option (List ℕ) → Option (List ℕ) → List ℕ → ReadAnswer → Type 0
-Leaves a b part (Failed e) = ⊤
-Leaves a b part End = Consumes a b [] × IsAtEnd b
-Leaves a b part (More n) = (0 < n) × (n ≤ length part) × Consumes a b (take n part)
+abbrev pub Leaves : Option (List ℕ) → Option (List ℕ) → List ℕ → Result (Option ℕ) Error → Type 0
+Leaves a b part (Err e) = ⊤
+Leaves a b part (Ok None) = Consumes a b [] × IsAtEnd b
+Leaves a b part (Ok (Some n)) = (0 < n) × (n ≤ length part) × Consumes a b (take n part)
 
 leaves : (a b : Option (List ℕ)) (r : Result ℕ Error) (part : List ℕ) → 0 < length part → ReadsAtMost r part → ReadConsumes a b r part → Leaves a b part (meaning_of r)
 unfolding meaning_of
@@ -25,7 +23,7 @@ leaves a b (Err e) part room bound bytes = tt
 leaves a b (Ok zero) part room bound bytes = (bytes.0, bytes.1 refl room)
 leaves a b (Ok (suc k)) part room bound bytes = (omega arith, bound.0, bytes.0)
 
-pub leaves_by : (a b : Option (List ℕ)) (r : Result ℕ Error) (part : List ℕ) (x : ReadAnswer) → 0 < length part → ReadsAtMost r part → ReadConsumes a b r part
+pub leaves_by : (a b : Option (List ℕ)) (r : Result ℕ Error) (part : List ℕ) (x : Result (Option ℕ) Error) → 0 < length part → ReadsAtMost r part → ReadConsumes a b r part
     → x ≡ meaning_of r → Leaves a b part x
 leaves_by a b r part x room bound bytes e = subst (Leaves a b part) (sym e) (leaves a b r part room bound bytes)
 

@@ -3,7 +3,7 @@
 // It rests on the library alone; the hall file's reading rests on it.
 #![tactic(auto)]
 
-ghost use Rattle.std.specs.Prelude.{◌≡◌, ◌≤◌, ◌<◌, length, take, IsSome, IsNone};
+ghost use Rattle.std.specs.Prelude.{◌≡◌, ◌≤◌, ◌<◌, length, take, IfOk};
 ghost use Rattle.std.specs.Io.KnownBytes.{Consumes, IsAtEnd};
 ghost use Rattle.input.specs.Answers.{meaning_of};
 
@@ -17,63 +17,31 @@ pub fn buffer() -> [u8; 65537]
     [0; 65537]
 }
 
-// What one read came to.
-#[derive(Clone, Copy)]
-enum ReadAnswer {
-    Failed(io::Error),
-    End,
-    More(usize),
-}
-
-// What `got`, which a read into a buffer with room answered, means.
+// What `got`, which a read into a buffer with room answered, means: how many bytes there are more, or that the input ends.
 #[tactic(auto, unfolding(crate::specs::Answers::meaning_of))]
-fn meaning(got: io::Result<usize>) -> ReadAnswer
+fn meaning(got: io::Result<usize>) -> io::Result<Option<usize>>
     ensures { result ≡ meaning_of got }
 {
     match got {
-        Ok(0) => ReadAnswer::End,
-        Ok(more) => ReadAnswer::More(more),
-        Err(e) => ReadAnswer::Failed(e),
+        Ok(0) => Ok(None),
+        Ok(more) => Ok(Some(more)),
+        Err(e) => Err(e),
     }
 }
 
-// How many bytes were read, none where a read failed, and why it did.
-#[derive(Clone, Copy)]
-pub struct Input {
-    pub failed: Option<io::Error>,
-    pub len: usize,
-}
-
-// Reads to the end of what `from` gives, or until buf is full.
-pub fn read_file<R: Read>(from: &mut R, buf: &mut [u8]) -> Input
-    ensures len_in_bounds { result.len ≤ length buf.new }
-    ensures len_value { IsSome result.failed → result.len ≡ 0 }
-    ensures bytes { IsNone result.failed → Consumes (R.remaining from.old) (R.remaining from.new) (take result.len buf.new) }
-    ensures end { IsNone result.failed → result.len < length buf.new → IsAtEnd (R.remaining from.new) }
+// Reads to the end of what `from` gives, or until buf is full; how many bytes were read. Where a read fails none is kept.
+pub fn read_file<R: Read>(from: &mut R, buf: &mut [u8]) -> io::Result<usize>
+    ensures len_in_bounds { IfOk result (λ n. n ≤ length buf.new) }
+    ensures bytes { IfOk result (λ n. Consumes (R.remaining from.old) (R.remaining from.new) (take n buf.new)) }
+    ensures end { IfOk result (λ n. n < length buf.new → IsAtEnd (R.remaining from.new)) }
 {
     let mut done = 0;
     while done < buf.len() {
         let got = from.read(&mut buf[done..]);
-        match meaning(got) {
-            ReadAnswer::Failed(e) => {
-                return Input {
-                    failed: Some(e),
-                    len: 0,
-                };
-            }
-            ReadAnswer::End => {
-                return Input {
-                    failed: None,
-                    len: done,
-                };
-            }
-            ReadAnswer::More(more) => {
-                done += more;
-            }
+        match meaning(got)? {
+            None => return Ok(done),
+            Some(more) => done += more,
         }
     }
-    Input {
-        failed: None,
-        len: done,
-    }
+    Ok(done)
 }

@@ -5,7 +5,6 @@ use lib.Ieee.{Float}
 use Rattle.poly.specs.declared.Solved.{Solved}
 use Rattle.poly.specs.Short.{short_of}
 use Rattle.poly.proofs.Short.{short_solves}
-use Rattle.inquiry.specs.declared.Started.{Started}
 use Rattle.inquiry.specs.Start.{fresh_by, start_of}
 
 pub short_starts : (coeffs : List Float) (tol : Float) → start_of (short_of coeffs) tol ≡ start_of coeffs tol

@@ -7,39 +7,40 @@ use native.Mathlib.Omega.{arith}
 use borrow.Author.Tests.{ltb-true, leb-true, lt-ltb, le-ltb, le-leb, lt-leb}
 use lib.Dec.{ltb, leb}
 use lib.ListN.{length, drop, get_or}
+use Rattle.std.proofs.Common.{drop_of_length-le}
+use Rattle.facts.specs.Lists.{drop_next}
 use Rattle.facts.specs.Cond.{both_hold, first_holds, second_holds}
 use Rattle.roots.specs.declared.RealRoot.{RealRoot}
-use Rattle.roots.specs.declared.Roots.{Roots}
 use Rattle.roots.specs.Roots.{list_of}
-use Rattle.roots.specs.Listed.{multiplicities, Counted, Fits, blank}
-use Rattle.roots.proofs.Laws.{roots_cons, roots_nil, length_list}
+use Rattle.roots.specs.Listed.{multiplicities, Counted, Fits}
+use Rattle.roots.proofs.Laws.{length_list}
 use Rattle.roots.proofs.Sums.{length_counted}
 use Rattle.touching.specs.Walk.{Held}
 use Rattle.inquiry.specs.declared.Inquiry.{Inquiry}
 use Rattle.inquiry.specs.Inquiry.{counted_in, sizes_fit, sound_of}
 
 -- ---- the loop over the roots
-module _ (s : Roots) (k : ℕ) (fit : Fits s) (n : ℕ) where
-  pub count_none : k < s.len → (get_or s.root k blank).multiplicity ≡ 0 → counted_in n (drop k (list_of s)) ≡ false
+module _ (l : List RealRoot) (d : RealRoot) (k n : ℕ) where
+  pub count_none : k < length l → (get_or l k d).multiplicity ≡ 0 → counted_in n (drop k l) ≡ false
   unfolding counted_in
-  count_none h z = ap (counted_in n) (roots_cons s k fit h) ∙ simp (le-ltb 0 (get_or s.root k blank).multiplicity (omega (arith, z)))
+  count_none h z = ap (counted_in n) (drop_next l k d h) ∙ simp (le-ltb 0 (get_or l k d).multiplicity (omega (arith, z)))
 
-  pub count_over : k < s.len → n < (get_or s.root k blank).multiplicity → counted_in n (drop k (list_of s)) ≡ false
+  pub count_over : k < length l → n < (get_or l k d).multiplicity → counted_in n (drop k l) ≡ false
   unfolding counted_in
   count_over h t =
-      ap (counted_in n) (roots_cons s k fit h)
-      ∙ simp (lt-ltb 0 (get_or s.root k blank).multiplicity (omega (arith, t)), lt-leb (get_or s.root k blank).multiplicity n t)
+      ap (counted_in n) (drop_next l k d h)
+      ∙ simp (lt-ltb 0 (get_or l k d).multiplicity (omega (arith, t)), lt-leb (get_or l k d).multiplicity n t)
 
-  pub count_go : k < s.len → ((get_or s.root k blank).multiplicity ≡ 0 → ⊥) → (get_or s.root k blank).multiplicity ≤ n
-      → counted_in n (drop k (list_of s)) ≡ counted_in (n - (get_or s.root k blank).multiplicity) (drop (k + 1) (list_of s))
+  pub count_go : k < length l → ((get_or l k d).multiplicity ≡ 0 → ⊥) → (get_or l k d).multiplicity ≤ n
+      → counted_in n (drop k l) ≡ counted_in (n - (get_or l k d).multiplicity) (drop (k + 1) l)
   unfolding counted_in
   count_go h p t =
-      ap (counted_in n) (roots_cons s k fit h)
-      ∙ simp (lt-ltb 0 (get_or s.root k blank).multiplicity (omega (arith, p)), le-leb (get_or s.root k blank).multiplicity n t)
+      ap (counted_in n) (drop_next l k d h)
+      ∙ simp (lt-ltb 0 (get_or l k d).multiplicity (omega (arith, p)), le-leb (get_or l k d).multiplicity n t)
 
-  pub count_end : s.len ≤ k → counted_in n (drop k (list_of s)) ≡ true
+  pub count_end : length l ≤ k → counted_in n (drop k l) ≡ true
   unfolding counted_in
-  count_end h = ap (counted_in n) (roots_nil s k fit h)
+  count_end h = ap (counted_in n) (drop_of_length-le l {i = k} h)
 
 -- ---- what the tests say
 counted_is : (n : ℕ) (l : List RealRoot) → counted_in n l ≡ true → Counted l × (multiplicities l ≤ n)
@@ -108,11 +109,10 @@ unfolding sound_of
 sound_by q c e t h = h ∙ rw (sym e, t)
 
 -- a sound inquiry's arrays have the lengths of their types: so they hold their counts, and there is a place for each root and each pair
-pub sound_held : (q : Inquiry) → sound_of q ≡ true → length q.replies.reply ≡ 4 → length q.roots.root ≡ 4 → length q.pairs.pair ≡ 2
-    → Held q.poly.d q.replies q.roots q.pairs
-sound_held q e l m n =
+pub sound_held : (q : Inquiry) → sound_of q ≡ true → length q.roots.root ≡ 4 → length q.pairs.pair ≡ 2 → Held q.roots q.pairs
+sound_held q e m n =
     let s = sound_is q e in
     let fits : Fits q.roots = (m, s.roots) in
     let each : q.roots.len ≤ multiplicities (list_of q.roots) = subst (λ (k : ℕ). k ≤ multiplicities (list_of q.roots))
     (length_list q.roots fits) (length_counted (list_of q.roots) s.counted) in
-    (s.degree, (l, s.replies), fits, (n, s.pairs), omega (arith, each, s.total), s.total)
+    (fits, (n, s.pairs), omega (arith, each, s.total), s.total)

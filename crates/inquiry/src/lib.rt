@@ -5,16 +5,15 @@
 
 ghost use Rattle.std.specs.Prelude.{◌≡◌, ◌≤◌, true};
 ghost use Rattle.roots.specs.Roots.{list_of, pair_list_of};
-ghost use Rattle.roots.specs.Listed.{multiplicities, Fits, Within};
+ghost use Rattle.roots.specs.Listed.{Fits, Within};
 ghost use Rattle.asking.specs.Asking.{asks, walked};
-ghost use Rattle.touching.specs.Touching.{chained, touching};
+ghost use Rattle.touching.specs.Touching.{touching};
 ghost use Rattle.touching.specs.Replies.{replies_of};
 ghost use Rattle.touching.specs.Walk.{left_of, RepliesFit, Held};
 ghost use Rattle.inquiry.specs.Inquiry.{counted_in, sizes_fit, sound_of, over_by, seen_at, unseen, asked_of, seen_of, replied_of};
 ghost use Rattle.inquiry.specs.Start.{fresh_by, start_of, given, shown_after_of};
 
-use touching::chains::{chains, emit};
-use touching::items::pairs;
+use touching::{Replies, Walker};
 
 // What `solve` and `finish` gave, in the scaled variable, the tolerance, and the replies.
 #[derive(Clone, Copy)]
@@ -23,7 +22,7 @@ pub struct Inquiry {
     pub tol: f64,
     pub roots: roots::Roots,
     pub pairs: roots::Pairs,
-    pub replies: touching::Replies,
+    pub replies: Replies,
 }
 
 // An inquiry, and 0; or the number of the refusal, and an inquiry that asks nothing and lists nothing.
@@ -65,11 +64,10 @@ pub struct Replied {
 fn nothing() -> Seen
     ensures { result ≡ unseen }
 {
-    let none = roots::Roots::none();
     let asked = Asked {
         asking: false,
         place: 0.0,
-        list: none,
+        list: roots::Roots::none(),
     };
     Seen { number: 0, asked }
 }
@@ -77,17 +75,16 @@ fn nothing() -> Seen
 fn question(place: f64) -> Seen
     ensures { result ≡ seen_at (asks place) }
 {
-    let none = roots::Roots::none();
     let asked = Asked {
         asking: true,
         place,
-        list: none,
+        list: roots::Roots::none(),
     };
     Seen { number: 0, asked }
 }
 
 // The last reply's number, where a walk ends after `used` of them.
-fn over(replies: touching::Replies, used: usize) -> u32
+fn over(replies: Replies, used: usize) -> u32
     requires { RepliesFit replies }
     ensures { result ≡ over_by (left_of replies used) }
 {
@@ -97,50 +94,18 @@ fn over(replies: touching::Replies, used: usize) -> u32
     0
 }
 
-fn finished(
-    poly: scaled::Scaled,
-    tol: f64,
-    replies: touching::Replies,
-    its: roots::Roots,
-    used: usize,
-) -> Seen
-    requires { (poly.d ≤ 4) × RepliesFit replies × Fits its × (multiplicities (list_of its) ≤ 4) }
-    ensures { result ≡ seen_at (walked (left_of replies used) (chained poly tol (list_of its))) }
-{
-    let w = chains(poly, tol, replies, its, used);
-    if w.asking {
-        return question(w.place);
-    }
-    let out = w.out;
-    let chain = w.chain;
-    let list = emit(poly.e, out, chain);
-    let asked = Asked {
-        asking: false,
-        place: 0.0,
-        list,
-    };
-    let number = over(replies, w.used);
-    Seen { number, asked }
-}
-
 // Each root counts at least once, and together they count at most `most` times.
 fn counted_in(most: usize, roots: roots::Roots) -> bool
     requires { Fits roots }
     ensures { result ≡ counted_in most (list_of roots) }
 {
     let mut left = most;
-    let mut k = 0;
-    while k < roots.len {
-        let r = roots.root[k];
+    for r in &roots.root[..roots.len] {
         let m = r.multiplicity as usize;
-        if m == 0 {
-            return false;
-        }
-        if left < m {
+        if m == 0 || left < m {
             return false;
         }
         left -= m;
-        k += 1;
     }
     true
 }
@@ -148,53 +113,40 @@ fn counted_in(most: usize, roots: roots::Roots) -> bool
 fn sizes_fit(d: usize, replies: usize, roots: usize, pairs: usize) -> bool
     ensures { (result ≡ sizes_fit d replies roots pairs) × (result ≡ true → (roots ≤ 4) × (pairs ≤ 2)) }
 {
-    if d > 4 {
-        return false;
-    }
-    if replies > 4 {
-        return false;
-    }
-    if roots > 4 {
-        return false;
-    }
-    pairs <= 2
+    d <= 4 && replies <= 4 && roots <= 4 && pairs <= 2
 }
 
 // The question, or the finished list, and whether every reply was needed.
-fn walk_all(
-    poly: scaled::Scaled,
-    tol: f64,
-    replies: touching::Replies,
-    items: roots::Roots,
-    ps: roots::Pairs,
-) -> Seen
-    requires { Held poly.d replies items ps }
-    ensures { result ≡ seen_at (walked (replies_of replies) (touching poly tol (list_of items) (pair_list_of ps))) }
+fn walk_all(walker: &Walker, roots: roots::Roots, pairs: roots::Pairs) -> Seen
+    requires { Held roots pairs }
+    ensures { result ≡ seen_at (walked (replies_of walker.now.replies)
+        (touching walker.now.poly walker.now.tol (list_of roots) (pair_list_of pairs))) }
 {
-    let w = pairs(poly, tol, replies, items, ps);
-    if w.asking {
-        return question(w.place);
+    match walker.touching(roots, pairs) {
+        Err(q) => question(q.place),
+        Ok(w) => {
+            let asked = Asked {
+                asking: false,
+                place: 0.0,
+                list: w.items,
+            };
+            Seen {
+                number: over(walker.replies, w.used),
+                asked,
+            }
+        }
     }
-    let found = w.items;
-    if ps.len == 0 {
-        return finished(poly, tol, replies, found, w.used);
-    }
-    let its = finish::ordered(found);
-    finished(poly, tol, replies, its, w.used)
 }
 
 // What was solved, with these replies.
-fn begun(s: poly::Solved, replies: touching::Replies) -> Inquiry
+fn begun(s: poly::Solved, replies: Replies) -> Inquiry
     ensures { result ≡ given (fresh_by s) replies }
 {
-    let poly = s.poly;
-    let roots = s.roots;
-    let pairs = s.pairs;
     Inquiry {
-        poly,
+        poly: s.poly,
         tol: s.tol,
-        roots,
-        pairs,
+        roots: s.roots,
+        pairs: s.pairs,
         replies,
     }
 }
@@ -205,16 +157,18 @@ pub fn start(coeffs: &[f64], tol: f64) -> Started
 {
     let s = poly::solve(coeffs, tol);
     let number = s.number;
-    let replies = touching::Replies {
-        reply: [false; 4],
-        count: 0,
-    };
-    let inquiry = begun(s, replies);
+    let inquiry = begun(
+        s,
+        Replies {
+            reply: [false; 4],
+            count: 0,
+        },
+    );
     Started { number, inquiry }
 }
 
 // What is shown of what was solved, with these replies: for those who reply by a function of the place.
-pub fn asked_with(s: poly::Solved, replies: touching::Replies) -> Asked
+pub fn asked_with(s: poly::Solved, replies: Replies) -> Asked
     ensures { result ≡ asked_of (given (fresh_by s) replies) }
 {
     let about = begun(s, replies);
@@ -222,7 +176,7 @@ pub fn asked_with(s: poly::Solved, replies: touching::Replies) -> Asked
 }
 
 // What `start` and `see` show with these replies put in at once. The inquiry is not handed out, so a level list is solved without logarithms.
-pub fn shown_after(coeffs: &[f64], tol: f64, replies: touching::Replies) -> ShownAfter
+pub fn shown_after(coeffs: &[f64], tol: f64, replies: Replies) -> ShownAfter
     ensures { result ≡ shown_after_of coeffs.now tol replies }
 {
     let s = poly::solve_brief(coeffs, tol);
@@ -237,14 +191,12 @@ impl Inquiry {
     pub fn is_sound(self) -> bool
         ensures { result ≡ sound_of self }
     {
-        let poly = self.poly;
-        let replies = self.replies;
-        let roots = self.roots;
-        let pairs = self.pairs;
-        if sizes_fit(poly.d, replies.count, roots.len, pairs.len) {
-            return counted_in(4 - 2 * pairs.len, roots);
-        }
-        false
+        sizes_fit(
+            self.poly.d,
+            self.replies.count,
+            self.roots.len,
+            self.pairs.len,
+        ) && counted_in(4 - 2 * self.pairs.len, self.roots)
     }
 
     // The question, or the finished list; neither for a value that is not sound.
@@ -252,8 +204,7 @@ impl Inquiry {
     pub fn ask(self) -> Asked
         ensures { (result ≡ asked_of self) × Within 4 (list_of result.list) }
     {
-        let s = self.see();
-        s.asked
+        self.see().asked
     }
 
     // The same, and whether every reply was needed, for replies that were put in at once.
@@ -261,11 +212,12 @@ impl Inquiry {
         ensures { result ≡ seen_of self }
     {
         if self.is_sound() {
-            let poly = self.poly;
-            let replies = self.replies;
-            let items = self.roots;
-            let ps = self.pairs;
-            return walk_all(poly, self.tol, replies, items, ps);
+            let walker = Walker {
+                poly: self.poly,
+                tol: self.tol,
+                replies: self.replies,
+            };
+            return walk_all(&walker, self.roots, self.pairs);
         }
         nothing()
     }
@@ -276,10 +228,8 @@ impl Inquiry {
     {
         let a = self.ask();
         if a.asking {
-            let replies = self.replies;
-            let more = replies.with(yes);
             let mut inquiry = self;
-            inquiry.replies = more;
+            inquiry.replies = self.replies.with(yes);
             return Replied { number: 0, inquiry };
         }
         Replied {

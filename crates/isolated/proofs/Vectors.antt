@@ -4,7 +4,7 @@ use Prim.Native.Nat.{ℕ}
 use Rattle.float.specs.Methods.{powi_of}
 use Rattle.cubic.proofs.Vectors.{bits}
 use Rattle.quartic.proofs.Vectors.{computes as quartics}
-use Rattle.isolated.specs.declared.LoneRoot.TheVariants.{At, None}
+use Rattle.std.specs.Prelude.{Some, None}
 use Rattle.isolated.specs.Isolated.{far_root_of, root_pair_of, is_better_of, judged_of, best_root_of, isolated_root_of, peel_root_of}
 
 -- what has to unfold for the definitions to compute: a fact says `unfolding computes`
@@ -17,7 +17,7 @@ isolated : isolated_root_of (record {
   be = bits 0x3ff0_0000_0000_0000;
   ga = bits 0x0000_0000_0000_0000;
   de = bits 0xbff0_0000_0000_0000;
-}) ≡ At (bits 0xbff0_0000_0000_0000)
+}) ≡ Some (bits 0xbff0_0000_0000_0000)
 unfolding computes
 isolated = refl
 
@@ -35,7 +35,7 @@ isolated_first_of_equals : isolated_root_of (record {
   be = bits 0xfff0_0000_0000_0000;
   ga = bits 0xbff0_0000_0000_0000;
   de = bits 0xfff0_0000_0000_0000;
-}) ≡ At (bits 0xfff0_0000_0000_0000)
+}) ≡ Some (bits 0xfff0_0000_0000_0000)
 unfolding computes
 isolated_first_of_equals = refl
 

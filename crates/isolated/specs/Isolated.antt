@@ -1,7 +1,7 @@
 -- `isolated_root`: a real root of two quadratics that is far from the other three while those lie close together, a near-triple root that no pairing in
 -- quadratics resolves. `peel_root`: the monic quartic y^4 + b*y^3 + c*y^2 + d*y + e as (y - r) * (y^3 + h2*y^2 + h1*y + h0), from such a root.
 -- Definitions only.
-use Rattle.std.specs.Prelude.{Bool, true, cond, ◌&&◌, List, [], ◌∷◌, ℕ, ◌+◌, ◌-◌, eqb, ltb, get_or, Float}
+use Rattle.std.specs.Prelude.{Bool, true, cond, ◌&&◌, List, [], ◌∷◌, ℕ, ◌+◌, ◌-◌, eqb, ltb, get_or, fold, Float, Option, Some, None}
 use Rattle.std.specs.Float.{nan}
 use Rattle.std.specs.Float.Ieee.{neg, lt, le, ne}
 use Rattle.facts.specs.Count.{count_up}
@@ -13,11 +13,8 @@ use Rattle.horner.specs.Product.{discriminant_of}
 use Rattle.refine.specs.Refine.{refine_of}
 use Rattle.refine.specs.Systems.{peel_system}
 use Rattle.quartic.specs.declared.QuarticFactor.{QuarticFactor}
-use Rattle.isolated.specs.declared.RootPair.{RootPair}
+use Rattle.isolated.specs.declared.Complex.{Complex}
 use Rattle.isolated.specs.declared.Best.{Best}
-use Rattle.isolated.specs.declared.Best.TheVariants.{Root, NoRoot}
-use Rattle.isolated.specs.declared.LoneRoot.{LoneRoot}
-use Rattle.isolated.specs.declared.LoneRoot.TheVariants.{At, None}
 use Rattle.isolated.specs.declared.Disc.{Disc}
 use Rattle.isolated.specs.declared.Pairing.{Pairing}
 use Rattle.isolated.specs.declared.Peeled.{Peeled}
@@ -35,9 +32,12 @@ disc_of al be = let disc = discriminant_of al be in record { disc = disc; root =
 unfoldable pub far_by : Float → Float → Float
 far_by al root = neg half64 *ᶠ (al +ᶠ copysign_of root al)
 
+abbrev pub complex : Float → Float → Complex
+complex re im = record { re = re; im = im }
+
 -- The roots of y^2 + al*y + be as (re, im). Real ones, a double one too, `if disc >= 0.0`: q, and the other from their product be.
 -- Else conjugate ones, also where disc is a NaN: their im is a NaN then, so neither counts as real.
-unfoldable pub root_pair_of : Float → Float → RootPair
+unfoldable pub root_pair_of : Float → Float → List Complex
 root_pair_of al be =
     -- let disc = discriminant(al, be);
     let disc = discriminant_of al be in
@@ -48,7 +48,7 @@ root_pair_of al be =
     let half = half64 *ᶠ sqrt_of (neg disc) in
     -- z[2 * k] = (-0.5 * al, half);
     let re = neg half64 *ᶠ al in
-    cond (le zero64 disc) (record { re0 = q; im0 = zero64; re1 = other; im1 = zero64 }) (record { re0 = re; im0 = half; re1 = re; im1 = neg half })
+    cond (le zero64 disc) (complex q zero64 ∷ complex other zero64 ∷ []) (complex re half ∷ complex re (neg half) ∷ [])
 
 -- `let dist = |a: (f64, f64), b: (f64, f64)| (a.0 - b.0).powi(2) + (a.1 - b.1).powi(2);`: the squared distance; it is only compared
 abbrev pub dist_of : Float → Float → Float → Float → Float
@@ -72,42 +72,45 @@ spread_of re im i =
     count_up 4 (λ j spread. cond (eqb j i) spread (count_up 4 (λ k most. cond (eqb k i) most (max_of most (d2_of re im j k))) (4 - (j + 1)) spread)) 4 zero64
 
 -- both, from the distances of root i to the others, and from theirs: for the functions' contracts
-abbrev pub least_of : Float → Float → Float → Float
-least_of a b c = min_of (min_of (min_of inf64 a) b) c
+abbrev pub least_of : List Float → Float
+least_of near = fold min_of inf64 near
 
-abbrev pub greatest_of : Float → Float → Float → Float
-greatest_of a b c = max_of (max_of (max_of zero64 a) b) c
+abbrev pub greatest_of : List Float → Float
+greatest_of apart = fold max_of zero64 apart
 
 -- `best.is_none_or(|(b, _)| iso > b)`. So the first of equals stays.
-abbrev pub beats : Float → Best → Bool
-beats iso (Root b r) = lt b iso
-beats iso NoRoot = true
+abbrev pub beats : Float → Option Best → Bool
+beats iso (Some b) = lt b.far iso
+beats iso None = true
 
 -- `if 16.0 * spread < iso && best.is_none_or(|(b, _)| iso > b)`: a spread under a quarter of the distance, 16 in squares, and that
-unfoldable pub is_better_of : Best → Float → Float → Bool
+unfoldable pub is_better_of : Option Best → Float → Float → Bool
 is_better_of best iso spread = lt (sixteen64 *ᶠ spread) iso && beats iso best
 
 -- `best = Some((iso, z[i].0));`, which only a real root may be: `if z[i].1 != 0.0 { continue; }`
-unfoldable pub judged_of : Best → Float → Float → Float → Float → Best
-judged_of best re im iso spread = cond (ne im zero64) best (cond (is_better_of best iso spread) (Root iso re) best)
+unfoldable pub judged_of : Option Best → Float → Float → Float → Float → Option Best
+judged_of best re im iso spread = cond (ne im zero64) best (cond (is_better_of best iso spread) (Some (record { far = iso; root = re })) best)
+
+abbrev pub root_at : List Complex → ℕ → Complex
+root_at z i = get_or z i (complex nan nan)
 
 -- `let mut best: Option<(f64, f64)> = None;`, then `for i in 0..4`
-unfoldable pub best_root_of : QuarticFactor → Best
+unfoldable pub best_root_of : QuarticFactor → Option Best
 best_root_of quads =
     -- for (k, &(al, be)) in quads.iter().enumerate() { .. }
     let first = root_pair_of quads.al quads.be in
     let second = root_pair_of quads.ga quads.de in
-    let re = first.re0 ∷ first.re1 ∷ second.re0 ∷ second.re1 ∷ [] in
-    let im = first.im0 ∷ first.im1 ∷ second.im0 ∷ second.im1 ∷ [] in
-    count_up 4 (λ i best. judged_of best (get_or re i nan) (get_or im i nan) (iso_of re im i) (spread_of re im i)) 4 NoRoot
+    let re = (root_at first 0).re ∷ (root_at first 1).re ∷ (root_at second 0).re ∷ (root_at second 1).re ∷ [] in
+    let im = (root_at first 0).im ∷ (root_at first 1).im ∷ (root_at second 0).im ∷ (root_at second 1).im ∷ [] in
+    count_up 4 (λ i best. judged_of best (get_or re i nan) (get_or im i nan) (iso_of re im i) (spread_of re im i)) 4 None
 
 -- `best.map(|(_, r)| r)`
-abbrev pub lone_of : Best → LoneRoot
-lone_of (Root far r) = At r
-lone_of NoRoot = None
+abbrev pub lone_of : Option Best → Option Float
+lone_of (Some b) = Some b.root
+lone_of None = None
 
 -- `isolated_root`
-unfoldable pub isolated_root_of : QuarticFactor → LoneRoot
+unfoldable pub isolated_root_of : QuarticFactor → Option Float
 isolated_root_of quads = lone_of (best_root_of quads)
 
 -- the same, and the discriminants of the two quadratics

@@ -4,29 +4,20 @@
 
 ghost use Rattle.std.specs.Prelude.{◌≡◌};
 ghost use Rattle.isolated.specs.Isolated.{disc_of, far_by, far_root_of, root_pair_of, dist_of, least_of, greatest_of, is_better_of, judged_of};
-ghost use Rattle.isolated.specs.Isolated.{best_root_of, lone_of, isolated_of, isolated_root_of, peel_root_of};
+ghost use Rattle.isolated.specs.Isolated.{best_root_of, isolated_of, isolated_root_of, peel_root_of};
 
-// Two roots as (re, im).
+// A root as (re, im).
 #[derive(Clone, Copy)]
-struct RootPair {
-    re0: f64,
-    im0: f64,
-    re1: f64,
-    im1: f64,
+struct Complex {
+    re: f64,
+    im: f64,
 }
 
-// The best root so far, the Rust's Option: the squared distance of the nearest other, and the root.
+// The best root so far, and the squared distance of the nearest other.
 #[derive(Clone, Copy)]
-enum Best {
-    Root(f64, f64),
-    NoRoot,
-}
-
-// The Rust's Option.
-#[derive(Clone, Copy)]
-pub enum LoneRoot {
-    At(f64),
-    None,
+struct Best {
+    far: f64,
+    root: f64,
 }
 
 // A discriminant, and the square root of its size.
@@ -37,6 +28,7 @@ pub struct Disc {
 }
 
 // Of y^2 + al*y + be.
+#[tactic(auto, unfolding(crate::specs::Isolated::disc_of))]
 pub fn disc_of(al: f64, be: f64) -> Disc
     ensures { result ≡ disc_of al be }
 {
@@ -48,125 +40,103 @@ pub fn disc_of(al: f64, be: f64) -> Disc
 }
 
 // Cancellation-free: of the two real roots of y^2 + al*y + be the one of larger size, q = -(al + sign(al)*sqrt(disc))/2. The other is be / q.
+#[tactic(auto, unfolding(crate::specs::Isolated::far_by))]
 pub fn far_by(al: f64, root: f64) -> f64
     ensures { result ≡ far_by al root }
 {
     -0.5 * (al + float::copysign(root, al))
 }
 
+#[tactic(auto, unfolding(crate::specs::Isolated::far_root_of, crate::specs::Isolated::far_by))]
 pub fn far_root(al: f64, disc: f64) -> f64
     ensures { result ≡ far_root_of al disc }
 {
     far_by(al, sqrt::sqrt(disc))
 }
 
-fn root_pair(al: f64, be: f64, s: Disc) -> RootPair
+fn root_pair(al: f64, be: f64, s: Disc) -> [Complex; 2]
     requires { s ≡ disc_of al be }
     ensures { result ≡ root_pair_of al be }
 {
     if s.disc >= 0.0 {
         let q = far_by(al, s.root);
-        return RootPair {
-            re0: q,
-            im0: 0.0,
-            re1: cubic::over_or(be, q, 0.0),
-            im1: 0.0,
-        };
+        let other = cubic::over_or(be, q, 0.0);
+        return [Complex { re: q, im: 0.0 }, Complex { re: other, im: 0.0 }];
     }
     let half = 0.5 * s.root;
     let re = -0.5 * al;
-    RootPair {
-        re0: re,
-        im0: half,
-        re1: re,
-        im1: -half,
-    }
+    [Complex { re, im: half }, Complex { re, im: -half }]
 }
 
-fn dist(re: f64, im: f64, re1: f64, im1: f64) -> f64
-    ensures { result ≡ dist_of re im re1 im1 }
+#[tactic(auto, unfolding(float::specs::Methods::powi_of))]
+fn dist(x: Complex, y: Complex) -> f64
+    ensures { result ≡ dist_of x.re x.im y.re y.im }
 {
-    let a = re - re1;
-    let b = im - im1;
+    let a = x.re - y.re;
+    let b = x.im - y.im;
     a * a + b * b
 }
 
-fn least(a: f64, b: f64, c: f64) -> f64
-    ensures { result ≡ least_of a b c }
+fn least(near: [f64; 3]) -> f64
+    ensures { result ≡ least_of near }
 {
-    let m = float::min(float::min(float::infinity(), a), b);
-    float::min(m, c)
+    near.into_iter().fold(float::infinity(), float::min)
 }
 
-fn greatest(a: f64, b: f64, c: f64) -> f64
-    ensures { result ≡ greatest_of a b c }
+fn greatest(apart: [f64; 3]) -> f64
+    ensures { result ≡ greatest_of apart }
 {
-    let m = float::max(float::max(0.0, a), b);
-    float::max(m, c)
+    apart.into_iter().fold(0.0, float::max)
 }
 
-fn is_better(best: Best, iso: f64, spread: f64) -> bool
+#[tactic(auto, unfolding(crate::specs::Isolated::is_better_of))]
+fn is_better(best: Option<Best>, iso: f64, spread: f64) -> bool
     ensures { result ≡ is_better_of best iso spread }
 {
-    if 16.0 * spread < iso {
-        match best {
-            Best::Root(far, _) => {
-                return iso > far;
-            }
-            Best::NoRoot => {
-                return true;
-            }
-        }
-    }
-    false
+    16.0 * spread < iso && best.is_none_or(|b| iso > b.far)
 }
 
-// The root (re, im) at the distances a, b and c from the others, which are ab, ac and bc apart.
-fn judge(best: Best, re: f64, im: f64, a: f64, b: f64, c: f64, ab: f64, ac: f64, bc: f64) -> Best
-    ensures { result ≡ judged_of best re im (least_of a b c) (greatest_of ab ac bc) }
+// The root z at these distances from the three others, which are `apart` from one another.
+#[tactic(auto, unfolding(crate::specs::Isolated::judged_of))]
+fn judge(best: Option<Best>, z: Complex, near: [f64; 3], apart: [f64; 3]) -> Option<Best>
+    ensures { result ≡ judged_of best z.re z.im (least_of near) (greatest_of apart) }
 {
-    if im != 0.0 {
+    if z.im != 0.0 {
         return best;
     }
-    let iso = least(a, b, c);
-    let spread = greatest(ab, ac, bc);
-    if is_better(best, iso, spread) {
-        return Best::Root(iso, re);
+    let iso = least(near);
+    if is_better(best, iso, greatest(apart)) {
+        return Some(Best {
+            far: iso,
+            root: z.re,
+        });
     }
     best
 }
 
-fn best_root(quads: quartic::QuarticFactor, first: Disc, second: Disc) -> Best
+// The four roots are written out: which of the six distances are a root's own differs at each, and tables of them would be longer.
+fn best_root(quads: quartic::QuarticFactor, first: Disc, second: Disc) -> Option<Best>
     requires { (first ≡ disc_of quads.al quads.be) × (second ≡ disc_of quads.ga quads.de) }
     ensures { result ≡ best_root_of quads }
 {
-    let z = root_pair(quads.al, quads.be, first);
-    let y = root_pair(quads.ga, quads.de, second);
-    let d01 = dist(z.re0, z.im0, z.re1, z.im1);
-    let d02 = dist(z.re0, z.im0, y.re0, y.im0);
-    let d03 = dist(z.re0, z.im0, y.re1, y.im1);
-    let d12 = dist(z.re1, z.im1, y.re0, y.im0);
-    let d13 = dist(z.re1, z.im1, y.re1, y.im1);
-    let d23 = dist(y.re0, y.im0, y.re1, y.im1);
-    let b0 = judge(Best::NoRoot, z.re0, z.im0, d01, d02, d03, d12, d13, d23);
-    let b1 = judge(b0, z.re1, z.im1, d01, d12, d13, d02, d03, d23);
-    let b2 = judge(b1, y.re0, y.im0, d02, d12, d23, d01, d03, d13);
-    judge(b2, y.re1, y.im1, d03, d13, d23, d01, d02, d12)
-}
-
-fn lone(best: Best) -> LoneRoot
-    ensures { result ≡ lone_of best }
-{
-    match best {
-        Best::Root(_, r) => LoneRoot::At(r),
-        Best::NoRoot => LoneRoot::None,
-    }
+    let [z0, z1] = root_pair(quads.al, quads.be, first);
+    let [z2, z3] = root_pair(quads.ga, quads.de, second);
+    let d01 = dist(z0, z1);
+    let d02 = dist(z0, z2);
+    let d03 = dist(z0, z3);
+    let d12 = dist(z1, z2);
+    let d13 = dist(z1, z3);
+    let d23 = dist(z2, z3);
+    let b0 = judge(None, z0, [d01, d02, d03], [d12, d13, d23]);
+    let b1 = judge(b0, z1, [d01, d12, d13], [d02, d03, d23]);
+    let b2 = judge(b1, z2, [d02, d12, d23], [d01, d03, d13]);
+    judge(b2, z3, [d03, d13, d23], [d01, d02, d12])
 }
 
 // Of two quadratics: an isolated root, if there is one, and their discriminants.
 #[derive(Clone, Copy)]
 pub struct Pairing {
-    pub far: LoneRoot,
+    pub far: Option<f64>,
     pub first: Disc,
     pub second: Disc,
 }
@@ -176,15 +146,15 @@ pub fn isolated(quads: quartic::QuarticFactor) -> Pairing
 {
     let first = disc_of(quads.al, quads.be);
     let second = disc_of(quads.ga, quads.de);
-    let far = lone(best_root(quads, first, second));
+    let far = best_root(quads, first, second).map(|b| b.root);
     Pairing { far, first, second }
 }
 
-pub fn isolated_root(quads: quartic::QuarticFactor) -> LoneRoot
+#[tactic(auto, unfolding(crate::specs::Isolated::isolated_of))]
+pub fn isolated_root(quads: quartic::QuarticFactor) -> Option<f64>
     ensures { result ≡ isolated_root_of quads }
 {
-    let s = isolated(quads);
-    s.far
+    isolated(quads).far
 }
 
 // (y - r) * (y^3 + h2*y^2 + h1*y + h0)
@@ -196,17 +166,13 @@ pub struct Peeled {
     pub h0: f64,
 }
 
+#[tactic(auto, unfolding(crate::specs::Isolated::peel_root_of))]
 pub fn peel_root(b: f64, c: f64, d: f64, e: f64, r: f64) -> Peeled
     ensures { result ≡ peel_root_of b c d e r }
 {
     let h2 = b + r;
     let h1 = c + r * h2;
     let h0 = d + r * h1;
-    let x = refine::refine_peel(b, c, d, e, [r, h2, h1, h0]);
-    Peeled {
-        r: x[0],
-        h2: x[1],
-        h1: x[2],
-        h0: x[3],
-    }
+    let [r, h2, h1, h0] = refine::refine_peel(b, c, d, e, [r, h2, h1, h0]);
+    Peeled { r, h2, h1, h0 }
 }

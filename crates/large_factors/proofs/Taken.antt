@@ -1,8 +1,8 @@
 -- The large factors, taken from the units in the order of their sizes: each is taken, or ends the search.
-use mathlib.Core.Path.{◌≡◌, refl, sym, ap, ◌∙◌}
+use mathlib.Core.Path.{◌≡◌, sym, ap, ◌∙◌}
 use mathlib.Core.Bool.{Bool, true, false}
-use mathlib.Core.List.{List, [], ◌∷◌, map}
-use Prim.Native.Nat.{ℕ, zero, suc, ◌+◌, ◌≤◌, ◌<◌}
+use mathlib.Core.List.{List, ◌∷◌, map}
+use Prim.Native.Nat.{ℕ, ◌+◌, ◌≤◌, ◌<◌}
 use native.Mathlib.Nat.{min-le_left}
 use native.Mathlib.Omega.{arith}
 use lib.ListN.{length, get_or, take, drop, length-map, length-take, drop_of_length-le}
@@ -22,15 +22,9 @@ use Rattle.large_factors.proofs.Added.{added_list, added_room, units_degrees, un
 abbrev pub unit_at : List Unit → ℕ → Unit
 unit_at at i = get_or at i (unit_of nan nan nan)
 
-abbrev sizes_of : List Unit → List Float
-sizes_of at = (unit_at at 0).m ∷ (unit_at at 1).m ∷ (unit_at at 2).m ∷ (unit_at at 3).m ∷ []
-
-size_is : (at : List Unit) (i : ℕ) → i < 4 → get_or (sizes_of at) i nan ≡ (unit_at at i).m
-size_is at zero h = refl
-size_is at (suc zero) h = refl
-size_is at (suc (suc zero)) h = refl
-size_is at (suc (suc (suc zero))) h = refl
-size_is at (suc (suc (suc (suc i)))) h = absurd (omega (arith, h))
+-- what the array of the units' sizes gives at each place
+abbrev pub SizesOf : List Float → List Unit → Type 0
+SizesOf sizes at = (i : ℕ) → i < 4 → get_or sizes i nan ≡ (unit_at at i).m
 
 module _ (f : Factors) (D : degree_of f ≤ 4) (u : Units) (E : u ≡ all_added no_units (factor_units_of f)) where
   pub units_fit : u.n ≤ 4
@@ -40,18 +34,20 @@ module _ (f : Factors) (D : degree_of f ≤ 4) (u : Units) (E : u ≡ all_added 
   listed = ap (λ (x : Units). take x.n x.at) E ∙ added_list no_units (factor_units_of f) (omega (arith, units_count f))
 
   -- the units by falling size
-  sorted : length u.at ≡ 4 → in_order u.at (falling_of (sizes_of u.at) u.n) u.n ≡ sorted_by no_smaller (factor_units_of f)
+  sorted : (sizes : List Float) → SizesOf sizes u.at → length u.at ≡ 4
+      → in_order u.at (falling_of sizes u.n) u.n ≡ sorted_by no_smaller (factor_units_of f)
   unfolding in_order falling_of
-  sorted L =
-      read_sorted (λ a b. total_le_of b a) (λ (x : Unit). x.m) (sizes_of u.at) u.at (unit_of nan nan nan) u.n
-      (omega (arith, L, units_fit)) (λ i h. size_is u.at i (omega (arith, units_fit)))
+  sorted sizes S L =
+      read_sorted (λ a b. total_le_of b a) (λ (x : Unit). x.m) sizes u.at (unit_of nan nan nan) u.n
+      (omega (arith, L, units_fit)) (λ i h. S i (omega (arith, units_fit)))
       ∙ ap (sorted_by no_smaller) listed
 
-  pub large_is : (order : List ℕ) (want : ℕ) (threshold : Float) (r : Factors) → length u.at ≡ 4 → order ≡ falling_of (sizes_of u.at) u.n
+  pub large_is : (sizes : List Float) → SizesOf sizes u.at → (order : List ℕ) (want : ℕ) (threshold : Float) (r : Factors) → length u.at ≡ 4
+      → order ≡ falling_of sizes u.n
       → r ≡ large_from want (mul binary64 threshold epsilon64) no_factors (in_order u.at order u.n) → r ≡ large_of f want threshold
   unfolding large_of
-  large_is order want threshold r L O R =
-      R ∙ ap (large_from want (mul binary64 threshold epsilon64) no_factors) (ap (λ (l : List ℕ). in_order u.at l u.n) O ∙ sorted L)
+  large_is sizes S order want threshold r L O R =
+      R ∙ ap (large_from want (mul binary64 threshold epsilon64) no_factors) (ap (λ (l : List ℕ). in_order u.at l u.n) O ∙ sorted sizes S L)
 
 -- ---- the search, from no factors on
 pub take_none : (want : ℕ) (least : Float) (l : List Unit) (large : Factors) → large ≡ no_factors

@@ -3,18 +3,15 @@
 #![tactic(auto)]
 
 ghost use Rattle.std.specs.Prelude.{◌≡◌, ◌+◌, ◌≤◌, ◌<◌};
-ghost use Rattle.std.specs.Float.{nan};
 ghost use Rattle.order.specs.Order.{Places};
-ghost use Rattle.factors.specs.Factors.{quad_of, no_factors, degree_of};
-ghost use Rattle.large_factors.specs.Large.{unit_of, real_unit, quad_units_of, factor_units_of, ends_of, with_unit};
+ghost use Rattle.factors.specs.Factors.{no_factors, degree_of};
+ghost use Rattle.large_factors.specs.Large.{real_unit, quad_units_of, factor_units_of, ends_of, with_unit};
 ghost use Rattle.large_factors.specs.Large.{large_from, large_of, no_units, added_of, all_added, in_order};
 
-use factors::Factors;
+use factors::{Factors, Quad};
 
-// f64::EPSILON, 2^-52
-const EPSILON: f64 = 2.220446049250313e-16;
-
-// A root al of the size m, where be is NaN, or a quadratic factor whose roots have the size m.
+// A root al of the size m, where be is NaN, or a quadratic factor whose roots have the size m: a number for the kind, as in the Rust, whose test also takes a
+// quadratic factor with be NaN for a root.
 #[derive(Clone, Copy)]
 pub struct Unit {
     pub m: f64,
@@ -22,47 +19,50 @@ pub struct Unit {
     pub be: f64,
 }
 
+// The first n of `at`: fixed memory, as in the Rust.
 #[derive(Clone, Copy)]
 pub struct Units {
     pub at: [Unit; 4],
     pub n: usize,
 }
 
-fn not_a_number() -> f64
-    ensures { result ≡ nan }
-{
-    0.0 / 0.0
-}
-
-fn add_unit(u: Units, m: f64, al: f64, be: f64) -> Units
-    requires { u.n < 4 }
-    ensures { result ≡ added_of u (unit_of m al be) }
-{
-    let at = u.n;
-    let mut out = u;
-    out.at[at] = Unit { m, al, be };
-    out.n = at + 1;
-    out
-}
-
-fn add_real(u: Units, r: f64) -> Units
-    requires { u.n < 4 }
-    ensures { result ≡ added_of u (real_unit r) }
-{
-    add_unit(u, float::abs(r), r, not_a_number())
-}
-
-fn add_quad(u: Units, al: f64, be: f64) -> Units
-    requires { u.n + 2 ≤ 4 }
-    ensures { result ≡ all_added u (quad_units_of (quad_of al be)) }
-{
-    let disc = horner::discriminant(al, be);
-    if disc > 0.0 {
-        let q = isolated::far_root(al, disc);
-        let v = add_real(u, q);
-        return add_real(v, be / q);
+impl Units {
+    fn with(mut self, x: Unit) -> Units
+        requires { self.n < 4 }
+        ensures { result ≡ added_of self x }
+    {
+        self.at[self.n] = x;
+        self.n += 1;
+        self
     }
-    add_unit(u, sqrt::sqrt(float::abs(be)), al, be)
+
+    fn with_real(self, r: f64) -> Units
+        requires { self.n < 4 }
+        ensures { result ≡ added_of self (real_unit r) }
+    {
+        self.with(Unit {
+            m: float::abs(r),
+            al: r,
+            be: f64::NAN,
+        })
+    }
+
+    fn with_quad(self, f: Quad) -> Units
+        requires { self.n + 2 ≤ 4 }
+        ensures { result ≡ all_added self (quad_units_of f) }
+    {
+        let Quad { al, be } = f;
+        let disc = horner::discriminant(al, be);
+        if disc > 0.0 {
+            let q = isolated::far_root(al, disc);
+            return self.with_real(q).with_real(be / q);
+        }
+        self.with(Unit {
+            m: sqrt::sqrt(float::abs(be)),
+            al,
+            be,
+        })
+    }
 }
 
 fn units_of(f: Factors) -> Units
@@ -78,56 +78,46 @@ fn units_of(f: Factors) -> Units
         at: [none; 4],
         n: 0,
     };
-    let mut i = 0;
-    while i < f.nlin {
-        u = add_real(u, f.lin[i]);
-        i += 1;
+    for r in &f.lin[..f.nlin] {
+        u = u.with_real(*r);
     }
-    let mut k = 0;
-    while k < f.nquad {
-        let q = f.quad[k];
-        u = add_quad(u, q.al, q.be);
-        k += 1;
+    for q in &f.quad[..f.nquad] {
+        u = u.with_quad(*q);
     }
     u
 }
 
+#[tactic(auto, unfolding(crate::specs::Large::ends_of))]
 fn ends(x: Unit, degree: usize, want: usize, least: f64) -> bool
     ensures { result ≡ ends_of x degree want least }
 {
-    if degree >= want {
-        return true;
-    }
-    if x.m < least {
-        return true;
-    }
-    float::is_nan(x.m)
+    degree >= want || x.m < least || float::is_nan(x.m)
 }
 
+#[tactic(auto, unfolding(crate::specs::Large::with_unit))]
 fn with_unit(large: Factors, x: Unit) -> Factors
     ensures { result ≡ with_unit large x }
 {
     if float::is_nan(x.be) {
-        return large.push_lin(x.al);
+        large.push_lin(x.al)
+    } else {
+        large.push_quad(x.al, x.be)
     }
-    large.push_quad(x.al, x.be)
 }
 
 // The units in this order, down to the one that ends the search.
-fn take_large(at: [Unit; 4], order: [usize; 4], n: usize, want: usize, least: f64) -> Factors
-    requires n_high { n ≤ 4 }
+fn take_large(u: Units, order: [usize; 4], want: usize, least: f64) -> Factors
+    requires n_high { u.n ≤ 4 }
     requires places { Places order }
-    ensures { result ≡ large_from want least no_factors (in_order at order n) }
+    ensures { result ≡ large_from want least no_factors (in_order u.at order u.n) }
 {
     let mut out = Factors::default();
-    let mut i = 0;
-    while i < n {
-        let x = at[order[i]];
+    for i in &order[..u.n] {
+        let x = u.at[*i];
         if ends(x, out.degree(), want, least) {
             return out;
         }
         out = with_unit(out, x);
-        i += 1;
     }
     out
 }
@@ -138,7 +128,6 @@ pub fn large(f: Factors, want: usize, threshold: f64) -> Factors
     ensures { result ≡ large_of f want threshold }
 {
     let u = units_of(f);
-    let at = u.at;
-    let order = order::falling([at[0].m, at[1].m, at[2].m, at[3].m], u.n);
-    take_large(at, order, u.n, want, threshold * EPSILON)
+    let order = order::falling(u.at.map(|x| x.m), u.n);
+    take_large(u, order, want, threshold * f64::EPSILON)
 }

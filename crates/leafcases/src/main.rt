@@ -31,11 +31,7 @@ fn main(rt: HostRuntime) -> io::Result<()> {
     };
     let mut from = File::open(&rt, name.as_str())?;
     let mut questions = input_buffer();
-    let read = input::read_file(&mut from, &mut questions);
-    if let Some(e) = read.failed {
-        return Err(e);
-    }
-    let n = read.len;
+    let n = input::read_file(&mut from, &mut questions)?;
     let mut out = output_buffer();
     let end = lines::put_lines(&mut out, &questions[..n]);
     Write::write_all(&mut rt.stdout(), &out[..end])

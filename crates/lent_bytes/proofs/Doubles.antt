@@ -8,6 +8,7 @@ use lib.ListN.{length, take, set, replicate}
 use lib.Seq.{take_at}
 use lib.Ieee.{Float}
 use Rattle.facts.specs.Lists.{padded_push}
+use Rattle.facts.specs.Arrays.{fill_from}
 use Rattle.float.specs.Literals.{zero64}
 use Rattle.float.specs.Bytes.{f64_at}
 use Rattle.lent_bytes.specs.Bytes.{f64s_at}
@@ -40,3 +41,11 @@ f64s_next m i s at x h e =
 -- those read, as the start of the array
 pub f64s_taken : (k : ℕ) (s : List ℕ) (at : ℕ) (l r : List Float) → r ≡ f64s_at k s at ++ l → take k r ≡ f64s_at k s at
 f64s_taken k s at l r e = rw e (take_at (f64s_at k s at) l k (f64s_length k s at))
+
+-- those read, as an array made place by place
+pub f64s_made : (k : ℕ) (s : List ℕ) (at i : ℕ) → fill_from i k (λ j. f64_at s (at + 8 * j)) ≡ f64s_at k s (at + 8 * i)
+unfolding f64s_at
+f64s_made zero s at i = refl
+f64s_made (suc k) s at i =
+    let e : at + 8 * (i + 1) ≡ at + 8 * i + 8 = omega arith in
+    ap (λ (l : List Float). f64_at s (at + 8 * i) ∷ l) (f64s_made k s at (i + 1) ∙ ap (f64s_at k s) e)

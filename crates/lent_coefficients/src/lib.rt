@@ -14,9 +14,10 @@ fn coefficient_at(s: &[u8], i: usize) -> f64
     ensures { result ≡ get_or (coefficients_at s.now) i zero64 }
 {
     if i < s.len() / 8 {
-        return f64_at(s, 8 * i);
+        f64_at(s, 8 * i)
+    } else {
+        0.0
     }
-    0.0
 }
 
 // One number for those that rest stands for, and for x.
@@ -24,29 +25,24 @@ fn rest_with(rest: f64, x: f64) -> f64
     ensures { result ≡ rest_with rest x }
 {
     if is_finite(rest) {
-        if x == 0.0 {
-            return rest;
-        }
-        return x;
+        if x == 0.0 { rest } else { x }
+    } else {
+        rest
     }
-    rest
 }
 
 // One number for those behind the fifth.
 fn rest_at(s: &[u8]) -> f64
     ensures { result ≡ rest_of (drop 5 (coefficients_at s.now)) }
 {
-    let n = s.len() / 8;
     let mut rest = 0.0;
-    let mut i = 5;
-    while i < n {
+    for i in 5..s.len() / 8 {
         rest = rest_with(rest, f64_at(s, 8 * i));
-        i += 1;
     }
     rest
 }
 
-// The six numbers.
+// The six numbers: five by their places, and the last, which is of another kind.
 pub fn short_at(s: &[u8]) -> [f64; 6]
     ensures { result ≡ short_of (coefficients_at s.now) }
 {

@@ -1,10 +1,10 @@
 -- Two quotients of differences, and the difference of the two: each operation moves its result by no more than 2 ^ -31, so that a bound on the exact numbers
 -- with something to spare is one on the rounded ones. All in units of 2 ^ g, of which 1 has 2 ^ 30.
-use mathlib.Core.Path.{◌≡◌, refl, sym, ap, subst}
+use mathlib.Core.Path.{◌≡◌, refl}
 use mathlib.Core.Bool.{false}
 use Prim.Native.Nat.{ℕ, zero, suc, ◌+◌, ◌*◌, ◌^◌, ◌≤◌, ◌<◌}
 use native.Mathlib.Omega.{arith}
-use native.Mathlib.Nat.{le_trans, le_of_eq, mul-le-mul_left, mul-le-mul_right, le_of_mul-le-mul_right, zero-lt-suc}
+use native.Mathlib.Nat.{le_trans, mul-le-mul_left, mul-le-mul_right, le_of_mul-le-mul_right, zero-lt-suc}
 use borrow.Author.Tests.{le-ltb}
 use lib.IntN.{pos}
 use lib.Ieee.{Float, fin, binary64, up, down, sub, div, lt, of_int, of_bits}

@@ -1,6 +1,6 @@
 -- The scaled logarithm of a coefficient by its exponent k and its shift: from k + shift on, and 1/256 below the next whole number at least, both moved by 2 ^
 -- -31 at most.
-use mathlib.Core.Path.{◌≡◌, refl, sym, ap, ◌∙◌, subst}
+use mathlib.Core.Path.{◌≡◌, refl, sym, ap, subst}
 use mathlib.Core.Bool.{Bool, true, false, not, cond, false≢true, true≢false}
 use mathlib.Core.Logic.{⊎_elim}
 use Prim.Native.Nat.{ℕ, zero, suc, ◌+◌, ◌-◌, ◌*◌, ◌^◌, ◌≤◌, ◌<◌}
@@ -10,7 +10,7 @@ use native.Mathlib.Nat.{mul-le-mul_right, pow-le-pow_left, pow-lt-pow_left, zero
 use lib.Dec.{T, ltb, ltb→lt, nltb→le}
 use lib.Pow.{pow_pos, pow_mono}
 use lib.IntN.{ℤ, pos, negsuc, nat_abs, neg_ℤ, sub_ℕ, ◌+ℤ◌, ◌*ℤ◌}
-use lib.Ieee.{Float, nan, inf, fin, binary64, up, down, add, of_int}
+use lib.Ieee.{Float, nan, inf, fin, binary64, up, add, of_int}
 use lib.Ieee.Back.{round_whole}
 use lib.Ieee.Exact.{HasValue}
 use Rattle.algebra.specs.NatOrder.{le_or_lt, pow_mul}

@@ -1,5 +1,5 @@
 -- A level list has no gap: where the exponents, raised by s at each place, lie in one window, magnitude_split finds none (`level_none`).
-use mathlib.Core.Path.{◌≡◌, refl, sym, ap, subst}
+use mathlib.Core.Path.{◌≡◌, refl, sym, subst}
 use mathlib.Core.Logic.{⊎_elim}
 use mathlib.Core.Bool.{false}
 use mathlib.Core.List.{List}
@@ -25,7 +25,7 @@ use Rattle.scaled.proofs.Best.{exponent_bounded}
 use Rattle.scaled.proofs.Digits.{exponent_small}
 use Rattle.split.specs.declared.Hull.{Hull}
 use Rattle.split.specs.Hull.{width_of, hull_of, mag_of}
-use Rattle.split.specs.declared.Split.TheVariants.{None}
+use Rattle.std.specs.Prelude.{None}
 use Rattle.split.specs.Gap.{split_from, magnitude_split_of}
 use Rattle.split.proofs.Rises.{hull_rising}
 use Rattle.split.proofs.Gaps.{gap_end}

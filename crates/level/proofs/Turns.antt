@@ -1,5 +1,5 @@
 -- What the functions on exponents say of one coefficient, and of all that were seen so far.
-use mathlib.Core.Path.{◌≡◌, refl, subst, sym}
+use mathlib.Core.Path.{◌≡◌, subst}
 use mathlib.Core.Bool.{true}
 use mathlib.Core.List.{List}
 use mathlib.Core.Logic.{⊎_elim}
@@ -10,20 +10,23 @@ use lib.Pow.{pow_pos}
 use lib.ListN.{get_or}
 use lib.Ieee.{Float, nan, binary64, fits}
 use Rattle.algebra.specs.NatOrder.{le_or_lt, pow2_suc}
+use Rattle.std.specs.Prelude.{Some}
+use Rattle.std.specs.Ordering.{nat_cmp, ord_min, ord_max}
 use Rattle.decode.specs.Shape.{Decoded}
+use Rattle.decode.specs.declared.Digits.{Digits}
 use Rattle.decode.proofs.Class.{decoded_regular, decoded_normal}
 use Rattle.level.specs.Level.{Binade, Raised, SpanSeen}
 
-pub binade_of : (x : Float) (w k : ℕ) → fits binary64 x ≡ true → Decoded x w k → (w ≡ 0 → ⊥) → Binade x k
-binade_of x w k F D h =
-    let n = decoded_normal x w k D h in
-    let l = mul-le-mul_right (2 ^ k) n.led in
-    let m = mul-lt-mul_of_pos_right n.short (pow_pos k) in
+pub binade_of : (x : Float) (d : Digits) → fits binary64 x ≡ true → Decoded x (Some d) → Binade x d.k
+binade_of x d F D =
+    let n = decoded_normal x d D in
+    let l = mul-le-mul_right (2 ^ d.k) n.led in
+    let m = mul-lt-mul_of_pos_right n.short (pow_pos d.k) in
     record {
       held = F;
-      regular = decoded_regular x w k D h;
+      regular = decoded_regular x d D;
       low = le_of_mul-le-mul_right (omega (arith, l, n.value)) (pow_pos 52);
-      high = lt_of_mul-lt-mul_right (2 ^ 52) (omega (arith, m, n.value, pow2_suc k));
+      high = lt_of_mul-lt-mul_right (2 ^ 52) (omega (arith, m, n.value, pow2_suc d.k));
       reach = n.reach;
     }
 
@@ -56,3 +59,10 @@ module _ {a : List Float} {d s : ℕ} where
     where
       wider : {j : ℕ} → Raised a d s lo hi j → Raised a d s lo (lo + 3) j
       wider r = record { k = r.k; binade = r.binade; low = r.low; high = λ x y. let z = r.high x y in omega arith }
+
+-- the smaller and the larger of two numbers
+pub smaller : {m : ℕ} (x y : ℕ) → m ≡ ord_min nat_cmp x y → (m ≤ x) × (m ≤ y)
+smaller x y e = (grind arith, grind arith)
+
+pub larger : {m n : ℕ} (x y : ℕ) → m ≡ ord_max nat_cmp x y → x < n → y < n → (x ≤ m) × (y ≤ m) × (m < n)
+larger x y e h l = (grind arith, grind arith, grind arith)

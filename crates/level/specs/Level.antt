@@ -1,11 +1,10 @@
 -- Level lists: raised by so much at each place, their exponents lie in one window, and there is no gap above 8 bits between root sizes. Definitions only.
-use Rattle.std.specs.Prelude.{◌≡◌, true, List, ℕ, suc, ◌+◌, ◌*◌, ◌^◌, ◌≤◌, ◌<◌, get_or, Float}
+use Rattle.std.specs.Prelude.{◌≡◌, true, List, ℕ, suc, ◌+◌, ◌*◌, ◌^◌, ◌≤◌, ◌<◌, get_or, Float, None}
 use Rattle.std.specs.Float.{nan, binary64}
 use Rattle.std.specs.Float.Ieee.{fits}
 use Rattle.float.specs.Units.{units_of}
 use Rattle.decode.specs.Exponent.{regular_of}
 use Rattle.scaled.specs.Scaled.{scaled_of}
-use Rattle.split.specs.declared.Split.TheVariants.{None}
 use Rattle.split.specs.Gap.{magnitude_split_of}
 
 -- magnitude_split finds no gap

@@ -2,37 +2,19 @@
 // It rests on `decode`, and says what it says of `scaled` and `split`; the list of roots rests on it.
 #![tactic(auto)]
 
-ghost use Rattle.std.specs.Prelude.{◌≡◌, true, ◌+◌, ◌*◌, ◌≤◌, ◌<◌};
+ghost use Rattle.std.specs.Prelude.{◌≡◌, true, ◌+◌, ◌*◌, ◌≤◌, ◌<◌, IfSome};
 ghost use Rattle.level.specs.Level.{Binade, NoGap};
 
-// The exponent of x, counted from 2^-1074; 4096 where x is zero or not finite.
-fn place_of(x: f64) -> u64
-    ensures { (result < 4096 → Binade x result) × (result ≤ 4096) }
-{
-    let n = decode::normal_of(x);
-    if n.w == 0 {
-        return 4096;
-    }
-    n.k
-}
+use horner::Polynomial;
 
-fn least(x: u64, y: u64) -> u64
-    ensures { (result ≤ x) × (result ≤ y) }
+// The exponent of x, counted from 2^-1074: none where x is zero or not finite.
+fn place_of(x: f64) -> Option<u64>
+    ensures { IfSome result (Binade x) }
 {
-    if x < y {
-        return x;
+    match decode::normal_of(x) {
+        None => None,
+        Some(n) => Some(n.k),
     }
-    y
-}
-
-fn most(x: u64, y: u64) -> u64
-    requires { (x < 100000) × (y < 100000) }
-    ensures { (x ≤ result) × (y ≤ result) × (result < 100000) }
-{
-    if x < y {
-        return y;
-    }
-    x
 }
 
 // So much is added at each place, less 2100, that the last exponent comes near the first.
@@ -56,34 +38,28 @@ fn raised(k: u64, s: u64, i: usize) -> u64
 }
 
 // Raised so, all stand at `lo` or above, and those between the ends at `hi` or below. Where hi - lo is at most 3, no root is 2^8 times as large as the next.
-pub fn level(a: [f64; 5], d: usize) -> bool
-    requires { d ≤ 4 }
-    ensures { result ≡ true → NoGap a d }
+pub fn level(p: Polynomial) -> bool
+    ensures { result ≡ true → NoGap p.f p.d }
 {
-    if d < 3 {
+    if p.d < 3 {
         return false;
     }
-    let first = place_of(a[0]);
-    let last = place_of(a[d]);
-    if first == 4096 {
+    let Some(first) = place_of(p.f[0]) else {
         return false;
-    }
-    if last == 4096 {
+    };
+    let Some(last) = place_of(p.f[p.d]) else {
         return false;
-    }
-    let s = slope(first, last, d);
-    let mut lo = least(raised(first, s, 0), raised(last, s, d));
+    };
+    let s = slope(first, last, p.d);
+    let mut lo = std::cmp::min(raised(first, s, 0), raised(last, s, p.d));
     let mut hi = 0;
-    let mut i = 1;
-    while i < d {
-        let k = place_of(a[i]);
-        if k == 4096 {
+    for i in 1..p.d {
+        let Some(k) = place_of(p.f[i]) else {
             return false;
-        }
+        };
         let t = raised(k, s, i);
-        lo = least(lo, t);
-        hi = most(hi, t);
-        i += 1;
+        lo = std::cmp::min(lo, t);
+        hi = std::cmp::max(hi, t);
     }
     hi <= lo + 3
 }

@@ -2,8 +2,8 @@
 -- formulas, at most one root more than bytes.
 use mathlib.Core.Path.{◌≡◌, refl, sym, subst}
 use mathlib.Core.Bool.{Bool, true, false, cond}
-use mathlib.Core.Logic.{◌⊎◌, ⊎_elim}
-use mathlib.Core.List.{List, [], ◌∷◌}
+use mathlib.Core.Logic.{⊎_elim}
+use mathlib.Core.List.{List, []}
 use Prim.Native.Nat.{ℕ, ◌+◌, ◌-◌, ◌<◌, ◌≤◌}
 use native.Mathlib.Nat.{eq-zero-or-pos}
 use native.Mathlib.Omega.{arith}
@@ -11,7 +11,6 @@ use borrow.Author.Tests.{eqb-true}
 use lib.Dec.{eqb, lit≤}
 use lib.ListN.{length}
 use lib.Ieee.{Float}
-use Rattle.facts.specs.Cond.{either_way}
 use Rattle.float.specs.Methods.{all_finite_of}
 use Rattle.roots.specs.declared.RealRoot.{RealRoot}
 use Rattle.roots.specs.declared.Roots.{Roots}
@@ -20,19 +19,20 @@ use Rattle.roots.specs.Listed.{multiplicities, Within}
 use Rattle.roots.proofs.Laws.{list_roots, roots_fit}
 use Rattle.roots.proofs.Sums.{counted, length_counted, within_none}
 use Rattle.poly.specs.declared.Answer.{Answer}
-use Rattle.equation.specs.declared.QuadraticAnswer.{QuadraticAnswer}
 use Rattle.crank.specs.declared.CrankAnswer.{CrankAnswer}
 use Rattle.poly.specs.Coefficients.{trimmed_of, degree_left}
 use Rattle.poly.specs.Solve.{solve_of}
 use Rattle.poly.specs.RealRoots.{unscaled_all, answer_of, real_roots_of}
 use Rattle.poly.proofs.Refusals.{trimmed_is, number_most, has_no_root, stands_for, refusal_most}
 use Rattle.poly.proofs.Sums.{answer_within}
-use Rattle.solution.specs.Solution.{values_of}
-use Rattle.equation.specs.Quadratic.{solve_quadratic_of, quadratic_of}
+use Rattle.std.specs.Prelude.{Result, Ok, Err}
+use Rattle.refusals.specs.declared.Refusal.{Refusal}
+use Rattle.refusals.proofs.Numbers.{number_bounds}
+use Rattle.trig_quartic.specs.declared.TrigEquation.{TrigEquation}
 use Rattle.trig_quartic.specs.declared.Crank.{Crank}
 use Rattle.trig_quartic.specs.Crank.{crank_front_of}
 use Rattle.inquiry.proofs.Fresh.{start_number}
-use Rattle.crank.specs.Crank.{trig_quartic_of, solve_trig_of, crank_start_of, crank_of}
+use Rattle.crank.specs.Crank.{trig_quartic_of, solve_trig_of, front_in, number_in, crank_start_of, crank_of}
 use Rattle.crank.specs.Claims.{Cranks}
 use Rattle.crank.proofs.Answer as answers
 use Rattle.crank.proofs.Theorem.{cranks}
@@ -86,54 +86,40 @@ list_short cs tol = ⊎_elim answered refused (eq-zero-or-pos (real_roots_of cs 
           fewer = subst (λ (r : Roots). r.len ≤ length cs - 1) (sym none) (omega arith);
         }
 
--- ---- quadratics
-pub quadratic_short : (a b c confusion angular : Float) → (quadratic_of a b c confusion angular).number < 100
-unfolding quadratic_of
-quadratic_short a b c confusion angular =
-    let s = solve_quadratic_of a b c confusion angular in
-    either_way (λ (r : QuadraticAnswer). r.number < 100) (all_finite_of (a ∷ b ∷ c ∷ []))
-    (either_way (λ (r : QuadraticAnswer). r.number < 100) (all_finite_of (values_of s)) (omega arith) (omega arith))
-    (omega arith)
-
 -- ---- cranks
 pub record CrankShort (a : CrankAnswer) : Type 0 where
   pub number : a.number < 100
   pub eighth : a.k < 8
   pub roots : Printable a.roots
 
-front_short : (a2 b2 c1 d1 e : Float) → (crank_front_of a2 b2 c1 d1 e).number < 100
-unfolding crank_front_of
-front_short a2 b2 c1 d1 e =
-    either_way (λ (x : Crank). x.number < 100) (all_finite_of (a2 ∷ b2 ∷ c1 ∷ d1 ∷ e ∷ []))
-    (either_way (λ (x : Crank). x.number < 100) (all_finite_of (trig_quartic_of a2 b2 c1 d1 e)) (omega arith) (omega arith))
-    (omega arith)
+number_in_short : (front : Result Crank Refusal) (n : ℕ) → n < 100 → number_in front n < 100
+number_in_short (Ok front) n h = h
+number_in_short (Err refusal) n h = (number_bounds refusal).1
 
-start_short : (confusion a2 b2 c1 d1 e : Float) → (crank_start_of confusion a2 b2 c1 d1 e).number < 100
+start_short : (confusion : Float) (trig : TrigEquation) → (crank_start_of confusion trig).number < 100
 unfolding crank_start_of
-start_short confusion a2 b2 c1 d1 e =
-    let front = (crank_front_of a2 b2 c1 d1 e).q in
-    either_way (λ (k : ℕ). k < 100) (eqb (crank_front_of a2 b2 c1 d1 e).number 0)
-    (omega (arith, start_number front confusion, refusal_most (all_finite_of front) (trimmed_of front)))
-    (front_short a2 b2 c1 d1 e)
+start_short confusion trig =
+    let q = (front_in (crank_front_of trig)).q in
+    number_in_short (crank_front_of trig) _ (omega (arith, start_number q confusion, refusal_most (all_finite_of q) (trimmed_of q)))
 
-pub crank_short : (confusion a2 b2 c1 d1 e : Float) → CrankShort (crank_of confusion a2 b2 c1 d1 e)
+pub crank_short : (confusion : Float) (trig : TrigEquation) → CrankShort (crank_of confusion trig)
 unfolding crank_of
-crank_short confusion a2 b2 c1 d1 e = go (eqb (crank_start_of confusion a2 b2 c1 d1 e).number 0) refl
+crank_short confusion trig = go (eqb (crank_start_of confusion trig).number 0) refl
   where
-    all : Cranks confusion a2 b2 c1 d1 e
-    all = cranks confusion a2 b2 c1 d1 e
+    all : Cranks confusion trig
+    all = cranks confusion trig
 
     l : List RealRoot
-    l = (solve_trig_of (λ k u. false) confusion a2 b2 c1 d1 e).1
+    l = (solve_trig_of (λ k u. false) confusion trig).1
 
-    go : (b : Bool) → eqb (crank_start_of confusion a2 b2 c1 d1 e).number 0 ≡ b
-        → CrankShort (cond b (answers.listed confusion a2 b2 c1 d1 e) (answers.refused confusion a2 b2 c1 d1 e))
+    go : (b : Bool) → eqb (crank_start_of confusion trig).number 0 ≡ b
+        → CrankShort (cond b (answers.listed confusion trig) (answers.refused confusion trig))
     go true z = record {
       number = omega arith;
-      eighth = subst (λ (k : ℕ). k < 8) (all.k_is (eqb-true (crank_start_of confusion a2 b2 c1 d1 e).number 0 z) (λ k u. false)) all.eighths;
-      roots = (within_short (degree_left (trig_quartic_of a2 b2 c1 d1 e)) l (omega (arith, all.degree)) (all.list (λ k u. false))).0;
+      eighth = subst (λ (k : ℕ). k < 8) (all.k_is (eqb-true (crank_start_of confusion trig).number 0 z) (λ k u. false)) all.eighths;
+      roots = (within_short (degree_left (trig_quartic_of trig)) l (omega (arith, all.degree)) (all.list (λ k u. false))).0;
     }
-    go false z = record { number = start_short confusion a2 b2 c1 d1 e; eighth = omega arith; roots = none_short }
+    go false z = record { number = start_short confusion trig; eighth = omega arith; roots = none_short }
 
 -- ---- pin contacts
 pub contact_short : (confusion : Float) (path : Path) (circle : Circle) → let a = pin_contact_of confusion path circle in (a.number < 100) × Printable a.roots

@@ -6,7 +6,9 @@ use native.Mathlib.Omega.{arith}
 use lib.ListN.{length, drop, length-take}
 use Rattle.float.specs.Bytes.{f64_at}
 use Rattle.poly.specs.declared.Answer.{Answer}
-use Rattle.equation.specs.declared.QuadraticAnswer.{QuadraticAnswer}
+use Rattle.std.specs.Prelude.{Result}
+use Rattle.refusals.specs.declared.Refusal.{Refusal}
+use Rattle.solution.specs.declared.QuadraticSolution.{QuadraticSolution}
 use Rattle.crank.specs.declared.CrankAnswer.{CrankAnswer}
 use Rattle.lent_bytes.specs.Bytes.{f64s_at}
 use Rattle.lent_bytes.proofs.Doubles.{f64s_length}
@@ -14,24 +16,20 @@ use Rattle.records.specs.declared.Kind.{Kind}
 use Rattle.records.specs.declared.Kind.TheVariants.{Polynomial, Quadratic, Crank, Contact, Formula, Unknown}
 use Rattle.records.specs.declared.Record.{Record}
 use Rattle.records.specs.Records.{count_at}
-use Rattle.listing.specs.Answers.{polynomial_at, quadratic_at, crank_at, path_at, circle_at, contact_at, text_at, formula_at}
+use Rattle.listing.specs.Answers.{polynomial_at, quadratic_at, trig_at, crank_at, path_at, circle_at, contact_at, text_at, formula_at}
 use Rattle.listing.specs.Lines.{polynomial_text, quadratic_text, crank_text, answer_text, words_of}
 use Rattle.listing.specs.Printable.{Printable}
 use Rattle.listing.proofs.Texts.{or_length, polynomial_length, quadratic_length, crank_length}
-use Rattle.listing.proofs.Answers.{ListShort, list_short, quadratic_short, CrankShort, crank_short, contact_short, FormulaShort, formula_short}
+use Rattle.listing.proofs.Answers.{ListShort, list_short, CrankShort, crank_short, contact_short, FormulaShort, formula_short}
 
 module _ (s : List ℕ) (at : ℕ) where
   polynomial_at_short : ListShort (f64s_at (count_at s at) s (at + 11)) (polynomial_at s at)
   unfolding polynomial_at
   polynomial_at_short = list_short (f64s_at (count_at s at) s (at + 11)) (f64_at s (at + 3))
 
-  quadratic_at_short : (quadratic_at s at).number < 100
-  unfolding quadratic_at
-  quadratic_at_short = quadratic_short (f64_at s (at + 18)) (f64_at s (at + 26)) (f64_at s (at + 34)) (f64_at s (at + 2)) (f64_at s (at + 10))
-
   crank_at_short : CrankShort (crank_at s at)
   unfolding crank_at
-  crank_at_short = crank_short (f64_at s (at + 2)) (f64_at s (at + 10)) (f64_at s (at + 18)) (f64_at s (at + 26)) (f64_at s (at + 34)) (f64_at s (at + 42))
+  crank_at_short = crank_short (f64_at s (at + 2)) (trig_at s at)
 
   contact_at_short : ((contact_at s at).number < 100) × Printable (contact_at s at).roots
   unfolding contact_at
@@ -45,9 +43,6 @@ module _ (s : List ℕ) (at : ℕ) where
   pub polynomial_prints : (r : Answer) → r ≡ polynomial_at s at → (r.number < 100) × Printable r.roots
   polynomial_prints r e =
       subst (λ (a : Answer). (a.number < 100) × Printable a.roots) (sym e) (polynomial_at_short.number, polynomial_at_short.roots)
-
-  pub quadratic_prints : (r : QuadraticAnswer) → r ≡ quadratic_at s at → r.number < 100
-  quadratic_prints r e = subst (λ (a : QuadraticAnswer). a.number < 100) (sym e) quadratic_at_short
 
   pub crank_prints : (r : CrankAnswer) → r ≡ crank_at s at → (r.number < 100) × ((r.k < 8) × Printable r.roots)
   crank_prints r e =
@@ -66,7 +61,7 @@ module _ (s : List ℕ) (at : ℕ) where
   unfolding answer_text
   polynomial_text_is k r e f = rw (e, f)
 
-  pub quadratic_text_is : (k : Kind) (r : QuadraticAnswer) → k ≡ Quadratic → r ≡ quadratic_at s at → quadratic_text r ≡ answer_text k s at
+  pub quadratic_text_is : (k : Kind) (r : Result QuadraticSolution Refusal) → k ≡ Quadratic → r ≡ quadratic_at s at → quadratic_text r ≡ answer_text k s at
   unfolding answer_text
   quadratic_text_is k r e f = rw (e, f)
 
@@ -95,7 +90,7 @@ module _ (s : List ℕ) (at : ℕ) where
 
   pub quadratic_at_length : length (answer_text Quadratic s at) ≤ 37
   unfolding answer_text
-  quadratic_at_length = quadratic_length (quadratic_at s at) quadratic_at_short
+  quadratic_at_length = quadratic_length (quadratic_at s at)
 
   formula_length : length (polynomial_text (formula_at s at)) ≤ 10 + 22 * (formula_at s at).roots.len
   formula_length = let a = formula_at_short in polynomial_length (formula_at s at) a.number a.roots

@@ -1,5 +1,5 @@
 -- How long the texts of a line are, and which of two texts a number picks.
-use mathlib.Core.Path.{◌≡◌, refl, ap}
+use mathlib.Core.Path.{◌≡◌, ap}
 use mathlib.Core.List.{List, [], ◌∷◌, ◌++◌, flat_map}
 use Prim.Native.Nat.{ℕ, zero, suc, ◌+◌, ◌*◌, ◌<◌, ◌≤◌}
 use native.Mathlib.Omega.{arith}
@@ -10,6 +10,10 @@ use lib.Ieee.{Float, binary64, to_bits}
 use Rattle.facts.specs.Cond.{either_way}
 use Rattle.text.specs.Digits.{decimal}
 use Rattle.text.proofs.Digits.{decimal_length, hex_length}
+use Rattle.std.specs.Prelude.{Result, Ok, Err}
+use Rattle.refusals.specs.declared.Refusal.{Refusal}
+use Rattle.refusals.proofs.Numbers.{number_bounds}
+use Rattle.refusals.specs.Refusals.{number_of}
 use Rattle.roots.specs.declared.RealRoot.{RealRoot}
 use Rattle.roots.specs.declared.Roots.{Roots}
 use Rattle.roots.specs.Roots.{list_of}
@@ -18,7 +22,6 @@ use Rattle.roots.proofs.Laws.{roots_cons, length_list}
 use Rattle.poly.specs.declared.Answer.{Answer}
 use Rattle.solution.specs.declared.QuadraticSolution.{QuadraticSolution}
 use Rattle.solution.specs.declared.QuadraticSolution.TheVariants.{Two, One, Linear, Degenerate, Empty}
-use Rattle.equation.specs.declared.QuadraticAnswer.{QuadraticAnswer}
 use Rattle.crank.specs.declared.CrankAnswer.{CrankAnswer}
 use Rattle.records.specs.declared.Kind.{Kind}
 use Rattle.records.specs.declared.Record.{Record}
@@ -103,9 +106,10 @@ solution_length (Linear x) = omega (arith, place_length x)
 solution_length Degenerate = omega arith
 solution_length Empty = omega arith
 
-pub quadratic_length : (a : QuadraticAnswer) → a.number < 100 → length (quadratic_text a) ≤ 37
+pub quadratic_length : (a : Result QuadraticSolution Refusal) → length (quadratic_text a) ≤ 37
 unfolding quadratic_text
-quadratic_length a h = or_length a.number (solution_text a.solution) 37 h (omega arith) (solution_length a.solution)
+quadratic_length (Ok s) = solution_length s
+quadratic_length (Err refusal) = omega (arith, refused_length (number_of refusal) (number_bounds refusal).1)
 
 pub crank_length : (a : CrankAnswer) → a.number < 100 → a.k < 8 → Printable a.roots → length (crank_text a) ≤ 98
 unfolding crank_text

@@ -1,9 +1,11 @@
 -- The solver's answers to the numbers of a record that stands whole. Definitions only.
-use Rattle.std.specs.Prelude.{List, ℕ, ◌+◌, take, drop}
+use Rattle.std.specs.Prelude.{List, ℕ, ◌+◌, take, drop, Result}
 use Rattle.float.specs.Bytes.{f64_at}
 use Rattle.lent_bytes.specs.Bytes.{f64s_at}
 use Rattle.poly.specs.declared.Answer.{Answer}
-use Rattle.equation.specs.declared.QuadraticAnswer.{QuadraticAnswer}
+use Rattle.refusals.specs.declared.Refusal.{Refusal}
+use Rattle.solution.specs.declared.QuadraticSolution.{QuadraticSolution}
+use Rattle.trig_quartic.specs.declared.TrigEquation.{TrigEquation}
 use Rattle.crank.specs.declared.CrankAnswer.{CrankAnswer}
 use Rattle.poly.specs.RealRoots.{real_roots_of}
 use Rattle.equation.specs.Quadratic.{quadratic_of}
@@ -20,17 +22,19 @@ unfolding f64s_at
 polynomial_at s at = real_roots_of (f64s_at (count_at s at) s (at + 11)) (f64_at s (at + 3))
 
 -- 'QD: confusion, angular, a, b, c'
-unfoldable pub quadratic_at : List ℕ → ℕ → QuadraticAnswer
+unfoldable pub quadratic_at : List ℕ → ℕ → Result QuadraticSolution Refusal
 quadratic_at s at =
     let confusion = f64_at s (at + 2) in
     let angular = f64_at s (at + 10) in
     quadratic_of (f64_at s (at + 18)) (f64_at s (at + 26)) (f64_at s (at + 34)) confusion angular
 
 -- 'TG: confusion, a2, b2, c1, d1, e, every question replied no'
+abbrev pub trig_at : List ℕ → ℕ → TrigEquation
+trig_at s at =
+    record { a2 = f64_at s (at + 10); b2 = f64_at s (at + 18); c1 = f64_at s (at + 26); d1 = f64_at s (at + 34); e = f64_at s (at + 42) }
+
 unfoldable pub crank_at : List ℕ → ℕ → CrankAnswer
-crank_at s at =
-    let confusion = f64_at s (at + 2) in
-    crank_of confusion (f64_at s (at + 10)) (f64_at s (at + 18)) (f64_at s (at + 26)) (f64_at s (at + 34)) (f64_at s (at + 42))
+crank_at s at = crank_of (f64_at s (at + 2)) (trig_at s at)
 
 -- 'A record PC holds confusion, x0, x1, x2, y0, y1, y2 .., the circle's centre cx, cy and radius R'
 abbrev pub path_at : List ℕ → ℕ → Path

@@ -1,8 +1,10 @@
 -- The line of a record: 'its number from 1, its mark, then ..'. Definitions only.
-use Rattle.std.specs.Prelude.{cond, ℕ, eqb, Float}
+use Rattle.std.specs.Prelude.{cond, ℕ, eqb, Float, Result, Ok, Err}
 use mathlib.Core.List.{List, [], ◌∷◌, ◌++◌, flat_map}
 use Rattle.std.specs.Float.{binary64}
 use Rattle.std.specs.Float.Ieee.{to_bits}
+use Rattle.refusals.specs.declared.Refusal.{Refusal}
+use Rattle.refusals.specs.Refusals.{number_of}
 use Rattle.text.specs.Digits.{hex_digits, decimal}
 use Rattle.roots.specs.declared.RootKind.{RootKind}
 use Rattle.roots.specs.declared.RealRoot.{RealRoot}
@@ -11,7 +13,6 @@ use Rattle.roots.specs.Roots.{list_of}
 use Rattle.poly.specs.declared.Answer.{Answer}
 use Rattle.solution.specs.declared.QuadraticSolution.{QuadraticSolution}
 use Rattle.solution.specs.declared.QuadraticSolution.TheVariants.{Two, One, Linear, Degenerate, Empty}
-use Rattle.equation.specs.declared.QuadraticAnswer.{QuadraticAnswer}
 use Rattle.crank.specs.declared.CrankAnswer.{CrankAnswer}
 use Rattle.records.specs.declared.Kind.{Kind}
 use Rattle.records.specs.declared.Kind.TheVariants.{Polynomial, Quadratic, Crank, Contact, Formula, Unknown}
@@ -65,9 +66,10 @@ solution_text Degenerate = degenerate
 solution_text Empty = empty
 
 -- or `refused`
-unfoldable pub quadratic_text : QuadraticAnswer → List ℕ
+unfoldable pub quadratic_text : Result QuadraticSolution Refusal → List ℕ
 unfolding solution_text refused_text
-quadratic_text a = or_refused a.number (solution_text a.solution)
+quadratic_text (Ok s) = solution_text s
+quadratic_text (Err refusal) = refused_text (number_of refusal)
 
 -- 'for TG the same with k after `ok`'
 unfoldable pub crank_text : CrankAnswer → List ℕ

@@ -9,9 +9,9 @@ ghost use Rattle.listing.specs.Lines.{answer_text, words_of, head_of, line_of};
 ghost use Rattle.listing.specs.Printable.{Printable};
 
 use crank::CrankAnswer;
-use equation::QuadraticAnswer;
 use poly::Answer;
 use records::{Kind, Record};
+use refusals::Refusal;
 use roots::{RealRoot, RootKind, Roots};
 use solution::QuadraticSolution;
 use text::{put_byte, put_bytes, put_decimal};
@@ -61,13 +61,10 @@ fn put_roots(out: &mut [u8], at: usize, roots: Roots) -> usize
     requires { (at < 2 ^ 32) × Printable roots }
     ensures { Written out.old at (roots_text roots) out.new result }
 {
-    let len = roots.len;
     let root = roots.root;
-    let mut next = put_decimal(out, at, len as u64);
-    let mut i = 0;
-    while i < len {
+    let mut next = put_decimal(out, at, roots.len as u64);
+    for i in 0..roots.len {
         next = put_root(out, next, root[i]);
-        i += 1;
     }
     next
 }
@@ -115,15 +112,15 @@ fn put_solution(out: &mut [u8], at: usize, solution: QuadraticSolution) -> usize
     }
 }
 
-fn put_quadratic(out: &mut [u8], at: usize, a: QuadraticAnswer) -> usize
-    requires { (at < 2 ^ 31) × (a.number < 100) }
+#[tactic(auto, using(refusals::proofs::Numbers::number_bounds), unfolding(crate::specs::Lines::quadratic_text))]
+fn put_quadratic(out: &mut [u8], at: usize, a: Result<QuadraticSolution, Refusal>) -> usize
+    requires { at < 2 ^ 31 }
     ensures { Written out.old at (quadratic_text a) out.new result }
 {
-    if a.number != 0 {
-        return put_refused(out, at, a.number);
+    match a {
+        Ok(solution) => put_solution(out, at, solution),
+        Err(refusal) => put_refused(out, at, refusal.into()),
     }
-    let solution = a.solution;
-    put_solution(out, at, solution)
 }
 
 fn put_crank(out: &mut [u8], at: usize, a: CrankAnswer) -> usize
@@ -162,7 +159,7 @@ fn put_head(out: &mut [u8], w: usize, n: u64, kind: Kind) -> usize
 {
     let blank = put_decimal(out, w, n);
     let mark = put_byte(out, blank, b' ');
-    let end = put_bytes(out, mark, &records::mark(kind));
+    let end = put_bytes(out, mark, &<[u8; 2]>::from(kind));
     put_byte(out, end, b' ')
 }
 

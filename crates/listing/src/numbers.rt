@@ -6,10 +6,12 @@ ghost use Rattle.records.specs.declared.Kind.TheVariants.{Polynomial, Quadratic,
 
 use contact::{Circle, Path};
 use crank::CrankAnswer;
-use equation::QuadraticAnswer;
 use float::f64_at;
 use lent_bytes::f64s_at;
 use poly::Answer;
+use refusals::Refusal;
+use solution::QuadraticSolution;
+use trig_quartic::TrigEquation;
 
 pub fn polynomial_at(s: &[u8], at: usize) -> Answer
     requires { Whole Polynomial s.now at }
@@ -21,7 +23,7 @@ pub fn polynomial_at(s: &[u8], at: usize) -> Answer
     poly::real_roots(&coeffs[..count], tol)
 }
 
-pub fn quadratic_at(s: &[u8], at: usize) -> QuadraticAnswer
+pub fn quadratic_at(s: &[u8], at: usize) -> Result<QuadraticSolution, Refusal>
     requires { Whole Quadratic s.now at }
     ensures { result ≡ quadratic_at s.now at }
 {
@@ -38,12 +40,14 @@ pub fn crank_at(s: &[u8], at: usize) -> CrankAnswer
     ensures { result ≡ crank_at s.now at }
 {
     let confusion = f64_at(s, at + 2);
-    let a2 = f64_at(s, at + 10);
-    let b2 = f64_at(s, at + 18);
-    let c1 = f64_at(s, at + 26);
-    let d1 = f64_at(s, at + 34);
-    let e = f64_at(s, at + 42);
-    crank::crank(confusion, a2, b2, c1, d1, e)
+    let trig = TrigEquation {
+        a2: f64_at(s, at + 10),
+        b2: f64_at(s, at + 18),
+        c1: f64_at(s, at + 26),
+        d1: f64_at(s, at + 34),
+        e: f64_at(s, at + 42),
+    };
+    crank::crank(confusion, trig)
 }
 
 pub fn contact_at(s: &[u8], at: usize) -> Answer

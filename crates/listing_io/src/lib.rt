@@ -3,7 +3,7 @@
 // It rests on `input` and `listing`; the programs rest on it.
 #![tactic(auto)]
 
-ghost use Rattle.std.specs.Prelude.{◌≡◌, ◌≤◌, ◌<◌, length, take, IsSome, IsNone};
+ghost use Rattle.std.specs.Prelude.{◌≡◌, ◌≤◌, ◌<◌, length, take, IfOk, OnErr};
 ghost use Rattle.std.proofs.lemmas.List.Edits.{sets};
 ghost use Rattle.std.specs.Io.KnownBytes.{Consumes, IsAtEnd};
 ghost use Rattle.listing_io.specs.Counts.{IsPrefixLen};
@@ -19,30 +19,24 @@ pub fn output_buffer() -> [u8; 524308]
     [0; 524308]
 }
 
-// How many bytes were read, none where a read failed, why it did, and how many their listing has.
+// How many bytes were read, and how many their listing has.
 #[derive(Clone, Copy)]
-pub struct ListedFile {
-    pub failed: Option<io::Error>,
+pub struct Listed {
     pub read: usize,
     pub len: usize,
 }
 
-// Reads to the end of what `from` gives, or until file is full, and stores the listing of what was read from the start of out on.
-pub fn list_fd<R: Read>(from: &mut R, file: &mut [u8], out: &mut [u8; 524308]) -> ListedFile
-    ensures read_in_bounds { result.read ≤ length file.new }
-    ensures read_value { IsSome result.failed → result.read ≡ 0 }
-    ensures read_bytes { IsNone result.failed → Consumes (R.remaining from.old) (R.remaining from.new) (take result.read file.new) }
-    ensures read_end { IsNone result.failed → result.read < length file.new → IsAtEnd (R.remaining from.new) }
-    ensures len_value { result.len ≡ length (listing (take result.read file.new)) }
-    ensures out_after { out.new ≡ sets out.old 0 (listing (take result.read file.new)) }
-    ensures prefix_len { IsPrefixLen result.len out.new }
+// Reads to the end of what `from` gives, or until file is full, and stores the listing of what was read from the start of out on; where a read fails, nothing.
+pub fn list_fd<R: Read>(from: &mut R, file: &mut [u8], out: &mut [u8; 524308]) -> io::Result<Listed>
+    ensures read_in_bounds { IfOk result (λ l. l.read ≤ length file.new) }
+    ensures read_bytes { IfOk result (λ l. Consumes (R.remaining from.old) (R.remaining from.new) (take l.read file.new)) }
+    ensures read_end { IfOk result (λ l. l.read < length file.new → IsAtEnd (R.remaining from.new)) }
+    ensures len_value { IfOk result (λ l. l.len ≡ length (listing (take l.read file.new))) }
+    ensures out_after { IfOk result (λ l. out.new ≡ sets out.old 0 (listing (take l.read file.new))) }
+    ensures prefix_len { IfOk result (λ l. IsPrefixLen l.len out.new) }
+    ensures failed { OnErr result (out.new ≡ out.old) }
 {
-    let input = input::read_file(from, file);
-    let read = input.len;
+    let read = input::read_file(from, file)?;
     let len = listing::list_file(&file[..read], out);
-    ListedFile {
-        failed: input.failed,
-        read,
-        len,
-    }
+    Ok(Listed { read, len })
 }

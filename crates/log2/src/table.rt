@@ -2,7 +2,7 @@
 ghost use Rattle.log2.specs.Parts.{Thresholds};
 
 // Entry n is the smallest whole t with t^256 >= 2^(n + 13312): the least significand of 53 digits whose logarithm has a fraction of n / 256.
-const THRESHOLDS: [u64; 256] = [
+static THRESHOLDS: [u64; 256] = [
     4503599627370496,
     4515810124676287,
     4528053727998774,
@@ -261,9 +261,9 @@ const THRESHOLDS: [u64; 256] = [
     8982844293129178,
 ];
 
-// The table as an array: a constant is written out anew wherever it is named, so a caller has it once and lends it.
-pub fn thresholds() -> [u64; 256]
-    ensures { Thresholds result }
+// The table, where it lies.
+pub fn thresholds() -> &'static [u64; 256]
+    ensures { Thresholds result.now }
 {
-    THRESHOLDS
+    &THRESHOLDS
 }

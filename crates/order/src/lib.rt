@@ -12,19 +12,16 @@ fn place(key: [f64; 4], at: [usize; 4], i: usize) -> usize
     requires places { Places at }
     ensures { result ≡ insertion_of falls key at i }
 {
-    let mut p = 0;
-    while p < i {
-        let j = at[p];
-        if float::total_le(key[i], key[j]) {
-            p += 1;
-        } else {
+    for p in 0..i {
+        if !float::total_le(key[i], key[at[p]]) {
             return p;
         }
     }
-    p
+    i
 }
 
 // Entry k, once i is put in at p and those from there on have gone one further.
+#[tactic(auto, unfolding(crate::specs::Order::entry_of))]
 fn entry(at: [usize; 4], i: usize, p: usize, k: usize) -> usize
     requires { k < 4 }
     ensures { result ≡ entry_of at i p k }
@@ -48,12 +45,7 @@ fn insert(key: [f64; 4], at: [usize; 4], i: usize) -> [usize; 4]
     ensures { result ≡ inserted_by (keys_before falls key) i (take i at) ++ drop (i + 1) at }
 {
     let p = place(key, at, i);
-    [
-        entry(at, i, p, 0),
-        entry(at, i, p, 1),
-        entry(at, i, p, 2),
-        entry(at, i, p, 3),
-    ]
+    std::array::from_fn(|k| entry(at, i, p, k))
 }
 
 // The numbers 0..n in the order of their keys.
@@ -62,11 +54,9 @@ pub fn falling(key: [f64; 4], n: usize) -> [usize; 4]
     ensures { (result ≡ falling_of key n) × Places result }
 {
     let mut at = [0, 1, 2, 3];
-    let mut i = 0;
-    while i < n {
+    for i in 0..n {
         let next = insert(key, at, i);
         at = next;
-        i += 1;
     }
     at
 }

@@ -104,22 +104,6 @@ module _ (l : List ℕ) (five : length l ≡ 5) where
   length_none z = let most = short 0 z in omega arith
 
 -- ---- a coefficient handed out
-pub entry_none : (a : Part) → length a.raised ≡ 5 → (k : ℕ) → 5 ≤ k → record { up = 0; down = 0 } ≡ entry_of a k
-entry_none a five k h = λ i. record { up = sym (raised_none a.raised five k h) i - 2 ^ 53; down = 2 ^ 53 - sym (raised_none a.raised five k h) i }
-
-module _ (a : Part) (k : ℕ) (inside : k < length a.raised) where
-  abbrev x : ℕ
-  x = get_or a.raised k 0
-
-  made : (r : Coefficient) → r ≡ record { up = x - 2 ^ 53; down = 2 ^ 53 - x } → r ≡ entry_of a k
-  made r e = e ∙ ap (λ (y : ℕ). record { up = y - 2 ^ 53; down = 2 ^ 53 - y }) (kept_at a.raised k inside)
-
-  pub entry_below : x < 2 ^ 53 → record { up = 0; down = 2 ^ 53 - x } ≡ entry_of a k
-  entry_below h = let e : 0 ≡ x - 2 ^ 53 = omega arith in made _ (λ i. record { up = e i; down = 2 ^ 53 - x })
-
-  pub entry_above : 2 ^ 53 ≤ x → record { up = x - 2 ^ 53; down = 0 } ≡ entry_of a k
-  entry_above h = let e : 0 ≡ 2 ^ 53 - x = omega arith in made _ (λ i. record { up = x - 2 ^ 53; down = e i })
-
 -- what is known of one that was handed out
 under_both : (u d : ℕ) → pos (u - d) -ℤ pos (d - u) ≡ pos u -ℤ pos d
 under_both u d = ⊎_elim below above (le_or_lt u d)

@@ -14,7 +14,8 @@ use Rattle.algebra.specs.RingInt.{ringℤ, :neg, ◌:+◌, ◌:-◌, ◌:*◌, �
 use Rattle.wide.specs.declared.Double.{Double}
 use Rattle.parts.specs.declared.Operator.TheVariants.{Sum, Difference, Product}
 use Rattle.parts.specs.Products.{products_to, made_of}
-use Rattle.parts.specs.Part.{lowered, raised_at, coefficient_at, Ends, words_of, Within, Excess, Raises}
+use Rattle.wide.specs.Double.{double_of}
+use Rattle.parts.specs.Part.{lowered, raised_at, coefficient_at, Ends, Within, Excess, Raises}
 use Rattle.parts.proofs.Words.{within_turn}
 use Rattle.parts.proofs.Entries.{kept_at}
 use Rattle.parts.proofs.Degrees.{products_before, products_behind}
@@ -95,13 +96,13 @@ module _ (a b : List ℕ) (k : ℕ) where
 
   -- they are added up, 2^53 more; `sum` is that of all that were multiplied
   pub record Added (i : ℕ) (up : Double) (sum : ℕ) : Type 0 where
-    pub same : pos (words_of up) -ℤ pos (2 ^ 53 * sum) ≡ products i +ℤ pos (2 ^ 53)
-    pub up_small : Within (i + 1) (words_of up)
+    pub same : pos (double_of up) -ℤ pos (2 ^ 53 * sum) ≡ products i +ℤ pos (2 ^ 53)
+    pub up_small : Within (i + 1) (double_of up)
     pub sum_small : sum ≤ i * 2 ^ 55
 
   module _ (m n : ℕ) (A : Ends a m) (B : Ends b n) where
     pub added_none : (i : ℕ) → i ≡ k + 1 - n → Added i (record { hi = 0; lo = 2 ^ 53 }) 0
-    unfolding words_of Within
+    unfolding Within
     added_none i e =
         let none = products_before (coefficient_at a) (coefficient_at b) m n A.zeros B.zeros k i e in
         record {
@@ -117,15 +118,15 @@ module _ (a b : List ℕ) (k : ℕ) where
       abbrev q : ℕ
       q = get_or b (k - i) 0
 
-      pub added_turn : (s : ℕ) (up w : Double) → Added i up s → words_of w ≡ words_of up + p * q + 2 ^ 106 → Added (i + 1) w (s + (p + q))
+      pub added_turn : (s : ℕ) (up w : Double) → Added i up s → double_of w ≡ double_of up + p * q + 2 ^ 106 → Added (i + 1) w (s + (p + q))
       added_turn s up w h g =
           let p-small = read_small a m i A (omega arith) in
           let q-small = read_small b n (k - i) B (omega arith) in
           record {
-            same = ap (λ (v : ℕ). pos v -ℤ pos (2 ^ 53 * (s + (p + q)))) g ∙ turn_same (words_of up) s p q (2 ^ 53) (products i) h.same
+            same = ap (λ (v : ℕ). pos v -ℤ pos (2 ^ 53 * (s + (p + q)))) g ∙ turn_same (double_of up) s p q (2 ^ 53) (products i) h.same
                 ∙ ap₂ made (read_is a m i A (omega arith)) (read_is b n (k - i) B (omega arith))
                 ∙ ap (λ (j : ℕ). products j +ℤ pos (2 ^ 53)) (sym (add-one i));
-            up_small = within_turn i (words_of up) p q (words_of w) h.up_small p-small q-small g;
+            up_small = within_turn i (double_of up) p q (double_of w) h.up_small p-small q-small g;
             sum_small = omega (arith, h.sum_small);
           }
         where
@@ -133,7 +134,7 @@ module _ (a b : List ℕ) (k : ℕ) where
           made u v = (products i +ℤ lowered u *ℤ lowered v) +ℤ pos (2 ^ 53)
 
     pub product_raised : (i s down : ℕ) (up : Double) → i ≤ k + 1 → (i < k + 1 → m ≤ i) → Added i up s → down ≡ 2 ^ 53 * s → (r : ℕ)
-        → Excess (words_of up) down r → Raises (made_of Product (coefficient_at a) (coefficient_at b) k) r
+        → Excess (double_of up) down r → Raises (made_of Product (coefficient_at a) (coefficient_at b) k) r
     product_raised i s down up h g w d =
         let all = products_behind (coefficient_at a) (coefficient_at b) m n A.zeros B.zeros k i h g in
-        raised_by (words_of up) down _ (ap (λ (v : ℕ). pos (words_of up) -ℤ pos v) d ∙ w.same ∙ ap (λ (z : ℤ). z +ℤ pos (2 ^ 53)) (sym all))
+        raised_by (double_of up) down _ (ap (λ (v : ℕ). pos (double_of up) -ℤ pos v) d ∙ w.same ∙ ap (λ (z : ℤ). z +ℤ pos (2 ^ 53)) (sym all))

@@ -1,27 +1,12 @@
 -- Numbers of two words: one less another, and a product more.
 use mathlib.Core.Path.{◌≡◌}
-use mathlib.Core.Logic.{inl, inr, ⊎_elim}
-use Prim.Native.Nat.{ℕ, ◌+◌, ◌-◌, ◌*◌, ◌^◌, ◌≤◌, ◌<◌}
+use Prim.Native.Nat.{ℕ, ◌+◌, ◌*◌, ◌^◌, ◌≤◌, ◌<◌}
 use native.Mathlib.Nat.{le_trans, lt_of_le_of_lt, mul-le-mul, mul-le-mul_right}
 use native.Mathlib.Omega.{arith}
 use lib.Dec.{lit≤}
-use Rattle.algebra.specs.NatOrder.{le_or_lt}
 use Rattle.wide.specs.declared.Double.{Double}
-use Rattle.parts.specs.Part.{words_of, Within, Excess}
-
--- ---- a difference
-module _ (h l g k : ℕ) (L : l < 2 ^ 64) (K : k < 2 ^ 64) where
-  pub excess_plain : k ≤ l → h ≡ g → Excess (h * 2 ^ 64 + l) (g * 2 ^ 64 + k) (l - k)
-  excess_plain m e = inl (omega arith)
-
-  pub excess_apart : k ≤ l → (h ≡ g → ⊥) → Excess (h * 2 ^ 64 + l) (g * 2 ^ 64 + k) (2 ^ 54 + 1)
-  excess_apart m e = inr (lit≤ tt, ⊎_elim (λ (d : h ≤ g). inl (omega arith)) (λ (d : g < h). inr (omega arith)) (le_or_lt h g))
-
-  pub excess_borrow : l < k → h ≡ g + 1 → Excess (h * 2 ^ 64 + l) (g * 2 ^ 64 + k) (18446744073709551615 - k + l + 1)
-  excess_borrow m e = inl (omega arith)
-
-  pub excess_far : l < k → (h ≡ g + 1 → ⊥) → Excess (h * 2 ^ 64 + l) (g * 2 ^ 64 + k) (2 ^ 54 + 1)
-  excess_far m e = inr (lit≤ tt, ⊎_elim (λ (d : h ≤ g). inl (omega arith)) (λ (d : g < h). inr (omega arith)) (le_or_lt h g))
+use Rattle.wide.specs.Double.{double_of}
+use Rattle.parts.specs.Part.{Within}
 
 -- ---- a product
 product_small : (x y : ℕ) → x ≤ 2 ^ 54 → y ≤ 2 ^ 54 → x * y ≤ 2 ^ 108
@@ -30,8 +15,8 @@ product_small x y h g = mul-le-mul h g
 upper_small : (h l : ℕ) → h * 2 ^ 64 + l ≤ 2 ^ 112 → h ≤ 2 ^ 48
 upper_small h l e = omega arith
 
-pub upper_sum : (s p : Double) (x y : ℕ) → Within 8 (words_of s) → words_of p ≡ x * y → x ≤ 2 ^ 54 → y ≤ 2 ^ 54 → s.hi + p.hi < 2 ^ 50
-unfolding words_of Within
+pub upper_sum : (s p : Double) (x y : ℕ) → Within 8 (double_of s) → double_of p ≡ x * y → x ≤ 2 ^ 54 → y ≤ 2 ^ 54 → s.hi + p.hi < 2 ^ 50
+unfolding Within
 upper_sum s p x y w e a b =
     let first : s.hi ≤ 2 ^ 48 = upper_small s.hi s.lo w in
     let second : p.hi ≤ 2 ^ 48 = upper_small p.hi p.lo (omega (arith, product_small x y a b)) in

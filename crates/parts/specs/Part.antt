@@ -1,7 +1,6 @@
 -- What a part stands for, as code has it. Definitions only.
 use Rattle.std.specs.Prelude.{◌≡◌, cond, List, ◌⊎◌, ℕ, ◌+◌, ◌-◌, ◌*◌, ◌^◌, ◌≤◌, ◌<◌, eqb, length, get_or, ℤ, pos, nat_abs, ◌-ℤ◌}
 use Rattle.facts.specs.Arrays.{from_fn}
-use Rattle.wide.specs.declared.Double.{Double}
 use Rattle.parts.specs.declared.Part.{Part}
 use Rattle.parts.specs.declared.Coefficient.{Coefficient}
 use Rattle.parts.specs.Polynomial.{trimmed}
@@ -55,9 +54,6 @@ pub record Ends (l : List ℕ) (m : ℕ) : Type 0 where
   pub few : m ≤ 5
   pub small : Small l
   pub zeros : (k : ℕ) → m ≤ k → coefficient_at l k ≡ pos 0
-
-unfoldable pub words_of : Double → ℕ
-words_of d = d.hi * 2 ^ 64 + d.lo
 
 -- w is at most n times 2^109
 unfoldable pub Within : ℕ → ℕ → Type 0

@@ -2,11 +2,12 @@
 // It rests on `refusals` and `wide`; the readers of formulas rest on it.
 #![tactic(auto)]
 
-ghost use Rattle.std.specs.Prelude.{◌≡◌, [], ◌∷◌, ◌+◌, ◌-◌, ◌*◌, ◌^◌, ◌≤◌, ◌<◌, min, max, pos};
+ghost use Rattle.std.specs.Prelude.{◌≡◌, [], ◌∷◌, ◌+◌, ◌*◌, ◌^◌, ◌≤◌, ◌<◌, pos};
+ghost use Rattle.wide.specs.Double.{double_of};
 ghost use Rattle.parts.specs.declared.Operator.TheVariants.{Product};
 ghost use Rattle.parts.specs.Value.{exact, refused as refusedAs, limited, joined, power_of};
 ghost use Rattle.parts.specs.Products.{made_of, made_length, operator_of};
-ghost use Rattle.parts.specs.Part.{coefficient_at, polynomial_of, value_in, Sound, length_in, entry_of, Ends, words_of, Within, Excess, Raises};
+ghost use Rattle.parts.specs.Part.{coefficient_at, polynomial_of, value_in, Sound, length_in, entry_of, Ends, Within, Excess, Raises};
 
 use wide::Double;
 
@@ -18,21 +19,29 @@ const TWICE: u64 = 0x40_0000_0000_0000;
 
 // Coefficients of t^0 to t^4, each kept as 2^53 more than it is, so that none is below 0; or nothing but the number under which the part is refused,
 // where that is not 0.
-#[derive(Clone, Copy)]
+#[derive(Clone, Copy, PartialEq, Eq, Debug)]
 pub struct Part {
     pub number: u32,
     pub raised: [u64; 5],
 }
 
-#[derive(Clone, Copy)]
+#[derive(Clone, Copy, PartialEq, Eq, Debug)]
 pub enum Operator {
     Sum,
     Difference,
     Product,
 }
 
-// up - down.
+// The coefficients of a part, and how many there are up to the last that is no zero.
 #[derive(Clone, Copy)]
+struct Counted {
+    raised: [u64; 5],
+    len: usize,
+    ghost ends: { Ends raised len },
+}
+
+// up - down.
+#[derive(Clone, Copy, PartialEq, Eq, Debug)]
 pub struct Coefficient {
     pub up: u64,
     pub down: u64,
@@ -78,19 +87,10 @@ pub fn letter() -> Part
 pub fn entry(a: Part, k: usize) -> Coefficient
     ensures { result ≡ entry_of a k }
 {
-    if 5 <= k {
-        return Coefficient { up: 0, down: 0 };
-    }
-    let x = a.raised[k];
-    if x < MOST {
-        return Coefficient {
-            up: 0,
-            down: MOST - x,
-        };
-    }
+    let x = a.raised.get(k).copied().unwrap_or(MOST);
     Coefficient {
-        up: x - MOST,
-        down: 0,
+        up: x.saturating_sub(MOST),
+        down: MOST.saturating_sub(x),
     }
 }
 
@@ -100,151 +100,126 @@ pub fn len(a: Part) -> usize
     ensures value { result ≡ length_in a }
     ensures ends { Ends a.raised result }
 {
-    let mut n = 5;
-    while 0 < n {
-        if a.raised[n - 1] != MOST {
-            return n;
+    for i in (0..5).rev() {
+        if a.raised[i] != MOST {
+            return i + 1;
         }
-        n -= 1;
     }
     0
 }
 
+impl Counted {
+    fn of(a: Part) -> Counted
+        requires { Sound a }
+        ensures raised { result.raised ≡ a.raised }
+        ensures len { result.len ≡ length_in a }
+    {
+        let raised = a.raised;
+        let len = len(a);
+        Counted { raised, len }
+    }
+}
+
 // ---- what is made of two coefficients
 
-// A number of two words less another.
-fn excess(a_hi: u64, a_lo: u64, b_hi: u64, b_lo: u64) -> u64
-    requires { b_hi < 2 ^ 63 }
-    ensures { Excess (a_hi * 2 ^ 64 + a_lo) (b_hi * 2 ^ 64 + b_lo) result }
+// a - b.
+fn excess(a: Double, b: Double) -> u64
+    requires { b.hi < 2 ^ 63 }
+    ensures { Excess (double_of a) (double_of b) result }
 {
-    if b_lo <= a_lo {
-        if a_hi == b_hi {
-            return a_lo - b_lo;
+    if b.lo <= a.lo {
+        if a.hi == b.hi {
+            return a.lo - b.lo;
         }
         return TWICE + 1;
     }
-    if a_hi == b_hi + 1 {
-        return 0xffff_ffff_ffff_ffff - b_lo + a_lo + 1;
+    if a.hi == b.hi + 1 {
+        return 0xffff_ffff_ffff_ffff - b.lo + a.lo + 1;
     }
     TWICE + 1
 }
 
 // s + x y + 2^106. The product of two coefficients, (x - 2^53) (y - 2^53), is x y + 2^106 less 2^53 (x + y).
 fn with_product(s: Double, x: u64, y: u64) -> Double
-    requires within { Within 8 (words_of s) }
+    requires within { Within 8 (double_of s) }
     requires digits_high { (x ≤ 2 ^ 54) × (y ≤ 2 ^ 54) }
-    ensures { words_of result ≡ words_of s + x * y + 2 ^ 106 }
+    ensures { double_of result ≡ double_of s + x * y + 2 ^ 106 }
 {
     let p = wide::mul(x, y);
-    wide::add(s.hi + p.hi + 0x400_0000_0000, s.lo, p.lo)
+    let upper = Double {
+        hi: s.hi + p.hi + 0x400_0000_0000,
+        lo: s.lo,
+    };
+    wide::add(upper, p.lo)
 }
 
 // The products for t^k are those of t^i and t^(k - i): where there are m coefficients and n, from the first i with k - i < n up to the last with i < m.
-fn first(k: usize, n: usize) -> usize
+fn product_at(a: &Counted, b: &Counted, k: usize) -> u64
     requires { k < 5 }
-    ensures { result ≡ k + 1 - n }
-{
-    if k < n {
-        return 0;
-    }
-    k + 1 - n
-}
-
-fn past(k: usize, m: usize) -> usize
-    requires { k < 5 }
-    ensures { result ≡ min (k + 1) m }
-{
-    if k < m {
-        return k + 1;
-    }
-    m
-}
-
-fn product_at(a: &[u64; 5], b: &[u64; 5], m: usize, n: usize, k: usize) -> u64
-    requires a_ends { Ends a.now m }
-    requires b_ends { Ends b.now n }
-    requires k_high { k < 5 }
-    ensures { Raises (made_of Product (coefficient_at a.now) (coefficient_at b.now) k) result }
+    ensures { Raises (made_of Product (coefficient_at a.now.raised) (coefficient_at b.now.raised) k) result }
 {
     let mut up = Double { hi: 0, lo: MOST };
     let mut sum: u64 = 0;
-    let mut i = first(k, n);
-    let end = past(k, m);
-    while i < end {
-        let x = a[i];
-        let y = b[k - i];
+    for i in (k + 1).saturating_sub(b.len)..(k + 1).min(a.len) {
+        let x = a.raised[i];
+        let y = b.raised[k - i];
         up = with_product(up, x, y);
         sum += x + y;
-        i += 1;
     }
-    let down = wide::mul(MOST, sum);
-    excess(up.hi, up.lo, down.hi, down.lo)
+    excess(up, wide::mul(MOST, sum))
 }
 
-fn made_at(op: Operator, a: &[u64; 5], b: &[u64; 5], m: usize, n: usize, k: usize) -> u64
-    requires a_ends { Ends a.now m }
-    requires b_ends { Ends b.now n }
-    requires k_high { k < 5 }
-    ensures { Raises (made_of op (coefficient_at a.now) (coefficient_at b.now) k) result }
-{
-    match op {
-        Operator::Sum => excess(0, a[k] + b[k], 0, MOST),
-        Operator::Difference => excess(0, a[k] + MOST, 0, b[k]),
-        Operator::Product => product_at(a, b, m, n, k),
+impl Operator {
+    // The coefficient of t^k.
+    fn at(self, a: &Counted, b: &Counted, k: usize) -> u64
+        requires { k < 5 }
+        ensures { Raises (made_of self (coefficient_at a.now.raised) (coefficient_at b.now.raised) k) result }
+    {
+        let x = a.raised[k];
+        let y = b.raised[k];
+        match self {
+            Operator::Sum => excess(Double { hi: 0, lo: x + y }, Double { hi: 0, lo: MOST }),
+            Operator::Difference => excess(
+                Double {
+                    hi: 0,
+                    lo: x + MOST,
+                },
+                Double { hi: 0, lo: y },
+            ),
+            Operator::Product => product_at(a, b, k),
+        }
+    }
+
+    // How many coefficients there can be.
+    fn len(self, m: usize, n: usize) -> usize
+        requires { (m ≤ 5) × (n ≤ 5) }
+        ensures { result ≡ made_length self m n }
+    {
+        match self {
+            Operator::Sum | Operator::Difference => m.max(n),
+            Operator::Product => (m + n).saturating_sub(1),
+        }
     }
 }
 
 // ---- joins
 
-fn larger(m: usize, n: usize) -> usize
-    ensures { result ≡ max m n }
-{
-    if m < n {
-        return n;
-    }
-    m
-}
-
-fn one_less(n: usize) -> usize
-    ensures { result ≡ n - 1 }
-{
-    if n == 0 {
-        return 0;
-    }
-    n - 1
-}
-
-fn made_len(op: Operator, m: usize, n: usize) -> usize
-    requires { (m ≤ 5) × (n ≤ 5) }
-    ensures { result ≡ made_length op m n }
-{
-    match op {
-        Operator::Sum => larger(m, n),
-        Operator::Difference => larger(m, n),
-        Operator::Product => one_less(m + n),
-    }
-}
-
 // What is made where its degree is at most 4.
-fn made(op: Operator, a: &[u64; 5], b: &[u64; 5], m: usize, n: usize, end: usize) -> Part
-    requires a_ends { Ends a.now m }
-    requires b_ends { Ends b.now n }
-    requires end_is { (end ≡ made_length op m n) × (end ≤ 5) }
-    ensures value { value_in result ≡ limited (operator_of op (polynomial_of a.now) (polynomial_of b.now)) }
+fn made(op: Operator, a: &Counted, b: &Counted, end: usize) -> Part
+    requires { (end ≡ made_length op a.now.len b.now.len) × (end ≤ 5) }
+    ensures value { value_in result ≡ limited (operator_of op (polynomial_of a.now.raised) (polynomial_of b.now.raised)) }
     ensures sound { Sound result }
 {
     let mut r = Part {
         number: 0,
         raised: [MOST; 5],
     };
-    let mut k = 0;
-    while k < end {
-        let c = made_at(op, a, b, m, n, k);
+    for k in 0..end {
+        let c = op.at(a, b, k);
         if TWICE < c {
             return refused(refusals::COEFFICIENT_TOO_LARGE);
         }
         r.raised[k] = c;
-        k += 1;
     }
     r
 }
@@ -263,15 +238,13 @@ pub fn join(op: Operator, a: Part, b: Part) -> Part
     if b.number != 0 {
         return b;
     }
-    let m = len(a);
-    let n = len(b);
-    let end = made_len(op, m, n);
+    let x = Counted::of(a);
+    let y = Counted::of(b);
+    let end = op.len(x.len, y.len);
     if 5 < end {
         return refused(refusals::DEGREE_TOO_HIGH);
     }
-    let x = a.raised;
-    let y = b.raised;
-    made(op, &x, &y, m, n, end)
+    made(op, &x, &y, end)
 }
 
 // Repeated products from 1.
@@ -284,10 +257,8 @@ pub fn power(a: Part, d: u64) -> Part
         return a;
     }
     let mut r = number(1);
-    let mut i = 0;
-    while i < d {
+    for _ in 0..d {
         r = join(Operator::Product, r, a);
-        i += 1;
     }
     r
 }

@@ -2,37 +2,36 @@
 // `facts`; `finish` and the polishing theorem rest on it.
 #![tactic(auto)]
 
-ghost use Rattle.std.specs.Prelude.{◌≡◌, ◌≤◌};
+ghost use Rattle.std.specs.Prelude.{◌≡◌};
 ghost use Rattle.polish.specs.Polish.{is_long_of, is_small_of, polish_of};
+
+use horner::Polynomial;
 
 // 2^-52
 const EPSILON: f64 = 2.220446049250313e-16;
 
 // The step is beyond a quarter of the gap, or is a NaN.
+#[tactic(auto, unfolding(crate::specs::Polish::is_long_of))]
 fn is_long(step: f64, gap: f64) -> bool
     ensures { result ≡ is_long_of step gap }
 {
-    if float::abs(step) > 0.25 * gap {
-        return true;
-    }
-    float::is_nan(step)
+    float::abs(step) > 0.25 * gap || float::is_nan(step)
 }
 
 // The step is within rounding of y.
+#[tactic(auto, unfolding(crate::specs::Polish::is_small_of))]
 fn is_small(step: f64, y: f64) -> bool
     ensures { result ≡ is_small_of step y }
 {
     float::abs(step) <= EPSILON * float::abs(y)
 }
 
-pub fn polish(f: [f64; 5], d: usize, y0: f64, gap: f64) -> f64
-    requires { d ≤ 4 }
-    ensures { result ≡ polish_of 4 f d gap y0 }
+pub fn polish(p: Polynomial, y0: f64, gap: f64) -> f64
+    ensures { result ≡ polish_of 4 p.f p.d gap y0 }
 {
     let mut y = y0;
-    let mut at = horner::value_slope_compensated(f, d, y);
-    let mut k: usize = 0;
-    while k < 4 {
+    let mut at = p.value_slope_compensated(y);
+    for k in 0..4usize {
         if refine::flat(at.value, at.slope) {
             return y;
         }
@@ -44,7 +43,7 @@ pub fn polish(f: [f64; 5], d: usize, y0: f64, gap: f64) -> f64
         if next == y {
             return y;
         }
-        let there = horner::value_slope_compensated(f, d, next);
+        let there = p.value_slope_compensated(next);
         if refine::no_gain(at.value, there.value) {
             return y;
         }
@@ -53,7 +52,6 @@ pub fn polish(f: [f64; 5], d: usize, y0: f64, gap: f64) -> f64
         }
         y = next;
         at = there;
-        k += 1;
     }
     y
 }

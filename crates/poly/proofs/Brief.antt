@@ -15,7 +15,7 @@ use Rattle.float.specs.Methods.{is_finite_of}
 use Rattle.scaled.specs.declared.Scaled.{Scaled}
 use Rattle.scaled.specs.Scaled.{scaled_of, log_sizes_of, with_logs_of}
 use Rattle.split.specs.Hull.{hull_of, hull_step}
-use Rattle.split.specs.declared.Split.TheVariants.{None}
+use Rattle.std.specs.Prelude.{None}
 use Rattle.split.specs.Gap.{split_from, magnitude_split_of}
 use Rattle.factors.specs.declared.Factors.{Factors}
 use Rattle.factorize.specs.Factorize.{out_of, second_of, factors_from, factorize_of}
@@ -27,7 +27,6 @@ use Rattle.critical.specs.Critical.{critical_point_of}
 use Rattle.push.specs.Quadratic.{quadratic_roots_of, push_quadratic_of}
 use Rattle.finish.specs.Finish.{ordered_of, polished_at, polished_of, is_near_of, join_of, joined_from, joined_of, finish_of}
 use Rattle.level.specs.Level.{NoGap}
-use Rattle.poly.specs.declared.Solved.{Solved}
 use Rattle.poly.specs.Brief.{Enough, other_logs, relogged, ButLogs}
 use Rattle.poly.specs.Solve.{candidates_of, finished_of}
 

@@ -2,14 +2,14 @@
 use mathlib.Core.Path.{◌≡◌, refl, sym, ap, ◌∙◌, subst}
 use mathlib.Core.Bool.{Bool, true, false, cond}
 use mathlib.Core.List.{List, [], ◌∷◌}
-use Prim.Native.Nat.{ℕ, zero, suc, ◌+◌, ◌-◌, ◌≤◌, ◌<◌}
-use native.Mathlib.Numerals.{add-one}
+use Prim.Native.Nat.{ℕ, zero, suc, ◌-◌, ◌≤◌, ◌<◌}
 use native.Mathlib.Omega.{arith}
 use borrow.Author.Tests.{leb-true, leb-false}
 use lib.Dec.{leb}
-use lib.ListN.{length, drop, get_or, drop_of_length-le}
-use lib.Seq.{drop-cons}
+use lib.ListN.{length, get_or}
 use lib.Ieee.{Float, nan, eq}
+use Rattle.std.specs.List.{prefix_len}
+use Rattle.std.proofs.Common.{one-add}
 use Rattle.facts.specs.Cond.{either_way}
 use Rattle.float.specs.Literals.{zero64}
 use Rattle.poly.specs.Coefficients.{trimmed_from, trimmed_of, zeros_of, refusal_by}
@@ -32,19 +32,13 @@ unfolding trimmed_from
 trim_end s n h = let e : n ≡ 0 = omega arith in ap (λ (k : ℕ). trimmed_from s k) e
 
 -- ---- leading zeros
-zeros_turn : (s : List Float) (i : ℕ) → i < length s → zeros_of (drop i s) ≡ cond (eq (get_or s i nan) zero64) (suc (zeros_of (drop (i + 1) s))) 0
+abbrev pub is_zero : Float → Bool
+is_zero c = eq c zero64
+
+pub zeros_prefix : (s : List Float) → prefix_len is_zero s ≡ zeros_of s
 unfolding zeros_of
-zeros_turn s i h = rw (add-one, drop-cons s i nan)
-
-pub zeros_go : (s : List Float) (i : ℕ) → i < length s → eq (get_or s i nan) zero64 ≡ true → i + zeros_of (drop i s) ≡ i + 1 + zeros_of (drop (i + 1) s)
-zeros_go s i h t = let e : zeros_of (drop i s) ≡ suc (zeros_of (drop (i + 1) s)) = zeros_turn s i h ∙ simp t in omega arith
-
-pub zeros_stop : (s : List Float) (i : ℕ) → i < length s → eq (get_or s i nan) zero64 ≡ false → i + zeros_of (drop i s) ≡ i
-zeros_stop s i h t = let e : zeros_of (drop i s) ≡ 0 = zeros_turn s i h ∙ simp t in omega arith
-
-pub zeros_end : (s : List Float) (i : ℕ) → length s ≤ i → i + zeros_of (drop i s) ≡ i
-unfolding zeros_of
-zeros_end s i h = let e : zeros_of (drop i s) ≡ 0 = ap zeros_of (drop_of_length-le s {i = i} h) in omega arith
+zeros_prefix [] = refl
+zeros_prefix (c ∷ s) = ap (λ (n : ℕ). cond (eq c zero64) n 0) (one-add (prefix_len is_zero s) ∙ ap (λ (n : ℕ). suc n) (zeros_prefix s))
 
 -- ---- the last one left is no zero, so fewer zeros than are left come first
 pub last_left : (s : List Float) (m : ℕ) → 0 < trimmed_from s m → eq (get_or s (trimmed_from s m - 1) nan) zero64 ≡ false

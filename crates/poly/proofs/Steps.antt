@@ -20,7 +20,7 @@ use Rattle.finish.specs.Finish.{finish_of}
 use Rattle.poly.specs.declared.Solved.{Solved}
 use Rattle.poly.specs.Coefficients.{trimmed_of, zeros_of, refusal_by, middle_of, poly_of}
 use Rattle.poly.specs.Solve.{candidates_of, finished_of, refused_by, solve_of}
-use Rattle.poly.specs.Brief.{Enough, relogged, ButLogs}
+use Rattle.poly.specs.Brief.{Enough, ButLogs}
 use Rattle.poly.specs.RealRoots.{unscaled_all, answer_of, real_roots_of}
 use Rattle.poly.proofs.Brief.{brief_solved}
 

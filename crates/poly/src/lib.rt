@@ -9,11 +9,13 @@ ghost use Rattle.factorize.specs.Discs.{rooted_of};
 ghost use Rattle.roots.specs.Roots.{roots_of, list_of};
 ghost use Rattle.push.specs.Quadratic.{found_of};
 ghost use Rattle.roots.specs.Listed.{Within};
-ghost use Rattle.poly.specs.Coefficients.{trimmed_of, degree_left, zeros_of, refusal_by, middle_at, middle_of};
+ghost use Rattle.poly.specs.Coefficients.{trimmed_of, degree_left, zeros_of, refusal_by, middle_of};
 ghost use Rattle.poly.specs.Solve.{zero_roots_of, candidates_of, finished_of, refused_by, solve_of};
-ghost use Rattle.poly.specs.Found.{turn_at, with_lin_in, with_quad_in, unscaled_in};
+ghost use Rattle.poly.specs.Found.{with_lin_in, with_quad_in};
 ghost use Rattle.poly.specs.Brief.{Enough, ButLogs};
 ghost use Rattle.poly.specs.RealRoots.{unscaled_all, real_roots_of};
+
+use horner::Polynomial;
 
 // What Scaled::solve and finish give: the scaled polynomial, the tolerance, its finished roots and its complex pairs. On a refusal the number alone, and zeros.
 #[derive(Clone, Copy)]
@@ -36,12 +38,9 @@ pub struct Answer {
 fn trimmed(coeffs: &[f64]) -> usize
     ensures { (result ≡ trimmed_of coeffs.now) × (result ≤ length coeffs.now) }
 {
-    let mut n = coeffs.len();
-    while n > 0 {
-        if coeffs[n - 1] == 0.0 {
-            n -= 1;
-        } else {
-            return n;
+    for i in (0..coeffs.len()).rev() {
+        if coeffs[i] != 0.0 {
+            return i + 1;
         }
     }
     0
@@ -51,15 +50,7 @@ fn trimmed(coeffs: &[f64]) -> usize
 fn leading_zeros(coeffs: &[f64]) -> usize
     ensures { result ≡ zeros_of coeffs.now }
 {
-    let mut i = 0;
-    while i < coeffs.len() {
-        if coeffs[i] == 0.0 {
-            i += 1;
-        } else {
-            return i;
-        }
-    }
-    i
+    coeffs.iter().take_while(|&&c| c == 0.0).count()
 }
 
 // The number of the refusal, and 0 where there is none.
@@ -78,28 +69,12 @@ fn refusal(finite: bool, n: usize) -> u32
     refusals::NOT_FINITE
 }
 
-fn middle_at(coeffs: &[f64], from: usize, to: usize, i: usize) -> f64
-    requires { (from ≤ to) × (to ≤ length coeffs.now) }
-    ensures { result ≡ middle_at coeffs.now from to i }
-{
-    if i < to - from {
-        return coeffs[from + i];
-    }
-    0.0
-}
-
 // The coefficients in from..to, zeros after them.
 fn middle(coeffs: &[f64], from: usize, to: usize) -> [f64; 5]
     requires { (from ≤ to) × (to ≤ length coeffs.now) }
     ensures { result ≡ middle_of coeffs.now from to }
 {
-    [
-        middle_at(coeffs, from, to, 0),
-        middle_at(coeffs, from, to, 1),
-        middle_at(coeffs, from, to, 2),
-        middle_at(coeffs, from, to, 3),
-        middle_at(coeffs, from, to, 4),
-    ]
+    std::array::from_fn(|i| if i < to - from { coeffs[from + i] } else { 0.0 })
 }
 
 // The leading zeros are one root.
@@ -114,26 +89,16 @@ fn zero_roots(zeros: usize) -> roots::Roots
     none
 }
 
-// The root of the linear factor k, where it counts.
-fn with_lin(f: factors::Factors, k: usize, s: roots::Roots) -> roots::Roots
-    requires { k < 4 }
-    ensures { result ≡ turn_at f.nlin (with_lin_in f) k s }
-{
-    if k < f.nlin {
-        return s.keep(f.lin[k], 1);
-    }
-    s
-}
-
 // The candidates with the roots of the linear factors.
 fn with_lins(f: factors::Factors, start: roots::Roots) -> roots::Roots
     requires { f.nlin ≤ 4 }
     ensures { result ≡ count_up f.nlin (with_lin_in f) f.nlin start }
 {
-    let one = with_lin(f, 0, start);
-    let two = with_lin(f, 1, one);
-    let three = with_lin(f, 2, two);
-    with_lin(f, 3, three)
+    let mut s = start;
+    for i in 0..f.nlin {
+        s = s.keep(f.lin[i], 1);
+    }
+    s
 }
 
 // The same of the quadratic ones, and the pairs.
@@ -147,19 +112,12 @@ fn with_quads(
     requires rooted { (r.f.nquad ≤ 2) × (r ≡ rooted_of r.f) }
     ensures { result ≡ count_up r.f.nquad (with_quad_in poly r.f tol) r.f.nquad start }
 {
-    let f = r.f;
-    if f.nquad < 1 {
-        return start;
+    let mut s = start;
+    for i in 0..r.f.nquad {
+        let q = r.f.quad[i];
+        s = push::push_rooted(poly, q.al, q.be, r.disc[i], tol, s);
     }
-    let q = f.quad[0];
-    let d = r.disc[0];
-    let one = push::push_rooted(poly, q.al, q.be, d, tol, start.roots, start.pairs);
-    if f.nquad < 2 {
-        return one;
-    }
-    let p = f.quad[1];
-    let c = r.disc[1];
-    push::push_rooted(poly, p.al, p.be, c, tol, one.roots, one.pairs)
+    s
 }
 
 fn candidates(poly: scaled::Scaled, zeros: usize, tol: f64) -> push::Found
@@ -212,17 +170,16 @@ fn refused(number: u32) -> Solved
 }
 
 // The degree whose logarithms are taken: d, or 0 where they are not all asked for and a level list needs none.
-fn logs(a: [f64; 5], d: usize, all: bool) -> usize
-    requires { d ≤ 4 }
-    ensures { (result ≤ 4) × (all ≡ true → result ≡ d) × Enough a d result }
+fn logs(p: Polynomial, all: bool) -> usize
+    ensures { (result ≤ 4) × (all ≡ true → result ≡ p.d) × Enough p.f p.d result }
 {
     if all {
-        return d;
+        return p.d;
     }
-    if level::level(a, d) {
+    if level::level(p) {
         return 0;
     }
-    d
+    p.d
 }
 
 // Solved with all logarithms, or with those that factoring needs.
@@ -237,7 +194,8 @@ fn solve_by(coeffs: &[f64], tol: f64, all: bool) -> Solved
     let zeros = leading_zeros(coeffs);
     let a = middle(coeffs, zeros, n);
     let d = n - zeros - 1;
-    let poly = scaled::Scaled::with_logs(a, d, logs(a, d, all));
+    let p = Polynomial { f: a, d };
+    let poly = scaled::Scaled::with_logs(p, logs(p, all));
     finished(poly, zeros, float::max(tol, 0.0))
 }
 
@@ -254,27 +212,17 @@ pub fn solve_brief(coeffs: &[f64], tol: f64) -> Solved
     solve_by(coeffs, tol, false)
 }
 
-// Root k in x = y * 2^e, where it counts and is finite.
-fn unscaled_at(s: roots::Roots, e: i32, k: usize, out: roots::Roots) -> roots::Roots
-    requires { k < 4 }
-    ensures { result ≡ turn_at s.len (unscaled_in e s) k out }
-{
-    if k < s.len {
-        let r = s.root[k];
-        return out.keep(ldexp::ldexp(r.value, e), r.multiplicity);
-    }
-    out
-}
-
+// The roots in x = y * 2^e that are finite.
 fn unscaled_all(s: roots::Roots, e: i32) -> roots::Roots
     requires { s.len ≤ 4 }
     ensures { result ≡ roots_of (unscaled_all e (list_of s)) }
 {
-    let none = roots::Roots::none();
-    let one = unscaled_at(s, e, 0, none);
-    let two = unscaled_at(s, e, 1, one);
-    let three = unscaled_at(s, e, 2, two);
-    unscaled_at(s, e, 3, three)
+    let mut out = roots::Roots::none();
+    for i in 0..s.len {
+        let r = s.root[i];
+        out = out.keep(ldexp::ldexp(r.value, e), r.multiplicity);
+    }
+    out
 }
 
 // Demand 1 holds of the answer: at most four finite roots, each counting at least once, together at most the degree left.

@@ -1,3 +1,4 @@
+pub mod Answers
 -- What the proofs of several functions use.
 pub mod Listing
 pub mod Feeding

@@ -26,11 +26,12 @@ use Rattle.inquiry.proofs.Questions.{reply_taken, reply_refused}
 use Rattle.inquiry.proofs.Shown.{seen_fits}
 use Rattle.inquiry.proofs.Short.{short_starts}
 use Rattle.inquiry.proofs.Theorem.{Has, has_seen, has_asked, has_more, start_has, start_room}
+use Rattle.trig_quartic.specs.declared.TrigEquation.{TrigEquation}
 use Rattle.trig_quartic.specs.declared.Crank.{Crank}
 use Rattle.trig_quartic.specs.Crank.{crank_front_of}
 use Rattle.crank.specs.declared.CrankReplied.{CrankReplied}
 use Rattle.crank.specs.declared.CrankShown.{CrankShown}
-use Rattle.crank.specs.Crank.{crank_start_of, crank_asked_of, crank_replied_of, crank_shown_of}
+use Rattle.crank.specs.Crank.{front_in, crank_start_of, crank_asked_of, crank_replied_of, crank_shown_of}
 use Rattle.lent_bytes.specs.Numbers.{number}
 use Rattle.pongewaru.specs.Inquiries.{reply_at, each_reply, fresh, next, fed_all, inquiry_numbers, no_replies, first_replies, seen_numbers}
 use Rattle.pongewaru.specs.Cranks.{next_crank, crank_numbers, shown_after, crank_shown_numbers}
@@ -134,19 +135,19 @@ unfolding each_reply crank_replied_of
 crank_fed_is k [] p = refl
 crank_fed_is k (b ∷ rs) p = crank_fed_is k rs (next p (reply_at b))
 
-module _ (confusion a2 b2 c1 d1 e : Float) (rs : List ℕ) (s : CrankShown) (is : s ≡ crank_shown_of confusion a2 b2 c1 d1 e (first_replies rs)) where
+module _ (confusion : Float) (trig : TrigEquation) (rs : List ℕ) (s : CrankShown) (is : s ≡ crank_shown_of confusion trig (first_replies rs)) where
   abbrev front : Crank
-  front = crank_front_of a2 b2 c1 d1 e
+  front = front_in (crank_front_of trig)
 
   pub crank_fits : Fits s.seen.asked.list
   unfolding crank_shown_of
   crank_fits = subst⁻¹ (λ (t : CrankShown). Fits t.seen.asked.list) is (seen_fits _)
 
-  pub crank_number : s.number ≡ (crank_start_of confusion a2 b2 c1 d1 e).number
+  pub crank_number : s.number ≡ (crank_start_of confusion trig).number
   unfolding crank_shown_of
   crank_number = ap (λ (t : CrankShown). t.number) is
 
-  pub crank_numbers_are : crank_shown_numbers s ≡ shown_after rs (crank_start_of confusion a2 b2 c1 d1 e)
+  pub crank_numbers_are : crank_shown_numbers s ≡ shown_after rs (crank_start_of confusion trig)
   unfolding crank_start_of crank_shown_of shown_after_of crank_numbers crank_asked_of inquiry_numbers
   crank_numbers_are =
       ap crank_shown_numbers is

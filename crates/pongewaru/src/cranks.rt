@@ -5,19 +5,22 @@ ghost use Rattle.std.specs.Prelude.{◌≡◌};
 ghost use Rattle.crank.specs.Crank.{crank_start_of};
 ghost use Rattle.lent_bytes.specs.Bytes.{Answered};
 ghost use Rattle.roots.specs.Listed.{Fits};
+ghost use Rattle.pongewaru.specs.Quadratics.{trig_of};
 ghost use Rattle.pongewaru.specs.Cranks.{crank_shown_numbers, shown_after};
 
 use crate::inquiries::{first_replies, seen_numbers};
 use crank::CrankShown;
 use lent_bytes::answer;
+use trig_quartic::TrigEquation;
 
 fn crank_shown_numbers(s: CrankShown) -> [f64; 17]
     requires { Fits s.seen.asked.list }
     ensures { result ≡ crank_shown_numbers s }
 {
+    let k = f64::from(s.k);
     let shown = seen_numbers(s.seen);
     [
-        s.k as f64, shown[0], shown[1], shown[2], shown[3], shown[4], shown[5], shown[6], shown[7],
+        k, shown[0], shown[1], shown[2], shown[3], shown[4], shown[5], shown[6], shown[7],
         shown[8], shown[9], shown[10], shown[11], shown[12], shown[13], shown[14], shown[15],
     ]
 }
@@ -33,9 +36,10 @@ pub extern "C" fn pongewaru_crank_inquire(
     replies: &[u8],
     out: &mut [u8],
 ) -> u64
-    ensures { Answered (crank_start_of confusion a2 b2 c1 d1 e).number
-        (shown_after replies.now (crank_start_of confusion a2 b2 c1 d1 e)) out.old result out.new }
+    ensures { Answered (crank_start_of confusion (trig_of a2 b2 c1 d1 e)).number
+        (shown_after replies.now (crank_start_of confusion (trig_of a2 b2 c1 d1 e))) out.old result out.new }
 {
-    let s = crank::shown_after(confusion, a2, b2, c1, d1, e, first_replies(replies));
+    let trig = TrigEquation { a2, b2, c1, d1, e };
+    let s = crank::shown_after(confusion, trig, first_replies(replies));
     answer(out, s.number, &crank_shown_numbers(s))
 }

@@ -23,18 +23,14 @@ pub fn first_replies(replies: &[u8]) -> Replies
         reply: [false; 4],
         count: 0,
     };
-    let mut i = 0;
-    while i < 4 {
-        if replies.len() <= i {
-            return first;
-        }
+    for i in 0..replies.len().min(4) {
         first = first.with(replies[i] != 0);
-        i += 1;
     }
     first
 }
 
-// The last reply's number, whether there is a question, its place, and the list.
+// The last reply's number, whether there is a question, its place, and the list. Place by place: of two arrays joined by `array::from_fn`, over their sizes,
+// the proof did not close, since what a call of the closure gives was not found.
 fn shown_numbers(number: u32, asks: bool, place: f64, list: Roots) -> [f64; 16]
     requires { Fits list }
     ensures { result ≡ shown_numbers number asks place list }

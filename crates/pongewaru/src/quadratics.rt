@@ -5,27 +5,30 @@ ghost use Rattle.std.specs.Prelude.{◌≡◌};
 ghost use Rattle.solution.specs.Solution.{shifted_of, touching_at_of};
 ghost use Rattle.equation.specs.Quadratic.{quadratic_centre_of, solve_quadratic_of, quadratic_of};
 ghost use Rattle.trig_quartic.specs.Crank.{crank_front_of};
-ghost use Rattle.lent_bytes.specs.Bytes.{Answered, Stored};
-ghost use Rattle.pongewaru.specs.Quadratics.{solution_of, solution_numbers, front_numbers};
+ghost use Rattle.lent_bytes.specs.Bytes.{Stored};
+ghost use Rattle.pongewaru.specs.Answers.{AnsweredBy};
+ghost use Rattle.pongewaru.specs.Quadratics.{solution_of, solution_numbers, trig_of, front_numbers};
 ghost use Rattle.pongewaru.specs.Inquiries.{reply_at};
 
-use lent_bytes::{answer, store};
+use lent_bytes::store;
 use solution::QuadraticSolution;
+use trig_quartic::{TrigEquation, crank_front};
 
+// (No From here nor below: the trait and the types are of other crates, so that it would take a type of its own.)
 fn solution_numbers(s: QuadraticSolution) -> [f64; 3]
     ensures { result ≡ solution_numbers s }
 {
-    let none = 0.0 / 0.0;
     match s {
         QuadraticSolution::Two(x, y) => [0.0, x, y],
-        QuadraticSolution::One(x) => [1.0, x, none],
-        QuadraticSolution::Linear(x) => [2.0, x, none],
-        QuadraticSolution::Degenerate => [3.0, none, none],
-        QuadraticSolution::Empty => [4.0, none, none],
+        QuadraticSolution::One(x) => [1.0, x, f64::NAN],
+        QuadraticSolution::Linear(x) => [2.0, x, f64::NAN],
+        QuadraticSolution::Degenerate => [3.0, f64::NAN, f64::NAN],
+        QuadraticSolution::Empty => [4.0, f64::NAN, f64::NAN],
     }
 }
 
 #[unsafe(no_mangle)]
+#[tactic(auto, using(crate::proofs::Answers::stored, crate::proofs::Answers::refused))]
 pub extern "C" fn pongewaru_quadratic(
     a: f64,
     b: f64,
@@ -34,12 +37,12 @@ pub extern "C" fn pongewaru_quadratic(
     angular: f64,
     out: &mut [u8],
 ) -> u64
-    ensures { Answered (quadratic_of a b c confusion angular).number
-        (solution_numbers (quadratic_of a b c confusion angular).solution) out.old result out.new }
+    ensures { AnsweredBy solution_numbers (quadratic_of a b c confusion angular) out.old result out.new }
 {
-    let x = equation::quadratic(a, b, c, confusion, angular);
-    let s = x.solution;
-    answer(out, x.number, &solution_numbers(s))
+    match equation::quadratic(a, b, c, confusion, angular) {
+        Ok(s) => store(out, &solution_numbers(s)),
+        Err(refusal) => u32::from(refusal) as u64,
+    }
 }
 
 #[unsafe(no_mangle)]
@@ -103,6 +106,7 @@ pub extern "C" fn pongewaru_touching_at(
 
 // k, and the quartic's coefficients, ascending.
 #[unsafe(no_mangle)]
+#[tactic(auto, using(crate::proofs::Answers::stored, crate::proofs::Answers::refused))]
 pub extern "C" fn pongewaru_crank_front(
     a2: f64,
     b2: f64,
@@ -111,9 +115,13 @@ pub extern "C" fn pongewaru_crank_front(
     e: f64,
     out: &mut [u8],
 ) -> u64
-    ensures { Answered (crank_front_of a2 b2 c1 d1 e).number (front_numbers (crank_front_of a2 b2 c1 d1 e)) out.old result out.new }
+    ensures { AnsweredBy front_numbers (crank_front_of (trig_of a2 b2 c1 d1 e)) out.old result out.new }
 {
-    let x = trig_quartic::crank_front(a2, b2, c1, d1, e);
-    let q = x.q;
-    answer(out, x.number, &[x.k as f64, q[0], q[1], q[2], q[3], q[4]])
+    match crank_front(TrigEquation { a2, b2, c1, d1, e }) {
+        Ok(front) => {
+            let q = front.q;
+            store(out, &[f64::from(front.k), q[0], q[1], q[2], q[3], q[4]])
+        }
+        Err(refusal) => u32::from(refusal) as u64,
+    }
 }

@@ -5,13 +5,14 @@ use lib.Ieee.{Float, binary64, mul, div, neg, lt, le}
 use Rattle.float.specs.Literals.{zero64, half64}
 use Rattle.horner.specs.Product.{discriminant_of}
 use Rattle.isolated.specs.declared.Disc.{Disc}
-use Rattle.isolated.specs.Isolated.{far_root_of, disc_of, far_by}
+use Rattle.isolated.specs.Isolated.{disc_of, far_by}
 use Rattle.isolated.proofs.Laws.{far_is}
 use Rattle.scaled.specs.declared.Scaled.{Scaled}
 use Rattle.roots.specs.declared.Roots.{Roots}
 use Rattle.roots.specs.declared.Pairs.{Pairs}
 use Rattle.roots.specs.Roots.{pair}
-use Rattle.band.specs.Band.{noise_of, band_of, within_band_of}
+use Rattle.horner.specs.declared.Polynomial.{Polynomial}
+use Rattle.band.specs.Band.{noise_of, band_of, within_band_of, bare}
 use Rattle.band.proofs.Laws.{barely, same_within}
 use Rattle.critical.specs.Critical.{critical_point_of, double_at}
 use Rattle.push.specs.Quadratic.{double, apart, complex, quadratic_roots_of, quadratic_by, push_quadratic_in, push_rooted_in}
@@ -22,6 +23,14 @@ unfolding band_of noise_of critical_point_of
 same_double poly mid tol = refl
 
 -- ---- what a quadratic factor is
+-- p, which is made of f and d, serves for them
+module _ (poly : Scaled) (p : Polynomial) (mid tol : Float) (e : (p.f ≡ poly.f) × (p.d ≡ poly.d)) where
+  pub near_is : {near : Bool} (half : Float) → near ≡ within_band_of (bare p.f p.d poly.unit) half mid tol → near ≡ within_band_of (barely poly) half mid tol
+  near_is half w = w ∙ rw (e.0, e.1)
+
+  pub place_is : {y : Float} → y ≡ double_at (bare p.f p.d poly.unit) mid tol → y ≡ double_at (barely poly) mid tol
+  place_is w = w ∙ rw (e.0, e.1)
+
 module _ (poly : Scaled) (al be tol : Float) (s : Disc) {near : Bool}
     (w : near ≡ within_band_of (barely poly) (mul binary64 half64 s.root) (mul binary64 (neg half64) al) tol) where
   abbrev mid : Float

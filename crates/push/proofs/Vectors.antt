@@ -12,7 +12,7 @@ use Rattle.band.specs.Band.{magnitude_step, magnitude_of, budget_of, kth_root_of
 use Rattle.critical.specs.Critical.{is_between_of, critical_next, critical_point_of, extremum_of}
 use Rattle.roots.specs.Roots.{root, pair, held, kept, paired}
 use Rattle.push.specs.Quadratic.{double, quadratic_roots_of, push_factor, push_quadratic_of}
-use Rattle.critical.specs.declared.TurningPoint.TheVariants.{At, None}
+use Rattle.std.specs.Prelude.{Some, None}
 
 -- what has to unfold for the definitions to compute: a fact says `unfolding computes`
 unfoldable pub computes : ℕ
@@ -66,7 +66,7 @@ unfolding computes
 critical = refl
 
 extremum_there : extremum_of quartic (bits 0x3fd3_3333_3333_3333) (bits 0xbff0_0000_0000_0000) one64 (bits 0x3e11_2e0b_e826_d695)
-    ≡ At (bits 0x3fd7_14d2_3795_1922)
+    ≡ Some (bits 0x3fd7_14d2_3795_1922)
 unfolding computes
 extremum_there = refl
 

@@ -13,18 +13,11 @@ pub struct Found {
 }
 
 // Of y^2 + al*y + be: a double root within the band, two simple roots, or a complex pair.
-pub fn push_quadratic(
-    poly: scaled::Scaled,
-    al: f64,
-    be: f64,
-    tol: f64,
-    out: roots::Roots,
-    pairs: roots::Pairs,
-) -> Found
+pub fn push_quadratic(poly: scaled::Scaled, al: f64, be: f64, tol: f64, found: Found) -> Found
     requires { poly.d ≤ 4 }
-    ensures { result ≡ push_quadratic_in poly al be tol out pairs }
+    ensures { result ≡ push_quadratic_in poly al be tol found.roots found.pairs }
 {
-    push_rooted(poly, al, be, isolated::disc_of(al, be), tol, out, pairs)
+    push_rooted(poly, al, be, isolated::disc_of(al, be), tol, found)
 }
 
 // The same, with its discriminant at hand.
@@ -34,17 +27,18 @@ pub fn push_rooted(
     be: f64,
     s: isolated::Disc,
     tol: f64,
-    out: roots::Roots,
-    pairs: roots::Pairs,
+    found: Found,
 ) -> Found
     requires { poly.d ≤ 4 }
-    ensures { result ≡ push_rooted_in poly al be s tol out pairs }
+    ensures { result ≡ push_rooted_in poly al be s tol found.roots found.pairs }
 {
     let mid = -0.5 * al;
     let half = 0.5 * s.root;
-    let f = poly.f;
-    if band::within(f, poly.d, poly.unit, half, mid, tol) {
-        let y = critical::double_at(f, poly.d, poly.unit, mid, tol);
+    let p = poly.polynomial();
+    let out = found.roots;
+    let pairs = found.pairs;
+    if band::within(p, poly.unit, half, mid, tol) {
+        let y = critical::double_at(p, poly.unit, mid, tol);
         let roots = out.keep(y, 2);
         return Found { roots, pairs };
     }

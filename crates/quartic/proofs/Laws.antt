@@ -1,19 +1,19 @@
 -- What the fold over one and over three roots that finds the largest comes to.
-use mathlib.Core.Path.{◌≡◌}
-use mathlib.Core.List.{List}
-use Prim.Native.Nat.{ℕ}
-use lib.ListN.{get_or}
-use lib.Ieee.{Float, nan, neg}
+use Rattle.std.proofs.Common.{◌≡◌, refl, List, [], ◌∷◌, length, fold, arith}
+use lib.Ieee.{Float, neg}
 use Rattle.facts.specs.Count.{count_up}
 use Rattle.float.specs.Literals.{inf64}
 use Rattle.float.specs.Methods.{max_of}
 use Rattle.quartic.specs.Quartic.{largest_of}
 
-pub largest_one : (roots : List Float) (n : ℕ) → n ≡ 1 → max_of (neg inf64) (get_or roots 0 nan) ≡ largest_of roots n
+pub largest_one : (r : Float) → max_of (neg inf64) r ≡ largest_of (r ∷ []) 1
 unfolding largest_of count_up
-largest_one roots n e = rw e
+largest_one r = refl
 
-pub largest_three : (roots : List Float) (n : ℕ) → n ≡ 3 → max_of (max_of (max_of (neg inf64) (get_or roots 0 nan)) (get_or roots 1 nan))
-    (get_or roots 2 nan) ≡ largest_of roots n
+pub largest_three : (roots : List Float) → length roots ≡ 3 → fold max_of (neg inf64) roots ≡ largest_of roots 3
 unfolding largest_of count_up
-largest_three roots n e = rw e
+largest_three (a ∷ b ∷ c ∷ []) e = refl
+largest_three [] e = absurd (omega (arith, e))
+largest_three (a ∷ []) e = absurd (omega (arith, e))
+largest_three (a ∷ b ∷ []) e = absurd (omega (arith, e))
+largest_three (a ∷ b ∷ c ∷ d ∷ l) e = absurd (omega (arith, e))

@@ -12,7 +12,7 @@ use Rattle.refine.specs.Systems.{quartic_system}
 use Rattle.refine.specs.Newton.{newton_cubic_of}
 use Rattle.quartic.specs.declared.QuarticFactor.{QuarticFactor}
 use Rattle.quartic.specs.declared.Depressed.{Depressed}
-use Rattle.cubic.specs.Cubic.{cubic_closed_form_of, over_or}
+use Rattle.cubic.specs.Cubic.{cubic_closed_form_of, places_of, count_of, over_or}
 
 -- `let m_raw = ms[..n].iter().copied().fold(f64::NEG_INFINITY, f64::max);`: the largest root. The maximum passes a NaN over, so it is minus infinity where
 -- all are NaN.
@@ -28,7 +28,7 @@ resolvent_of p q r =
     let m2 = two64 *ᶠ p in
     -- let (ms, n) = cubic_closed_form(resolvent[2], resolvent[1], resolvent[0]);
     let s = cubic_closed_form_of m2 m1 m0 in
-    newton_cubic_of (m0 ∷ m1 ∷ m2 ∷ one64 ∷ zero64 ∷ []) (largest_of s.root s.n)
+    newton_cubic_of (m0 ∷ m1 ∷ m2 ∷ one64 ∷ zero64 ∷ []) (largest_of (places_of s) (count_of s))
 
 -- `if m > 1e-8 * scale && m.is_finite()`: m is clear of 0, against the scale of p and r
 unfoldable pub is_clear_of : Float → Float → Float → Bool

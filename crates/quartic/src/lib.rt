@@ -3,8 +3,10 @@
 #![tactic(auto)]
 
 ghost use Rattle.std.specs.Prelude.{◌≡◌};
-ghost use Rattle.cubic.specs.Cubic.{OneOrThree};
+ghost use Rattle.cubic.specs.Cubic.{places_of, count_of};
 ghost use Rattle.quartic.specs.Quartic.{largest_of, resolvent_of, is_clear_of, ferrari_of, quartic_factor_of};
+
+use cubic::CubicRoots;
 
 // (y^2 + al*y + be) * (y^2 + ga*y + de)
 #[derive(Clone, Copy)]
@@ -23,42 +25,38 @@ struct Depressed {
     w: f64,
 }
 
-fn largest(roots: [f64; 3], n: usize) -> f64
-    requires { OneOrThree n }
-    ensures { result ≡ largest_of roots n }
+fn largest(roots: CubicRoots) -> f64
+    ensures { result ≡ largest_of (places_of roots) (count_of roots) }
 {
-    let a = float::max(-float::infinity(), roots[0]);
-    if n == 1 {
-        return a;
+    let least = -float::infinity();
+    match roots {
+        CubicRoots::One(r) => float::max(least, r),
+        CubicRoots::Three(roots) => roots.into_iter().fold(least, float::max),
     }
-    let b = float::max(a, roots[1]);
-    float::max(b, roots[2])
 }
 
 // m^3 + 2p*m^2 + (p^2 - 4r)*m - q^2
+#[tactic(auto, unfolding(crate::specs::Quartic::resolvent_of))]
 fn resolvent(p: f64, q: f64, r: f64) -> f64
     ensures { result ≡ resolvent_of p q r }
 {
     let m2 = 2.0 * p;
     let m1 = p * p - 4.0 * r;
     let m0 = -q * q;
-    let s = cubic::cubic_closed_form(m2, m1, m0);
-    let roots = s.root;
-    let start = largest(roots, s.n);
+    let start = largest(cubic::cubic_closed_form(m2, m1, m0));
     refine::newton_cubic([m0, m1, m2, 1.0, 0.0], start)
 }
 
+#[tactic(auto, unfolding(crate::specs::Quartic::is_clear_of))]
 fn is_clear(p: f64, r: f64, m: f64) -> bool
     ensures { result ≡ is_clear_of p r m }
 {
     let scale = float::abs(p) + sqrt::sqrt(float::abs(r));
-    if m > 1e-8 * scale {
-        return float::is_finite(m);
-    }
-    false
+    m > 1e-8 * scale && float::is_finite(m)
 }
 
 // u = sqrt(m), or biquadratic (q ~ 0): v + w = p, v*w = r.
+#[tactic(auto, unfolding(crate::specs::Quartic::ferrari_of))]
 fn ferrari(p: f64, q: f64, r: f64, m: f64) -> Depressed
     ensures { result ≡ ferrari_of p q r m }
 {
@@ -80,6 +78,7 @@ fn ferrari(p: f64, q: f64, r: f64, m: f64) -> Depressed
 }
 
 // With y = t + shift: t^4 + p*t^2 + q*t + r.
+#[tactic(auto, unfolding(crate::specs::Quartic::quartic_factor_of))]
 pub fn quartic_factor(b: f64, c: f64, d: f64, e: f64) -> QuarticFactor
     ensures { result ≡ quartic_factor_of b c d e }
 {
@@ -97,11 +96,6 @@ pub fn quartic_factor(b: f64, c: f64, d: f64, e: f64) -> QuarticFactor
         -t.u - 2.0 * shift,
         s2 + t.u * shift + t.w,
     ];
-    let x = refine::refine_quartic(b, c, d, e, start);
-    QuarticFactor {
-        al: x[0],
-        be: x[1],
-        ga: x[2],
-        de: x[3],
-    }
+    let [al, be, ga, de] = refine::refine_quartic(b, c, d, e, start);
+    QuarticFactor { al, be, ga, de }
 }

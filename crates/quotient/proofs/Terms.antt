@@ -1,5 +1,5 @@
 -- A term of a product's coefficient is there, or is not: it would stand before l's first coefficient, or after its last. So the terms that are there are those
--- of a loop from the smaller of f's length and k + 1 down to k less the smaller of k and dl.
+-- of a loop from the smaller of f's length and k + 1 down to k - dl, or 0 where dl is more.
 use mathlib.Core.Path.{◌≡◌, refl, ap, ◌∙◌}
 use mathlib.Core.Logic.{⊎_elim}
 use mathlib.Core.List.{List}
@@ -43,7 +43,7 @@ module _ (l : List Float) (dl : ℕ) (f : List Float) (k : ℕ) where
       (le_or_lt (suc j) (k + 1))
 
   -- those below
-  pub none_after : (n : ℕ) (acc : Float) → n ≤ k - min k dl → terms_below n acc ≡ acc
+  pub none_after : (n : ℕ) (acc : Float) → n ≤ k - dl → terms_below n acc ≡ acc
   unfolding count_down
   none_after zero acc h = refl
   none_after (suc j) acc h = ap (terms_below j) (term_after j acc (omega arith) (omega arith)) ∙ none_after j acc (omega arith)

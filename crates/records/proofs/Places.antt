@@ -1,23 +1,33 @@
 -- What stands at a place of a file: a refusal that ends reading, or a record of one of the kinds, whole.
 use mathlib.Core.Path.{◌≡◌, refl, sym, ap, subst, ◌∙◌}
 use mathlib.Core.Bool.{Bool, true, false, cond}
-use mathlib.Core.List.{List}
+use mathlib.Core.List.{List, [], ◌∷◌}
 use Prim.Native.Nat.{ℕ, ◌+◌, ◌*◌, ◌-◌, ◌<◌, ◌≤◌}
 use native.Mathlib.Omega.{arith}
 use borrow.Author.Tests.{le-ltb, ltb-false}
 use lib.Dec.{ltb}
-use lib.ListN.{length}
+use lib.ListN.{length, get_or}
 use Rattle.records.specs.declared.Kind.{Kind}
 use Rattle.records.specs.declared.Kind.TheVariants.{Polynomial, Quadratic, Crank, Contact, Formula, Unknown}
 use Rattle.records.specs.declared.Record.{Record}
 use Rattle.refusals.specs.Refusals.{unknown_mark, cut, count_too_large, file_too_long}
 use Rattle.records.specs.Marks.{kind_at}
-use Rattle.records.specs.Records.{count_at, ended_of, held_of, polynomial_record, formula_record, record_of, record_at, Sound}
+use Rattle.records.specs.Records.{count_at, ended_of, held_of, counted_of, polynomial_record, formula_record, record_of, record_at, Sound}
 
 -- a record whose mark was read
-pub record_is : (s : List ℕ) (at : ℕ) → 2 ≤ length s - at → (k m : Kind) → k ≡ kind_at s at → k ≡ m → record_of m s at ≡ record_at s at
-unfolding record_at
-record_is s at h k m e f = simp (le-ltb _ _ h) (ap (λ (x : Kind). record_of x s at) (sym f ∙ e))
+pub record_is : (s : List ℕ) (at : ℕ) → 2 ≤ length s - at → (k m : Kind) → k ≡ kind_at (get_or s at 0 ∷ get_or s (at + 1) 0 ∷ []) 0 → k ≡ m
+    → (r : Record) → r ≡ record_of m s at → r ≡ record_at s at
+unfolding record_at kind_at
+record_is s at h k m e f r is = is ∙ simp (le-ltb _ _ h) (ap (λ (x : Kind). record_of x s at) (sym f ∙ e))
+
+-- the records that begin with a count; no byte is above 255
+pub polynomial_counted : (s : List ℕ) (at : ℕ) → counted_of Polynomial 8 32 s at ≡ record_of Polynomial s at
+unfolding counted_of record_of
+polynomial_counted s at = refl
+
+pub formula_counted : (s : List ℕ) (at : ℕ) → count_at s at < 256 → counted_of Formula 1 255 s at ≡ record_of Formula s at
+unfolding counted_of record_of formula_record
+formula_counted s at h = let one : 1 * count_at s at ≡ count_at s at = omega arith in simp (le-ltb 255 (count_at s at) (omega arith), one)
 
 abbrev pub whole_of : Kind → ℕ → Record
 whole_of kind next = record { kind = kind; number = 0; next = next }

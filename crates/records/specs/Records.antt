@@ -18,6 +18,13 @@ ended_of kind number s = record { kind = kind; number = number; next = length s 
 unfoldable pub held_of : Kind → ℕ → List ℕ → ℕ → Record
 held_of kind size s at = cond (ltb (length s - at) size) (ended_of kind cut s) (record { kind = kind; number = 0; next = at + size })
 
+-- a count byte, a tolerance, and as many entries of `size` bytes each as the count says; 'no count byte', and a count above `most`
+unfoldable pub counted_of : Kind → ℕ → ℕ → List ℕ → ℕ → Record
+unfolding held_of
+counted_of kind size most s at =
+    cond (ltb (length s - at) 3) (ended_of kind cut s)
+    (cond (ltb most (count_at s at)) (ended_of kind count_too_large s) (held_of kind (11 + size * count_at s at) s at))
+
 -- 'PL: count byte 0 to 32, tolerance, that many coefficients'; '7, no count byte; 8, count above 32'
 unfoldable pub polynomial_record : List ℕ → ℕ → Record
 unfolding held_of

@@ -3,11 +3,11 @@
 #![tactic(auto)]
 
 ghost use Rattle.std.specs.Prelude.{◌≡◌, ◌+◌, ◌^◌, ◌≤◌, ◌<◌, length};
-ghost use Rattle.records.specs.Marks.{mark_of, is_mark, marked_of, kind_at};
-ghost use Rattle.records.specs.Records.{ended_of, held_of, polynomial_record, formula_record, record_at};
+ghost use Rattle.records.specs.Marks.{mark_of, kind_at};
+ghost use Rattle.records.specs.Records.{ended_of, held_of, counted_of, record_at};
 
 // A record's mark says its kind.
-#[derive(Clone, Copy)]
+#[derive(Clone, Copy, PartialEq, Eq, Debug)]
 pub enum Kind {
     Polynomial,
     Quadratic,
@@ -26,52 +26,36 @@ pub struct Record {
 }
 
 // The mark that is read before a record and written in its line.
-pub fn mark(kind: Kind) -> [u8; 2]
-    ensures { result ≡ mark_of kind }
-{
-    match kind {
-        Kind::Polynomial => *b"PL",
-        Kind::Quadratic => *b"QD",
-        Kind::Crank => *b"TG",
-        Kind::Contact => *b"PC",
-        Kind::Formula => *b"TX",
-        Kind::Unknown => *b"--",
+impl From<Kind> for [u8; 2] {
+    ghost from_gives = { λ kind mark. mark ≡ mark_of kind };
+
+    fn from(kind: Kind) -> [u8; 2] {
+        match kind {
+            Kind::Polynomial => *b"PL",
+            Kind::Quadratic => *b"QD",
+            Kind::Crank => *b"TG",
+            Kind::Contact => *b"PC",
+            Kind::Formula => *b"TX",
+            Kind::Unknown => *b"--",
+        }
     }
 }
 
-// Whether the two bytes from at on are the mark.
-fn is_mark(s: &[u8], at: usize, mark: [u8; 2]) -> bool
-    requires { at + 2 ≤ length s.now }
-    ensures { result ≡ is_mark mark s.now at }
-{
-    if s[at] == mark[0] {
-        return s[at + 1] == mark[1];
-    }
-    false
-}
+// The kind with this mark.
+impl From<[u8; 2]> for Kind {
+    ghost from_gives = { λ mark kind. kind ≡ kind_at mark 0 };
 
-// The kind, where its mark stands at at, and else the other.
-fn marked(s: &[u8], at: usize, kind: Kind, other: Kind) -> Kind
-    requires { at + 2 ≤ length s.now }
-    ensures { result ≡ marked_of kind other s.now at }
-{
-    if is_mark(s, at, mark(kind)) {
-        return kind;
+    #[tactic(auto, unfolding(crate::specs::Marks::kind_at))]
+    fn from(mark: [u8; 2]) -> Kind {
+        match &mark {
+            b"PL" => Kind::Polynomial,
+            b"QD" => Kind::Quadratic,
+            b"TG" => Kind::Crank,
+            b"PC" => Kind::Contact,
+            b"TX" => Kind::Formula,
+            _ => Kind::Unknown,
+        }
     }
-    other
-}
-
-fn kind_at(s: &[u8], at: usize) -> Kind
-    requires { at + 2 ≤ length s.now }
-    ensures { result ≡ kind_at s.now at }
-{
-    let mut kind = Kind::Unknown;
-    kind = marked(s, at, Kind::Polynomial, kind);
-    kind = marked(s, at, Kind::Quadratic, kind);
-    kind = marked(s, at, Kind::Crank, kind);
-    kind = marked(s, at, Kind::Contact, kind);
-    kind = marked(s, at, Kind::Formula, kind);
-    kind
 }
 
 // A refusal after which reading ends.
@@ -100,32 +84,19 @@ fn held(s: &[u8], at: usize, kind: Kind, size: usize) -> Record
     }
 }
 
-// A count byte, a tolerance, and as many coefficients as the count says.
-#[tactic(auto, unfolding(crate::specs::Records::polynomial_record))]
-fn polynomial_record(s: &[u8], at: usize) -> Record
-    requires { at + 2 ≤ length s.now }
-    ensures { result ≡ polynomial_record s.now at }
+// A count byte, of `most` at most, a tolerance, and as many entries of `size` bytes each as the count says.
+fn counted(s: &[u8], at: usize, kind: Kind, size: usize, most: usize) -> Record
+    requires { (at ≤ length s.now) × (size ≤ 8) }
+    ensures { result ≡ counted_of kind size most s.now at }
 {
     if s.len() - at < 3 {
-        return ended(s, Kind::Polynomial, refusals::CUT);
+        return ended(s, kind, refusals::CUT);
     }
     let count = s[at + 2] as usize;
-    if 32 < count {
-        return ended(s, Kind::Polynomial, refusals::COUNT_TOO_LARGE);
+    if most < count {
+        return ended(s, kind, refusals::COUNT_TOO_LARGE);
     }
-    held(s, at, Kind::Polynomial, 11 + 8 * count)
-}
-
-// A length byte, a tolerance, and as many bytes of text as the length says.
-fn formula_record(s: &[u8], at: usize) -> Record
-    requires { at + 2 ≤ length s.now }
-    ensures { result ≡ formula_record s.now at }
-{
-    if s.len() - at < 3 {
-        return ended(s, Kind::Formula, refusals::CUT);
-    }
-    let length = s[at + 2] as usize;
-    held(s, at, Kind::Formula, 11 + length)
+    held(s, at, kind, 11 + size * count)
 }
 
 pub fn record_at(s: &[u8], at: usize) -> Record
@@ -135,13 +106,13 @@ pub fn record_at(s: &[u8], at: usize) -> Record
     if s.len() - at < 2 {
         return ended(s, Kind::Unknown, refusals::CUT);
     }
-    let kind = kind_at(s, at);
+    let kind = Kind::from([s[at], s[at + 1]]);
     match kind {
-        Kind::Polynomial => polynomial_record(s, at),
-        Kind::Quadratic => held(s, at, Kind::Quadratic, 42),
-        Kind::Crank => held(s, at, Kind::Crank, 50),
-        Kind::Contact => held(s, at, Kind::Contact, 82),
-        Kind::Formula => formula_record(s, at),
-        Kind::Unknown => ended(s, Kind::Unknown, refusals::UNKNOWN_MARK),
+        Kind::Polynomial => counted(s, at, kind, 8, 32),
+        Kind::Quadratic => held(s, at, kind, 42),
+        Kind::Crank => held(s, at, kind, 50),
+        Kind::Contact => held(s, at, kind, 82),
+        Kind::Formula => counted(s, at, kind, 1, 255),
+        Kind::Unknown => ended(s, kind, refusals::UNKNOWN_MARK),
     }
 }

@@ -1,8 +1,10 @@
 -- One turn of `refine` and of `newton_cubic` by what its tests found: the shared facts of the sizes and the systems.
-use Rattle.std.proofs.Common.{◌≡◌, ℕ, ◌+◌, ◌-◌, ◌<◌, ◌≤◌, Bool, true, false, cond, not, List, get_or, sym, refl, ap, ◌∙◌, arith}
-use mathlib.Core.Option.{Option, none, some}
-use borrow.Author.Tests.{not-true, not-false}
+use Rattle.std.proofs.Common.{◌≡◌, ℕ, ◌+◌, ◌-◌, ◌<◌, ◌≤◌, Bool, true, false, cond, List, get_or, sym, refl, ap, ◌∙◌, arith}
+use mathlib.Core.Option.{none, some}
+use Rattle.std.specs.Prelude.{Option as RustOption, None, Some}
+use native.Mathlib.Nat.{sub-zero}
 use lib.Ieee.{Float, nan, binary64, sub, div}
+use Rattle.facts.specs.Count.{up_turn, up_end}
 use Rattle.facts.specs.Arrays.{from_fn}
 use Rattle.facts.specs.Turns.{turns_of, turns_stop, turns_go, turns_end}
 use Rattle.float.specs.Methods.{all_finite_of}
@@ -10,32 +12,33 @@ use Rattle.float.specs.Literals.{zero64}
 use Rattle.horner.specs.Horner.{value_slope_of}
 use Rattle.horner.specs.declared.ValueSlope.{ValueSlope}
 use Rattle.square.specs.Square.{solve_square_of}
-use Rattle.refine.specs.Refine.{System, weighted_of, norm_of, is_settled_of, weigh_rows_of, advanced_of, trial_of, no_less_of, kept_of, next_of, refine_of}
-use Rattle.refine.specs.Weighed.{weigh3_of, weigh4_of}
-use Rattle.refine.specs.Newton.{flat_of, no_gain_of, newton_next}
-use Rattle.refine.specs.declared.Weighed3.{Weighed3}
-use Rattle.refine.specs.declared.Weighed4.{Weighed4}
+use Rattle.refine.specs.Refine.{System, over_of, weighted_of, norm_of, is_settled_of, weigh_row_of, weigh_rows_of, advanced_of, trial_of, no_less_of, kept_of}
+use Rattle.refine.specs.Refine.{next_of, refine_of}
+use Rattle.refine.specs.Weighed.{weigh_of}
+use Rattle.refine.specs.Newton.{flat_of, no_gain_of, newton_next, newton_cubic_of}
+use Rattle.refine.specs.declared.Weighed.{Weighed}
+use Rattle.refine.proofs.Sizes.{square_small}
 
 -- the place to try next, from what elimination gave
 module _ (n : ℕ) (x w mag : List Float) (j rows : List (List Float)) (weighed : rows ≡ weigh_rows_of n j mag) where
-  tried : {o : Option (List Float)} → solve_square_of n rows w zero64 ≡ o → trial_of n x w mag j ≡ advanced_of n x o
+  tried : {o : RustOption (List Float)} → solve_square_of n rows w zero64 ≡ o → trial_of n x w mag j ≡ advanced_of n x o
   unfolding trial_of
   tried e = rw (sym weighed, e)
 
-  pub trial_none : solve_square_of n rows w zero64 ≡ none → trial_of n x w mag j ≡ solve_square_of n rows w zero64
+  pub trial_none : solve_square_of n rows w zero64 ≡ None → trial_of n x w mag j ≡ solve_square_of n rows w zero64
   unfolding advanced_of
   trial_none e = tried e ∙ sym e
 
-  module _ (s : List Float) {finite : Bool} (solved : solve_square_of n rows w zero64 ≡ some s) (tested : finite ≡ all_finite_of s) where
-    stepped : trial_of n x w mag j ≡ cond finite (some (from_fn n (λ i. sub binary64 (get_or x i nan) (get_or s i nan)))) none
+  module _ (s : List Float) {finite : Bool} (solved : solve_square_of n rows w zero64 ≡ Some s) (tested : finite ≡ all_finite_of s) where
+    stepped : trial_of n x w mag j ≡ cond finite (Some (from_fn n (λ i. sub binary64 (get_or x i nan) (get_or s i nan)))) None
     unfolding advanced_of
     stepped = tried solved ∙ rw tested
 
-    pub trial_far : not finite ≡ true → trial_of n x w mag j ≡ none
-    trial_far t = stepped ∙ rw (not-true finite t)
+    pub trial_far : finite ≡ false → trial_of n x w mag j ≡ None
+    trial_far f = stepped ∙ rw f
 
-    pub trial_there : not finite ≡ false → trial_of n x w mag j ≡ some (from_fn n (λ i. sub binary64 (get_or x i nan) (get_or s i nan)))
-    trial_there f = stepped ∙ rw (not-false finite f)
+    pub trial_there : finite ≡ true → trial_of n x w mag j ≡ Some (from_fn n (λ i. sub binary64 (get_or x i nan) (get_or s i nan)))
+    trial_there t = stepped ∙ rw t
 
 -- the weighted residuals w, the magnitudes and the norm are those of the place x
 pub record Known (n : ℕ) (sys : System) (x w mag : List Float) (current : Float) : Type 0 where
@@ -43,13 +46,9 @@ pub record Known (n : ℕ) (sys : System) (x w mag : List Float) (current : Floa
   pub mags : mag ≡ sys.mag x
   pub sized : current ≡ norm_of (weighted_of n (sys.res x) (sys.mag x))
 
-pub known3 : {sys : System} {x : List Float} {at : Weighed3} → at ≡ weigh3_of (sys.res x) (sys.mag x) → Known 3 sys x at.w at.mag at.norm
-unfolding weigh3_of
-known3 e = rw e (record { weights = refl; mags = refl; sized = refl })
-
-pub known4 : {sys : System} {x : List Float} {at : Weighed4} → at ≡ weigh4_of (sys.res x) (sys.mag x) → Known 4 sys x at.w at.mag at.norm
-unfolding weigh4_of
-known4 e = rw e (record { weights = refl; mags = refl; sized = refl })
+pub known : {n : ℕ} {sys : System} {x : List Float} {at : Weighed n} → at ≡ weigh_of n (sys.res x) (sys.mag x) → Known n sys x at.w at.mag at.norm
+unfolding weigh_of
+known e = rw e (record { weights = refl; mags = refl; sized = refl })
 
 -- before turn k, at the place x: the turns left give the answer
 pub record Turn (n : ℕ) (sys : System) (answer x w mag : List Float) (current : Float) (k : ℕ) : Type 0 where
@@ -57,7 +56,8 @@ pub record Turn (n : ℕ) (sys : System) (answer x w mag : List Float) (current 
   pub within : k ≤ 8
   pub left : turns_of (next_of n sys) (8 - k) x ≡ answer
 
-pub first_turn : {n : ℕ} {sys : System} {x w mag : List Float} {current : Float} → Known n sys x w mag current → Turn n sys (refine_of n sys x) x w mag current 0
+pub first_turn : {n : ℕ} {sys : System} {x w mag : List Float} {current : Float} → Known n sys x w mag current
+    → Turn n sys (refine_of n sys x) x w mag current 0
 unfolding refine_of
 first_turn known = record { known = known; within = omega arith; left = refl }
 
@@ -78,11 +78,11 @@ module _ {n : ℕ} {sys : System} {answer x w mag : List Float} {current : Float
       unfolding next_of
       behind = rw (sym turn.known.sized, sym tests, moving, sym turn.known.weights, sym turn.known.mags, sym derivatives)
 
-      pub stop_stuck : trial_of n x w mag j ≡ none → x ≡ answer
+      pub stop_stuck : trial_of n x w mag j ≡ None → x ≡ answer
       unfolding kept_of
       stop_stuck e = stop (behind ∙ ap (kept_of n sys current) e)
 
-      module _ {y v m : List Float} {next : Float} {held : Bool} (tries : trial_of n x w mag j ≡ some y) (there : Known n sys y v m next)
+      module _ {y v m : List Float} {next : Float} {held : Bool} (tries : trial_of n x w mag j ≡ Some y) (there : Known n sys y v m next)
           (compares : held ≡ no_less_of current next) where
         compared : next_of n sys x ≡ cond held none (some y)
         unfolding kept_of
@@ -109,3 +109,12 @@ module _ (p : List Float) (y : Float) {v : ValueSlope} (here : v ≡ value_slope
     pub newton_moved : no_gain_of v.value u.value ≡ false → newton_next p y ≡ some (sub binary64 y (div binary64 v.value v.slope))
     unfolding newton_next
     newton_moved t = simp (sym here, steep, sym there, t)
+
+-- What the functions' proofs rest on: the laws, and the definitions.
+pub ruleset loops = (sub-zero, up_turn, up_end, turns_stop, turns_go, turns_end)
+
+pub ruleset laws = (loops, square_small, trial_none, trial_far, after_turns, newton_flat, newton_held, newton_moved)
+
+unfoldable pub definitions : ℕ
+unfolding over_of weighted_of norm_of is_settled_of weigh_row_of weigh_rows_of no_less_of weigh_of flat_of no_gain_of newton_cubic_of
+definitions = 0

@@ -1,5 +1,6 @@
 -- `refine` of poly.rs: Newton's method on a square system of any size n, each equation weighted by the magnitude of its terms. Definitions only.
 use Rattle.std.specs.Prelude.{ℕ, Bool, cond, not, ◌&&◌, ◌||◌, List, [], length, get_or, is_nan, slice_index_or, slice_set, Float}
+use Rattle.std.specs.Prelude.{Option as RustOption, None, Some}
 use Rattle.std.proofs.Math.Option.{Option, none, some}
 use Rattle.std.specs.Float.{nan}
 use Rattle.std.specs.Float.Ieee.{lt, le}
@@ -50,12 +51,12 @@ unfoldable pub weigh_rows_of : ℕ → List (List Float) → List Float → List
 weigh_rows_of n j mag = count_up n (weigh_rows_step mag) n j
 
 -- `.filter(|s| s.iter().all(|v| v.is_finite()));`, and then `std::array::from_fn(|i| x[i] - step[i]);`
-unfoldable pub advanced_of : ℕ → List Float → Option (List Float) → Option (List Float)
-advanced_of n x none = none
-advanced_of n x (some step) = cond (all_finite_of step) (some (from_fn n (λ i. slice_index_or x i nan -ᶠ get_or step i nan))) none
+unfoldable pub advanced_of : ℕ → List Float → RustOption (List Float) → RustOption (List Float)
+advanced_of n x None = None
+advanced_of n x (Some step) = cond (all_finite_of step) (Some (from_fn n (λ i. slice_index_or x i nan -ᶠ get_or step i nan))) None
 
 -- `next`, the place to try, if there is one: 'Only an exactly singular step is refused', `solve_square(j, w, 0.0)`, and one that is not finite
-unfoldable pub trial_of : ℕ → List Float → List Float → List Float → List (List Float) → Option (List Float)
+unfoldable pub trial_of : ℕ → List Float → List Float → List Float → List (List Float) → RustOption (List Float)
 trial_of n x w mag j = advanced_of n x (solve_square_of n (weigh_rows_of n j mag) w zero64)
 
 -- `if next_norm >= current || next_norm.is_nan()`
@@ -63,9 +64,9 @@ unfoldable pub no_less_of : Float → Float → Bool
 no_less_of current nextNorm = le current nextNorm || is_nan nextNorm
 
 -- the place tried, if the weighted residuals are smaller there: `let nw = weighted((nr, nm));` and `let next_norm = norm(&nw);`
-unfoldable pub kept_of : ℕ → System → Float → Option (List Float) → Option (List Float)
-kept_of n sys current none = none
-kept_of n sys current (some next) =
+unfoldable pub kept_of : ℕ → System → Float → RustOption (List Float) → Option (List Float)
+kept_of n sys current None = none
+kept_of n sys current (Some next) =
     let nw = weighted_of n (sys.res next) (sys.mag next) in
     cond (no_less_of current (norm_of nw)) none (some next)
 

@@ -6,8 +6,6 @@ use Rattle.float.specs.Rounded.{◌+ᶠ◌, ◌-ᶠ◌, ◌*ᶠ◌}
 use Rattle.float.specs.Literals.{zero64, one64}
 use Rattle.float.specs.Methods.{abs_of}
 use Rattle.refine.specs.Refine.{System}
-use Rattle.refine.specs.declared.System4.{System4}
-use Rattle.refine.specs.declared.System4.TheVariants.{Quartic, Peel}
 
 -- `x[i]`
 abbrev at : List Float → ℕ → Float
@@ -120,9 +118,3 @@ peel_jacobian_of x =
 -- the closures of `peel_root`
 abbrev pub peel_system : Float → Float → Float → Float → System
 peel_system b c d e = record { res = peel_residual_of b c d e; mag = peel_magnitude_of b c d e; jac = peel_jacobian_of }
-
--- ---- both quartic systems, as the enum of the code names them
-
-abbrev pub system_of : System4 → System
-system_of (Quartic b c d e) = quartic_system b c d e
-system_of (Peel b c d e) = peel_system b c d e

@@ -1,70 +1,99 @@
--- The refusals, each number of documents 01 and 02 under the name that it has in code, and the two of the C functions alone. Definitions only.
-use Rattle.std.specs.Prelude.{ℕ}
+-- The refusals of documents 01 and 02, with the number that is said of each, and the two of the C functions alone. Definitions only.
+use Rattle.std.specs.Prelude.{ℕ, Result, Ok, Err}
+use Rattle.refusals.specs.declared.Refusal.{Refusal}
+use Rattle.refusals.specs.declared.Refusal.TheVariants.{NotFinite, TooFew, TooMany, NothingAsked, AnswerNotFinite, UnknownMark, Cut, CountTooLarge, FileTooLong}
+use Rattle.refusals.specs.declared.Refusal.TheVariants.{RecordNotFinite, NoRadius, MadeNotFinite, NotASum, DegreeTooHigh, CoefficientTooLarge, CutDouble}
+use Rattle.refusals.specs.declared.Refusal.TheVariants.{TextTooLong}
 
+abbrev pub number_of : Refusal → ℕ
 -- 'some coefficient not finite, wherever it stands'; of a quadratic 'one of a, b, c', of a crank 'one of the five'
-abbrev pub not_finite : ℕ
-not_finite = 1
-
+number_of NotFinite = 1
 -- 'trimmed length 0 or 1'
-abbrev pub too_few : ℕ
-too_few = 2
-
+number_of TooFew = 2
 -- 'trimmed length above 5'
-abbrev pub too_many : ℕ
-too_many = 3
-
+number_of TooMany = 3
 -- 'nothing is being asked'
-abbrev pub nothing_asked : ℕ
-nothing_asked = 4
-
+number_of NothingAsked = 4
 -- 'a number in the Rust's answer is not finite'; of a crank 'a quartic coefficient'
-abbrev pub answer_not_finite : ℕ
-answer_not_finite = 5
-
+number_of AnswerNotFinite = 5
 -- 'unknown mark'
-abbrev pub unknown_mark : ℕ
-unknown_mark = 6
-
+number_of UnknownMark = 6
 -- 'bytes end inside the mark', 'no count byte', 'fewer bytes than the record needs'
-abbrev pub cut : ℕ
-cut = 7
-
+number_of Cut = 7
 -- 'count above 32'
-abbrev pub count_too_large : ℕ
-count_too_large = 8
-
+number_of CountTooLarge = 8
 -- 'over 65,536 bytes'
-abbrev pub file_too_long : ℕ
-file_too_long = 9
-
+number_of FileTooLong = 9
 -- 'a number of the record is not finite'
-abbrev pub record_not_finite : ℕ
-record_not_finite = 10
-
+number_of RecordNotFinite = 10
 -- 'R is not above 0'
-abbrev pub no_radius : ℕ
-no_radius = 11
-
+number_of NoRadius = 11
 -- 'a coefficient made is not finite'
-abbrev pub made_not_finite : ℕ
-made_not_finite = 12
-
+number_of MadeNotFinite = 12
 -- 'the text is not a sum'
-abbrev pub notASum : ℕ
-notASum = 13
-
+number_of NotASum = 13
 -- 'some part of it has degree above 4 after zero terms are dropped'
-abbrev pub degree_too_high : ℕ
-degree_too_high = 14
-
+number_of DegreeTooHigh = 14
 -- 'some coefficient of a part is above 2^53 in size'
-abbrev pub coefficient_too_large : ℕ
-coefficient_too_large = 15
-
+number_of CoefficientTooLarge = 15
 -- the coefficients' bytes end inside a double
-abbrev pub cut_double : ℕ
-cut_double = 20
-
+number_of CutDouble = 20
 -- the text has more bytes than a record holds, 255
+number_of TextTooLong = 21
+
+-- the number that is said of what a function gives: 0, or that of its refusal
+abbrev pub outcome_of : {A : Type 0} → Result A Refusal → ℕ
+outcome_of (Ok x) = 0
+outcome_of (Err refusal) = number_of refusal
+
+-- ---- each number by itself
+abbrev pub not_finite : ℕ
+not_finite = number_of NotFinite
+
+abbrev pub too_few : ℕ
+too_few = number_of TooFew
+
+abbrev pub too_many : ℕ
+too_many = number_of TooMany
+
+abbrev pub nothing_asked : ℕ
+nothing_asked = number_of NothingAsked
+
+abbrev pub answer_not_finite : ℕ
+answer_not_finite = number_of AnswerNotFinite
+
+abbrev pub unknown_mark : ℕ
+unknown_mark = number_of UnknownMark
+
+abbrev pub cut : ℕ
+cut = number_of Cut
+
+abbrev pub count_too_large : ℕ
+count_too_large = number_of CountTooLarge
+
+abbrev pub file_too_long : ℕ
+file_too_long = number_of FileTooLong
+
+abbrev pub record_not_finite : ℕ
+record_not_finite = number_of RecordNotFinite
+
+abbrev pub no_radius : ℕ
+no_radius = number_of NoRadius
+
+abbrev pub made_not_finite : ℕ
+made_not_finite = number_of MadeNotFinite
+
+abbrev pub notASum : ℕ
+notASum = number_of NotASum
+
+abbrev pub degree_too_high : ℕ
+degree_too_high = number_of DegreeTooHigh
+
+abbrev pub coefficient_too_large : ℕ
+coefficient_too_large = number_of CoefficientTooLarge
+
+abbrev pub cut_double : ℕ
+cut_double = number_of CutDouble
+
 abbrev pub text_too_long : ℕ
-text_too_long = 21
+text_too_long = number_of TextTooLong

@@ -25,7 +25,7 @@ pub struct RealRoot {
     pub kind: RootKind,
 }
 
-// Candidates of poly.rs, and its list of at most four roots, in the order found.
+// Candidates of poly.rs, and its list of at most four roots, in the order found. An array with a count, as Pairs is: both are passed by value.
 #[derive(Clone, Copy)]
 pub struct Roots {
     pub root: [RealRoot; 4],
@@ -59,12 +59,15 @@ impl RootKind {
         }
         RootKind::Flat
     }
+}
 
-    // The kind for C.
-    pub fn number(self) -> u32
-        ensures { result ≡ kind_number self }
-    {
-        match self {
+// The kind for C.
+#[tactic(auto, unfolding(crate::specs::Roots::kind_number))]
+impl From<RootKind> for u32 {
+    ghost from_gives = { λ k n. n ≡ kind_number k };
+
+    fn from(kind: RootKind) -> u32 {
+        match kind {
             RootKind::Crossing => 0,
             RootKind::Brush => 1,
             RootKind::Flat => 2,
@@ -111,12 +114,8 @@ impl Roots {
     pub fn push(self, r: RealRoot) -> Roots
         ensures { result ≡ pushed_of self r }
     {
-        let a = self.root[0];
-        let b = self.root[1];
-        let c = self.root[2];
-        let d = self.root[3];
-        let at = self.len;
-        match at {
+        let [a, b, c, d] = self.root;
+        match self.len {
             0 => Roots {
                 root: [r, b, c, d],
                 len: 1,
@@ -137,7 +136,7 @@ impl Roots {
         }
     }
 
-    // The same for roots that lie in memory: one place is stored.
+    // The same for roots that lie in memory: one place is stored, where push would write all four.
     #[tactic(auto, unfolding(crate::specs::Roots::pushed_of))]
     pub fn append(self, r: RealRoot) -> Roots
         ensures { result ≡ pushed_of self r }
@@ -153,6 +152,7 @@ impl Roots {
     }
 
     // Only a finite place is kept.
+    #[tactic(auto, unfolding(crate::specs::Roots::kept_in))]
     pub fn keep_root(self, r: RealRoot) -> Roots
         ensures { result ≡ kept_in self r }
     {
@@ -188,25 +188,19 @@ impl Pairs {
         ensures { result ≡ paired_in self (pair centre half) }
     {
         if float::is_finite(centre) {
-            let p = Pair {
-                centre: centre,
-                half: half,
-            };
-            let first = self.pair[0];
-            let second = self.pair[1];
-            let at = self.len;
-            if at == 0 {
-                return Pairs {
+            let p = Pair { centre, half };
+            let [first, second] = self.pair;
+            return match self.len {
+                0 => Pairs {
                     pair: [p, second],
                     len: 1,
-                };
-            }
-            if at == 1 {
-                return Pairs {
+                },
+                1 => Pairs {
                     pair: [first, p],
                     len: 2,
-                };
-            }
+                },
+                _ => self,
+            };
         }
         self
     }

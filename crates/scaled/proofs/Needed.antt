@@ -10,7 +10,9 @@ use lib.Pow.{pow_pos, pow_mono}
 use lib.Ieee.{Float}
 use Rattle.algebra.specs.NatOrder.{pow2_join}
 use Rattle.float.specs.Units.{units_of}
+use Rattle.std.specs.Prelude.{Some, None}
 use Rattle.decode.specs.Shape.{Normal, Decoded}
+use Rattle.decode.specs.declared.Digits.{Digits}
 use Rattle.decode.proofs.Class.{decoded_irregular, decoded_normal, irregular_units}
 use Rattle.scaled.specs.Exponent.{Least}
 
@@ -89,14 +91,20 @@ module _ (w k w' k' j : ℕ) (J : 0 < j) where
         (mul-lt-mul_of_pos_right h (pow_pos (k' + 2098 * j)))))
 
 -- ---- the same for a double x
-pub reach_none : (x : Float) (w k top j : ℕ) → Decoded x w k → w ≡ 0 → Least top (units_of x * 2 ^ 52) j 0
-reach_none x w k top j D z =
-    subst (λ (n : ℕ). Least top (n * 2 ^ 52) j 0) (sym (irregular_units x (decoded_irregular x w k D z)))
+pub reach_none : (x : Float) (top j : ℕ) → Decoded x None → Least top (units_of x * 2 ^ 52) j 0
+reach_none x top j D =
+    subst (λ (n : ℕ). Least top (n * 2 ^ 52) j 0) (sym (irregular_units x (decoded_irregular x D)))
     (record { holds = le_trans (le_of_eq (zero-mul (2 ^ (2098 * j)))) zero-le; least = λ p. absurd (lt_irrefl 0 p); bound = omega arith })
 
-module _ (x : Float) (w k w' k' j : ℕ) (D : Decoded x w' k') (some : w' ≡ 0 → ⊥) (W : (2 ^ 52 ≤ w) × (w < 2 ^ 53)) (K : k < 2098) (J : 0 < j) where
+module _ (x : Float) (w k : ℕ) (n : Digits) (j : ℕ) (D : Decoded x (Some n)) (W : (2 ^ 52 ≤ w) × (w < 2 ^ 53)) (K : k < 2098) (J : 0 < j) where
+  abbrev w' : ℕ
+  w' = n.w
+
+  abbrev k' : ℕ
+  k' = n.k
+
   N : Normal (units_of x) w' k'
-  N = decoded_normal x w' k' D some
+  N = decoded_normal x n D
 
   pub reach_same : w' ≤ w → Least (w * 2 ^ k) (units_of x * 2 ^ 52) j ((k' + 2098 * j - k + (j - 1)) / j)
   reach_same h = subst (λ (u : ℕ). Least (w * 2 ^ k) u j ((k' + 2098 * j - k + (j - 1)) / j)) N.value (same w k w' k' j J K N.reach W.1 N.led h)

@@ -8,7 +8,11 @@ ghost use Rattle.scaled.specs.Exponent.{Least, scale_exponent_of};
 ghost use Rattle.scaled.specs.Scaled.{top_of, shift_of, coefficient_of, coefficients_of, monic_at, monic_of};
 ghost use Rattle.scaled.specs.Scaled.{sizes_of, log_size_of, log_sizes_of, scaled_of, with_logs_of};
 
+use decode::Digits;
+use horner::Polynomial;
+
 // a(x) of degree d in y = x / 2^e: f is a times powers of two, g is f / f_d, lg the logarithms of f's sizes, and unit is one unit of x in y.
+// d has no bound here, since an inquiry holds a Scaled and takes any value of it: a narrower type would ask more of its callers.
 #[derive(Clone, Copy)]
 pub struct Scaled {
     pub f: [f64; 5],
@@ -19,42 +23,45 @@ pub struct Scaled {
     pub unit: f64,
 }
 
-// e + 2098 for one coefficient x alone, j places below the leading one, which has the digits w and k: t says how far apart the exponents are, and a comparison
-// of the digits whether one more is needed. An x without digits, as a zero, needs nothing.
-fn reach(w: u64, k: u64, x: f64, j: u64) -> u64
-    requires w_in_range { (2 ^ 52 ≤ w) × (w < 2 ^ 53) }
-    requires k_high { k < 2098 }
+// What places the coefficients in y: the degree, the exponent e, and the exponent that the leading coefficient has in y.
+#[derive(Clone, Copy)]
+struct Shift {
+    d: usize,
+    e: i32,
+    top: i32,
+    ghost degree: { d ≤ 4 },
+    ghost e_size: { nat_abs e ≤ 2 ^ 13 },
+    ghost top_size: { nat_abs top ≤ 2 ^ 16 },
+}
+
+// e + 2098 for one coefficient x alone, j places below the leading one: t says how far apart the exponents are, and a comparison of the digits whether one more
+// is needed. An x without digits, as a zero, needs nothing.
+fn reach(lead: Digits, x: f64, j: u64) -> u64
+    requires w_in_range { (2 ^ 52 ≤ lead.w) × (lead.w < 2 ^ 53) }
+    requires k_high { lead.k < 2098 }
     requires j_in_range { (0 < j) × (j ≤ 4) }
-    ensures { Least (w * 2 ^ k) (units_of x * 2 ^ 52) j result }
+    ensures { Least (lead.w * 2 ^ lead.k) (units_of x * 2 ^ 52) j result }
 {
-    let n = decode::normal_of(x);
-    if n.w == 0 {
+    let Some(n) = decode::normal_of(x) else {
         return 0;
-    }
-    let t = n.k + 2098 * j - k;
-    if n.w <= w {
+    };
+    let t = n.k + 2098 * j - lead.k;
+    if n.w <= lead.w {
         return (t + (j - 1)) / j;
     }
     (t + j) / j
 }
 
 // e: the largest that one of the coefficients below the leading one needs.
-pub fn scale_exponent(a: [f64; 5], d: usize) -> i32
-    requires { d ≤ 4 }
-    ensures { result ≡ scale_exponent_of a d }
+pub fn scale_exponent(p: Polynomial) -> i32
+    ensures { result ≡ scale_exponent_of p.f p.d }
 {
-    let lead = decode::normal_of(a[d]);
-    if lead.w == 0 {
+    let Some(lead) = decode::normal_of(p.f[p.d]) else {
         return 0;
-    }
+    };
     let mut k = 0;
-    let mut i = 0;
-    while i < d {
-        let r = reach(lead.w, lead.k, a[i], (d - i) as u64);
-        if k < r {
-            k = r;
-        }
-        i += 1;
+    for i in 0..p.d {
+        k = std::cmp::max(k, reach(lead, p.f[i], (p.d - i) as u64));
     }
     if k == 0 {
         return 0;
@@ -71,124 +78,97 @@ fn top_of(x: f64, e: i32, d: usize) -> i32
     decode::exponent(x) + e * d as i32
 }
 
-fn shift(e: i32, top: i32, i: usize) -> i32
-    requires e_size { nat_abs e ≤ 2 ^ 13 }
-    requires top_size { nat_abs top ≤ 2 ^ 16 }
-    requires i_high { i ≤ 4 }
-    ensures { result ≡ shift_of e top i }
-{
-    e * i as i32 - top
-}
-
-fn coefficient(a: [f64; 5], d: usize, e: i32, top: i32, i: usize) -> f64
-    requires d_high { d ≤ 4 }
-    requires e_size { nat_abs e ≤ 2 ^ 13 }
-    requires top_size { nat_abs top ≤ 2 ^ 16 }
-    ensures { result ≡ coefficient_of a d e top i }
-{
-    if i <= d {
-        return ldexp::ldexp(a[i], shift(e, top, i));
+impl Shift {
+    fn at(self, i: usize) -> i32
+        requires { i ≤ 4 }
+        ensures { result ≡ shift_of self.e self.top i }
+    {
+        self.e * i as i32 - self.top
     }
-    0.0
-}
 
-fn coefficients(a: [f64; 5], d: usize, e: i32, top: i32) -> [f64; 5]
-    requires d_high { d ≤ 4 }
-    requires e_size { nat_abs e ≤ 2 ^ 13 }
-    requires top_size { nat_abs top ≤ 2 ^ 16 }
-    ensures { result ≡ coefficients_of a d e top }
-{
-    [
-        coefficient(a, d, e, top, 0),
-        coefficient(a, d, e, top, 1),
-        coefficient(a, d, e, top, 2),
-        coefficient(a, d, e, top, 3),
-        coefficient(a, d, e, top, 4),
-    ]
-}
-
-fn monic_at(f: [f64; 5], d: usize, i: usize) -> f64
-    requires { d ≤ 4 }
-    ensures { result ≡ monic_at f d i }
-{
-    if i < d {
-        return f[i] / f[d];
+    fn coefficient(self, a: [f64; 5], i: usize) -> f64
+        ensures { result ≡ coefficient_of a self.d self.e self.top i }
+    {
+        if i <= self.d {
+            return ldexp::ldexp(a[i], self.at(i));
+        }
+        0.0
     }
-    if i == d {
+
+    fn coefficients(self, a: [f64; 5]) -> [f64; 5]
+        ensures { result ≡ coefficients_of a self.d self.e self.top }
+    {
+        std::array::from_fn(|i| self.coefficient(a, i))
+    }
+
+    fn log_size(self, l: f64, i: usize) -> f64
+        ensures { result ≡ log_size_of l self.d self.e self.top i }
+    {
+        if i <= self.d {
+            return l + self.at(i) as f64;
+        }
+        -float::infinity()
+    }
+
+    fn log_sizes(self, a: [f64; 5]) -> [f64; 5]
+        ensures { result ≡ log_sizes_of a self.d self.e self.top }
+    {
+        if self.d < 3 {
+            return [-float::infinity(); 5];
+        }
+        let l = log2::log2_five(sizes(a));
+        std::array::from_fn(|i| self.log_size(l[i], i))
+    }
+}
+
+fn monic_at(p: Polynomial, i: usize) -> f64
+    ensures { result ≡ monic_at p.f p.d i }
+{
+    if i < p.d {
+        return p.f[i] / p.f[p.d];
+    }
+    if i == p.d {
         return 1.0;
     }
     0.0
 }
 
-fn monic(f: [f64; 5], d: usize) -> [f64; 5]
-    requires { d ≤ 4 }
-    ensures { result ≡ monic_of f d }
+fn monic(p: Polynomial) -> [f64; 5]
+    ensures { result ≡ monic_of p.f p.d }
 {
-    [
-        monic_at(f, d, 0),
-        monic_at(f, d, 1),
-        monic_at(f, d, 2),
-        monic_at(f, d, 3),
-        monic_at(f, d, 4),
-    ]
+    std::array::from_fn(|i| monic_at(p, i))
 }
 
 fn sizes(a: [f64; 5]) -> [f64; 5]
     ensures { result ≡ sizes_of a }
 {
-    [
-        float::abs(a[0]),
-        float::abs(a[1]),
-        float::abs(a[2]),
-        float::abs(a[3]),
-        float::abs(a[4]),
-    ]
-}
-
-fn log_size(l: f64, d: usize, e: i32, top: i32, i: usize) -> f64
-    requires d_high { d ≤ 4 }
-    requires e_size { nat_abs e ≤ 2 ^ 13 }
-    requires top_size { nat_abs top ≤ 2 ^ 16 }
-    ensures { result ≡ log_size_of l d e top i }
-{
-    if i <= d {
-        return l + shift(e, top, i) as f64;
-    }
-    -float::infinity()
-}
-
-fn log_sizes(a: [f64; 5], d: usize, e: i32, top: i32) -> [f64; 5]
-    requires d_high { d ≤ 4 }
-    requires e_size { nat_abs e ≤ 2 ^ 13 }
-    requires top_size { nat_abs top ≤ 2 ^ 16 }
-    ensures { result ≡ log_sizes_of a d e top }
-{
-    if d < 3 {
-        let none = -float::infinity();
-        return [none; 5];
-    }
-    let l = log2::log2_five(sizes(a));
-    [
-        log_size(l[0], d, e, top, 0),
-        log_size(l[1], d, e, top, 1),
-        log_size(l[2], d, e, top, 2),
-        log_size(l[3], d, e, top, 3),
-        log_size(l[4], d, e, top, 4),
-    ]
+    std::array::from_fn(|i| float::abs(a[i]))
 }
 
 impl Scaled {
-    // With the logarithms that a list of degree l has: below 3 it has none.
-    pub fn with_logs(a: [f64; 5], d: usize, l: usize) -> Scaled
-        requires d_high { d ≤ 4 }
-        requires l_high { l ≤ 4 }
-        ensures { result ≡ with_logs_of a d l }
+    // f(y), for the evaluations.
+    pub fn polynomial(self) -> Polynomial
+        requires { self.d ≤ 4 }
+        ensures { (result.f ≡ self.f) × (result.d ≡ self.d) }
     {
-        let e = scale_exponent(a, d);
+        let f = self.f;
+        Polynomial { f, d: self.d }
+    }
+
+    // With the logarithms that a list of degree l has: below 3 it has none.
+    pub fn with_logs(p: Polynomial, l: usize) -> Scaled
+        requires { l ≤ 4 }
+        ensures { result ≡ with_logs_of p.f p.d l }
+    {
+        let a = p.f;
+        let d = p.d;
+        let e = scale_exponent(p);
         let top = top_of(a[d], e, d);
-        let f = coefficients(a, d, e, top);
-        let g = monic(f, d);
-        let lg = log_sizes(a, l, e, top);
+        let shift = Shift { d, e, top };
+        let f = shift.coefficients(a);
+        let g = monic(Polynomial { f, d });
+        let logs = Shift { d: l, e, top };
+        let lg = logs.log_sizes(a);
         let unit = ldexp::ldexp(1.0, -e);
         Scaled {
             f,
@@ -200,10 +180,9 @@ impl Scaled {
         }
     }
 
-    pub fn new(a: [f64; 5], d: usize) -> Scaled
-        requires { d ≤ 4 }
-        ensures { result ≡ scaled_of a d }
+    pub fn new(p: Polynomial) -> Scaled
+        ensures { result ≡ scaled_of p.f p.d }
     {
-        Scaled::with_logs(a, d, d)
+        Scaled::with_logs(p, p.d)
     }
 }

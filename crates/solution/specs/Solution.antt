@@ -1,5 +1,5 @@
 -- `QuadraticSolution` of equation.rs: what an answer says, `shifted` and `touching_at`. Definitions only.
-use Rattle.std.specs.Prelude.{Bool, cond, ◌&&◌, List, [], ◌∷◌, ℕ, Float}
+use Rattle.std.specs.Prelude.{◌≡◌, Bool, cond, ◌&&◌, List, [], ◌∷◌, ℕ, Float}
 use Rattle.float.specs.Rounded.{◌+ᶠ◌}
 use Rattle.float.specs.Methods.{is_finite_of}
 use Rattle.solution.specs.declared.QuadraticSolution.{QuadraticSolution}
@@ -20,6 +20,14 @@ values_of (One x) = x ∷ []
 values_of (Linear x) = x ∷ []
 values_of Degenerate = []
 values_of Empty = []
+
+-- t is s with each place taken to another, by f
+unfoldable pub Mapped : (Float → Float → Type 0) → QuadraticSolution → QuadraticSolution → Type 0
+Mapped f (Two x y) t = (u v : Float) × f x u × f y v × (t ≡ Two u v)
+Mapped f (One x) t = (u : Float) × f x u × (t ≡ One u)
+Mapped f (Linear x) t = (u : Float) × f x u × (t ≡ Linear u)
+Mapped f Degenerate t = t ≡ Degenerate
+Mapped f Empty t = t ≡ Empty
 
 -- `shifted`: `Self::Two(t1, t2) => Self::Two(t0 + t1, t0 + t2),` and so on: every place moved by t0
 unfoldable pub shifted_of : QuadraticSolution → Float → QuadraticSolution

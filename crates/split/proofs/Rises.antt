@@ -14,7 +14,7 @@ use Rattle.facts.specs.Count.{count_up, up_turn}
 use Rattle.facts.specs.Cond.{either_way}
 use Rattle.float.specs.Methods.{is_finite_of}
 use Rattle.split.specs.declared.Hull.{Hull}
-use Rattle.split.specs.Hull.{popped_of, hull_at, hull_step, no_hull, hull_of, Rising}
+use Rattle.split.specs.Hull.{popped_of, hull_step, no_hull, hull_of, Rising}
 use Rattle.split.proofs.Dropped.{popped_le}
 
 -- ---- two points one after the other
@@ -86,16 +86,16 @@ hull_rising lg d D = go (d + 1) no_hull (subst (λ (i : ℕ). Rising i no_hull) 
         (step_rising lg (d + 1 - suc k) s _ (omega arith) refl R))
         (omega arith)
 
--- ---- the two ways of a turn, to the points a and the count n
-module _ (lg : List Float) (i : ℕ) (at : List ℕ) (h : ℕ) (a : List ℕ) (n : ℕ) where
-  pub step_in : (k : ℕ) → k ≡ popped_of lg at i h → is_finite_of (get_or lg i nan) ≡ true → a ≡ set at k i → n ≡ k + 1
-      → hull_at a n ≡ hull_step lg i (hull_at at h)
+-- ---- the two ways of a turn
+module _ (lg : List Float) (i : ℕ) (s r : Hull) where
+  pub step_in : (k : ℕ) → k ≡ popped_of lg s.at i s.h → is_finite_of (get_or lg i nan) ≡ true → r ≡ record { at = set s.at k i; h = k + 1 }
+      → r ≡ hull_step lg i s
   unfolding hull_step
-  step_in k e f p q = rw (f, p, q, e)
+  step_in k e f p = rw (f, p, e)
 
-  pub step_out : is_finite_of (get_or lg i nan) ≡ false → a ≡ at → n ≡ h → hull_at a n ≡ hull_step lg i (hull_at at h)
+  pub step_out : is_finite_of (get_or lg i nan) ≡ false → r ≡ s → r ≡ hull_step lg i s
   unfolding hull_step
-  step_out f p q = rw (f, p, q)
+  step_out f p = rw (f, p)
 
 -- ---- a turn of the loop: what is left after it gives the whole
 pub turned : (lg : List Float) (d i : ℕ) (s r : Hull) → i < d + 1 → d ≤ 4 → r ≡ hull_step lg i s → Rising i s

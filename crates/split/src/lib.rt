@@ -2,22 +2,22 @@
 // It rests on `float` and `ldexp`; factorize, which hands it the logarithms of a scaled polynomial, rests on it.
 #![tactic(auto)]
 
-ghost use Rattle.std.specs.Prelude.{◌≡◌, ◌≤◌, ◌<◌, ◌+◌, get_or};
-ghost use Rattle.split.specs.Hull.{width_of, hull_at, Rising, cross_of, popped_of, hull_of, mag_of};
+ghost use Rattle.std.specs.Prelude.{◌≡◌, ◌≤◌, ◌<◌, ◌+◌};
+ghost use Rattle.split.specs.Hull.{width_of, Rising, cross_of, popped_of, hull_of, mag_of};
 ghost use Rattle.split.specs.Gap.{exp2_of, magnitude_split_of};
 
-// The points of the hull by their indices, the first h of `at`.
+// The points of the hull by their indices, the first h of `at`: fixed memory, as in the Rust.
 #[derive(Clone, Copy)]
 pub struct Hull {
     pub at: [usize; 5],
     pub h: usize,
 }
 
-// The Rust's Option: in its words the number of roots below the gap, and the geometric middle of the gap.
+// In the Rust's words the number of roots below the gap, and the geometric middle of the gap.
 #[derive(Clone, Copy)]
-pub enum Split {
-    Gap(usize, f64),
-    None,
+pub struct Gap {
+    pub small: usize,
+    pub threshold: f64,
 }
 
 // b - a, from a table: a `match` on constants is compiled to read-only data.
@@ -36,6 +36,7 @@ fn width(a: usize, b: usize) -> f64
 }
 
 // At least 0 where the point b lies on or below the line from a to i.
+#[tactic(auto, unfolding(crate::specs::Hull::cross_of))]
 fn cross(lg: &[f64; 5], a: usize, b: usize, i: usize) -> f64
     requires a_high { a ≤ b }
     requires b_high { b ≤ i }
@@ -45,78 +46,74 @@ fn cross(lg: &[f64; 5], a: usize, b: usize, i: usize) -> f64
     width(a, b) * (lg[i] - lg[a]) - (lg[b] - lg[a]) * width(a, i)
 }
 
-// How many points stay once those that do not stand above the line to i are dropped.
-fn popped(lg: &[f64; 5], at: &[usize; 5], h: usize, i: usize) -> usize
-    requires rising { Rising i (hull_at at.now h) }
-    requires i_high { i ≤ 4 }
-    ensures { (result ≡ popped_of lg.now at.now i h) × (result ≤ h) }
-{
-    let mut k = h;
-    while 2 <= k {
-        let a = at[k - 2];
-        let b = at[k - 1];
-        if cross(lg, a, b, i) >= 0.0 {
+impl Hull {
+    // How many points stay once those that do not stand above the line to i are dropped.
+    fn popped(&self, lg: &[f64; 5], i: usize) -> usize
+        requires rising { Rising i self.now }
+        requires i_high { i ≤ 4 }
+        ensures { (result ≡ popped_of lg.now self.now.at i self.now.h) × (result ≤ self.now.h) }
+    {
+        let mut k = self.h;
+        while 2 <= k && cross(lg, self.at[k - 2], self.at[k - 1], i) >= 0.0 {
             k -= 1;
-        } else {
-            return k;
         }
+        k
     }
-    k
+
+    // The logarithm of the size of the roots of edge k.
+    #[tactic(auto, unfolding(crate::specs::Hull::mag_of))]
+    fn mag(&self, lg: &[f64; 5], k: usize) -> f64
+        requires rising { Rising 5 self.now }
+        requires edge { k + 1 < self.now.h }
+        ensures { result ≡ mag_of lg.now self.now.at k }
+    {
+        let a = self.at[k];
+        let b = self.at[k + 1];
+        (lg[a] - lg[b]) / width(a, b)
+    }
 }
 
 pub fn upper_hull(lg: [f64; 5], d: usize) -> Hull
     requires { d ≤ 4 }
     ensures { result ≡ hull_of lg d }
 {
-    let mut at: [usize; 5] = [0; 5];
-    let mut h: usize = 0;
-    let mut i = 0;
-    while i < d + 1 {
+    let mut s = Hull { at: [0; 5], h: 0 };
+    for i in 0..d + 1 {
         if float::is_finite(lg[i]) {
-            let k = popped(&lg, &at, h, i);
-            at[k] = i;
-            h = k + 1;
+            let k = s.popped(&lg, i);
+            s.at[k] = i;
+            s.h = k + 1;
         }
-        i += 1;
     }
-    Hull { at, h }
-}
-
-// The logarithm of the size of the roots of edge k.
-fn mag(lg: &[f64; 5], at: &[usize; 5], k: usize) -> f64
-    requires k_high { k < 4 }
-    requires places_in_order { (get_or at.now k 0 ≤ get_or at.now (k + 1) 0) × (get_or at.now (k + 1) 0 ≤ 4) }
-    ensures { result ≡ mag_of lg.now at.now k }
-{
-    let a = at[k];
-    let b = at[k + 1];
-    (lg[a] - lg[b]) / width(a, b)
+    s
 }
 
 // 2^x, x rounded down; a NaN counts as 0, as where Rust makes a whole number of it.
+#[tactic(auto, unfolding(crate::specs::Gap::exp2_of))]
 fn exp2(x: f64) -> f64
     ensures { result ≡ exp2_of x }
 {
     if float::is_nan(x) {
-        return 1.0;
+        1.0
+    } else {
+        ldexp::ldexp_by(1.0, float::floor(x), 8192)
     }
-    ldexp::ldexp_by(1.0, float::floor(x), 8192)
 }
 
-pub fn magnitude_split(lg: [f64; 5], d: usize) -> Split
+pub fn magnitude_split(lg: [f64; 5], d: usize) -> Option<Gap>
     requires { d ≤ 4 }
     ensures { result ≡ magnitude_split_of lg d }
 {
     let s = upper_hull(lg, d);
-    let at = s.at;
-    let mut k = s.h;
-    while 2 < k {
-        k -= 1;
-        let lo = mag(&lg, &at, k - 2);
-        let hi = mag(&lg, &at, k - 1);
+    for k in (0..s.h.saturating_sub(2)).rev() {
+        let lo = s.mag(&lg, k);
+        let hi = s.mag(&lg, k + 1);
         if hi - lo > 8.0 {
-            return Split::Gap(at[k - 1], exp2(0.5 * (lo + hi)));
+            return Some(Gap {
+                small: s.at[k + 1],
+                threshold: exp2(0.5 * (lo + hi)),
+            });
         }
     }
-    Split::None
+    None
 }

@@ -1,3 +1,2 @@
--- What the functions' proofs share, and what callers learn from an answer.
+-- What the functions' proofs share.
 pub mod Laws
-pub mod Steps

@@ -1,6 +1,5 @@
 -- `solve_square` of solve.rs: Gaussian elimination with partial pivoting of a square system of any size n, a matrix as the list of its rows. Definitions only.
-use Rattle.std.specs.Prelude.{ℕ, zero, suc, ◌+◌, ◌-◌, List, [], cond, length, get_or, set, replicate, Float}
-use Rattle.std.proofs.Math.Option.{Option, none, some}
+use Rattle.std.specs.Prelude.{ℕ, zero, suc, ◌+◌, ◌-◌, List, [], cond, length, get_or, set, replicate, Option, None, Some, Float}
 use Rattle.std.specs.Float.{nan}
 use Rattle.std.specs.Float.Ieee.{lt, le}
 use Rattle.facts.specs.Count.{count_up, count_down}
@@ -100,7 +99,7 @@ substitute_of n s = count_down (substitute_step s) n (replicate n zero64)
 -- `for col in 0..N`, of which k columns are left, and then back substitution. `least` is the pivot test's right side.
 -- A comparison with NaN is false, so a NaN pivot goes on.
 unfoldable pub solve_from : ℕ → Float → ℕ → Lines → Option (List Float)
-solve_from n least zero s = some (substitute_of n s)
+solve_from n least zero s = Some (substitute_of n s)
 solve_from n least (suc k) s =
     let col = n - suc k in
     let t = swap_pivot_of n col s in
@@ -108,7 +107,7 @@ solve_from n least (suc k) s =
     let pivotRow = get_or t.m col [] in
     let rest = solve_from n least k (reduce_of n col pivotRow t) in
     -- if m[col][col].abs() <= tol * scale.max(f64::MIN_POSITIVE) { return None; }
-    cond (le (abs_of (get_or pivotRow col nan)) least) none rest
+    cond (le (abs_of (get_or pivotRow col nan)) least) None rest
 
 -- `solve_square`
 unfoldable pub solve_square_of : ℕ → List (List Float) → List Float → Float → Option (List Float)

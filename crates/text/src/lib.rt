@@ -22,15 +22,14 @@ pub fn put_bytes(out: &mut [u8], at: usize, s: &[u8]) -> usize
     ensures { Written out.old at s.now out.new result }
 {
     let mut next = at;
-    let mut i = 0;
-    while i < s.len() {
-        next = put_byte(out, next, s[i]);
-        i += 1;
+    for b in s {
+        next = put_byte(out, next, *b);
     }
     next
 }
 
 // A digit below 16, in upper case.
+#[tactic(auto, unfolding(crate::specs::Digits::hex_digit))]
 fn hex_digit(d: u64) -> u8
     requires { d < 16 }
     ensures { result ≡ hex_digit d }
@@ -68,14 +67,16 @@ pub fn put_decimal(out: &mut [u8], at: usize, n: u64) -> usize
 }
 
 // A '-' before a number below zero.
+#[tactic(auto, using(crate::proofs::Laws::written_then), unfolding(crate::specs::Digits::signed_decimal))]
 pub fn put_signed(out: &mut [u8], at: usize, k: i32) -> usize
     requires { at + length (signed_decimal k) < 2 ^ 64 }
     ensures { Written out.old at (signed_decimal k) out.new result }
 {
+    let size = k.unsigned_abs() as u64;
     if k < 0 {
         let first = put_byte(out, at, b'-');
-        put_decimal(out, first, (-1 - k) as u64 + 1)
+        put_decimal(out, first, size)
     } else {
-        put_decimal(out, at, k as u64)
+        put_decimal(out, at, size)
     }
 }

@@ -16,8 +16,7 @@ use Rattle.scaled.specs.declared.Scaled.{Scaled}
 use Rattle.roots.specs.declared.RealRoot.{RealRoot}
 use Rattle.roots.specs.declared.Pair.{Pair}
 use Rattle.roots.specs.Listed.{multiplicities, Listed}
-use Rattle.critical.specs.declared.TurningPoint.{TurningPoint}
-use Rattle.critical.specs.declared.TurningPoint.TheVariants.{At, None}
+use Rattle.std.specs.Prelude.{Option, Some, None}
 use Rattle.critical.specs.Critical.{extremum_of}
 use Rattle.poly.specs.RealRoots.{unscaled_of}
 use Rattle.asking.specs.Asking.{Asking, done, ask, ◌then◌, each}
@@ -98,9 +97,9 @@ module _ (poly : Scaled) (tol : Float) where
           let b = sum_snoc (λ (r : RealRoot). r.multiplicity) its x in
           (omega arith, omega arith, omega arith)
 
-      go : (f : TurningPoint) → EndsWithin (suc n) (pair_at poly tol its f) Q
+      go : (f : Option Float) → EndsWithin (suc n) (pair_at poly tol its f) Q
       go None = same
-      go (At y) =
+      go (Some y) =
           let then-add : Bool → Asking (List RealRoot) = λ r. done (its ++ pair_item y r ∷ []) in
           either_within Q (suc n) (all_apart (apart_of poly tol y) y its) (touches_at poly.e y then then-add) (done its)
           (then_within Q (suc n) (touches_at poly.e y) then-add
@@ -133,13 +132,13 @@ module _ (poly : Scaled) (tol : Float) where
       grows : (n : ℕ) → length its ≤ n → (y : Float) → Q n (extended_by c it y, out)
       grows n h y = (omega arith, i.1, omega arith)
 
-      linked : (n : ℕ) → suc (length its) ≤ n → (f : TurningPoint) → EndsWithin n (link_at poly.e out c it f) Q
+      linked : (n : ℕ) → suc (length its) ≤ n → (f : Option Float) → EndsWithin n (link_at poly.e out c it f) Q
       linked zero h f = absurd (no h)
         where
           no : suc (length its) ≤ 0 → ⊥
           no h = omega arith
       linked (suc n) h None = parts (suc n) (omega arith)
-      linked (suc n) h (At y) =
+      linked (suc n) h (Some y) =
           let then-link : Bool → Asking (Chain × List RealRoot) = λ r. done (cond r (extended_by c it y, out) (parted poly.e out c it)) in
           either_within Q (suc n) (lt c.last y && lt y it.value) (touches_at poly.e y then then-link) (done (parted poly.e out c it))
           (then_within Q (suc n) (touches_at poly.e y) then-link
@@ -147,7 +146,7 @@ module _ (poly : Scaled) (tol : Float) where
           (elim [ true ↦ grows n (omega arith) y | false ↦ parts n (omega arith) ]) (parts (suc n) (omega arith))))
           (parts (suc n) (omega arith))
 
-      between : TurningPoint
+      between : Option Float
       between = extremum_of poly (mul binary64 half64 (add binary64 c.last it.value)) c.last it.value tol
 
       go : (b e : Bool) → eqb it.multiplicity 0 ≡ b → eqb c.mult 0 ≡ e

@@ -4,6 +4,7 @@ use mathlib.Core.Bool.{false}
 use mathlib.Core.List.{List, [], ◌∷◌, ◌++◌}
 use Prim.Native.Nat.{ℕ, ◌+◌, ◌≤◌, ◌<◌}
 use native.Mathlib.Omega.{arith}
+use Rattle.std.proofs.Common.{length-take-le}
 use borrow.Author.Tests.{lt-ltb}
 use lib.ListN.{length, take, drop, get_or}
 use lib.Ieee.{lt}
@@ -60,6 +61,9 @@ length_pair_order [] = refl
 length_pair_order (p ∷ []) = refl
 length_pair_order (p ∷ q ∷ []) = either_way (λ (l : List Pair). length l ≡ 2) (lt q.half p.half) refl refl
 length_pair_order (p ∷ q ∷ r ∷ l) = refl
+
+pub length_order : (ps : Pairs) → PairsFit ps → length (pair_order (pair_list_of ps)) ≡ ps.len
+length_order ps fit = length_pair_order (pair_list_of ps) ∙ length-take-le ps.len ps.pair (omega (arith, fit.0, fit.1))
 
 -- ---- one root more, where there is room
 held_more : (l : List RealRoot) (r : RealRoot) → length l < 4 → held l r ≡ l ++ r ∷ []

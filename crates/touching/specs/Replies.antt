@@ -1,5 +1,5 @@
 -- The replies so far, in an array with a count. Definitions only.
-use Rattle.std.specs.Prelude.{Bool, List, ◌+◌, take, set}
+use Rattle.std.specs.Prelude.{◌≡◌, Bool, List, ◌+◌, ◌≤◌, length, take, set}
 use Rattle.touching.specs.declared.Replies.{Replies}
 
 -- the replies that count
@@ -9,3 +9,7 @@ replies_of s = take s.count s.reply
 -- one reply more
 abbrev pub replied_by : Replies → Bool → Replies
 replied_by s r = record { reply = set s.reply s.count r; count = s.count + 1 }
+
+-- the array is one of four, and the count is in it
+abbrev pub RepliesFit : Replies → Type 0
+RepliesFit s = (length s.reply ≡ 4) × (s.count ≤ 4)

@@ -1,5 +1,5 @@
 -- real_roots_touching of poly.rs, from what `finish` gave to the list, as a computation that asks: `touches(x)` of the Rust is `ask x`. Definitions only.
-use Rattle.std.specs.Prelude.{Bool, true, false, ◌&&◌, List, [], ◌∷◌, ◌++◌, ℕ, ◌+◌, ltb, eqb, ℤ, Float}
+use Rattle.std.specs.Prelude.{Bool, true, false, ◌&&◌, List, [], ◌∷◌, ◌++◌, ℕ, ◌+◌, ltb, eqb, ℤ, Float, Option, Some, None}
 use Rattle.std.proofs.Math.Bool.{cond}
 use Rattle.std.specs.Float.Ieee.{lt}
 use Rattle.float.specs.Rounded.{◌+ᶠ◌, ◌-ᶠ◌, ◌*ᶠ◌}
@@ -10,8 +10,6 @@ use Rattle.roots.specs.declared.RootKind.TheVariants.{Brush, Flat}
 use Rattle.roots.specs.declared.RealRoot.{RealRoot}
 use Rattle.roots.specs.declared.Pair.{Pair}
 use Rattle.roots.specs.Roots.{root_by}
-use Rattle.critical.specs.declared.TurningPoint.{TurningPoint}
-use Rattle.critical.specs.declared.TurningPoint.TheVariants.{At, None}
 use Rattle.critical.specs.Critical.{extremum_of}
 use Rattle.finish.specs.Finish.{by_value}
 use Rattle.poly.specs.RealRoots.{unscaled_of}
@@ -55,10 +53,10 @@ module _ (poly : Scaled) (tol : Float) where
 
   -- `let Some(y) = poly.extremum(m, m - reach, m + reach, tol) else { continue; };`
   -- `items[n] = ..;` where no item is near
-  unfoldable pub pair_at : List RealRoot → TurningPoint → Asking (List RealRoot)
+  unfoldable pub pair_at : List RealRoot → Option Float → Asking (List RealRoot)
   unfolding ◌then◌
   pair_at its None = done its
-  pair_at its (At y) = cond (all_apart (apart_of y) y its) (touches_at poly.e y then λ reply. done (its ++ pair_item y reply ∷ [])) (done its)
+  pair_at its (Some y) = cond (all_apart (apart_of y) y its) (touches_at poly.e y then λ reply. done (its ++ pair_item y reply ∷ [])) (done its)
 
   -- `for &k in &order[..pairs.len]`: a turn, for the pair p
   unfoldable pub pair_turn : List RealRoot → Pair → Asking (List RealRoot)
@@ -126,10 +124,10 @@ abbrev pub parted : ℤ → List RealRoot → Chain → RealRoot → Chain × Li
 parted e out c it = (opened_by it, emitted e out c)
 
 -- `.filter(|&y| lo < y && y < hi && touches_at(y));` of the critical point sought between the chain and the item
-unfoldable pub link_at : ℤ → List RealRoot → Chain → RealRoot → TurningPoint → Asking (Chain × List RealRoot)
+unfoldable pub link_at : ℤ → List RealRoot → Chain → RealRoot → Option Float → Asking (Chain × List RealRoot)
 unfolding ◌then◌
 link_at e out c it None = done (parted e out c it)
-link_at e out c it (At y) =
+link_at e out c it (Some y) =
     let lo = c.last in
     let hi = it.value in
     cond (lt lo y && lt y hi)

@@ -3,11 +3,12 @@
 // `poly`, and `asking`, which says what a computation that asks is; the inquiry rests on it.
 #![tactic(auto)]
 
-ghost use Rattle.std.specs.Prelude.{◌≡◌, ◌<◌};
-ghost use Rattle.touching.specs.Replies.{replied_by};
+ghost use Rattle.std.specs.Prelude.{◌≡◌, ◌<◌, ◌≤◌};
+ghost use Rattle.touching.specs.Replies.{replied_by, RepliesFit};
 
 pub mod chains;
 pub mod items;
+pub mod whole;
 
 // The replies so far: at most degree - 1.
 #[derive(Clone, Copy)]
@@ -16,7 +17,37 @@ pub struct Replies {
     pub count: usize,
 }
 
-// Roots linked by touching critical points between them; none where mult is 0.
+// What a walk reads: the polynomial, the tolerance, and the replies at hand.
+#[derive(Clone, Copy)]
+pub struct Walker {
+    pub poly: scaled::Scaled,
+    pub tol: f64,
+    pub replies: Replies,
+    pub ghost degree: { poly.d ≤ 4 },
+    pub ghost fits: { RepliesFit replies },
+}
+
+// A place that has no reply yet: there a walk ends.
+#[derive(Clone, Copy)]
+pub struct Question {
+    pub place: f64,
+}
+
+// A reply, or no where nothing is asked. `used` replies are behind it.
+#[derive(Clone, Copy)]
+pub struct Heard {
+    pub yes: bool,
+    pub used: usize,
+}
+
+// The items so far, likewise.
+#[derive(Clone, Copy)]
+pub struct Walk {
+    pub items: roots::Roots,
+    pub used: usize,
+}
+
+// Roots linked by touching critical points between them.
 #[derive(Clone, Copy)]
 pub struct Chain {
     pub first: f64,
@@ -27,32 +58,12 @@ pub struct Chain {
     pub kind: roots::RootKind,
 }
 
-// What touches_at came to: a reply, or a place that has none yet. `used` replies are behind it.
-#[derive(Clone, Copy)]
-pub struct Heard {
-    pub yes: bool,
-    pub used: usize,
-    pub asking: bool,
-    pub place: f64,
-}
-
-// The items so far, likewise.
-#[derive(Clone, Copy)]
-pub struct Walk {
-    pub items: roots::Roots,
-    pub used: usize,
-    pub asking: bool,
-    pub place: f64,
-}
-
-// The chain at hand and the list so far, likewise.
+// The chain at hand, if there is one, and the list so far, likewise.
 #[derive(Clone, Copy)]
 pub struct Links {
-    pub chain: Chain,
+    pub chain: Option<Chain>,
     pub out: roots::Roots,
     pub used: usize,
-    pub asking: bool,
-    pub place: f64,
 }
 
 impl Replies {

@@ -3,7 +3,10 @@
 #![tactic(auto)]
 
 ghost use Rattle.std.specs.Prelude.{◌≡◌, ◌<◌};
-ghost use Rattle.trig_quartic.specs.Crank.{eighth_of, f_at_of, sample_of, quartic_of, no_crank, crank_front_of};
+ghost use Rattle.float.specs.Methods.{all_finite_of};
+ghost use Rattle.trig_quartic.specs.Crank.{eighth_of, f_at_of, numbers_of, sample_of, quartic_of, crank_front_of};
+
+use refusals::Refusal;
 
 #[derive(Clone, Copy)]
 struct CosSin {
@@ -14,7 +17,8 @@ struct CosSin {
 const H: f64 = 0.7071067811865476;
 
 // UNIT: cos and sin of k*PI/4.
-fn unit(k: usize) -> CosSin
+#[tactic(auto, unfolding(crate::specs::Crank::eighth_of))]
+fn unit(k: u32) -> CosSin
     requires { k < 8 }
     ensures { result ≡ eighth_of k }
 {
@@ -36,82 +40,93 @@ fn unit(k: usize) -> CosSin
     }
 }
 
-// The equation's left side at k*PI/4.
-fn f_at(a2: f64, b2: f64, c1: f64, d1: f64, e: f64, k: usize) -> f64
-    requires { k < 12 }
-    ensures { result ≡ f_at_of a2 b2 c1 d1 e k }
-{
-    let u1 = unit(k % 8);
-    let u2 = unit(2 * k % 8);
-    a2 * u2.cos + b2 * u2.sin + c1 * u1.cos + d1 * u1.sin + e
+// a2*cos 2t + b2*sin 2t + c1*cos t + d1*sin t + e = 0.
+#[derive(Clone, Copy)]
+pub struct TrigEquation {
+    pub a2: f64,
+    pub b2: f64,
+    pub c1: f64,
+    pub d1: f64,
+    pub e: f64,
 }
 
-// The k for which the left side at k*PI/4 + PI is largest in size, the last of equals: no root lies near u = infinity then.
-fn sample(a2: f64, b2: f64, c1: f64, d1: f64, e: f64) -> usize
-    ensures { (result ≡ sample_of a2 b2 c1 d1 e) × (result < 8) }
-{
-    let mut k = 0;
-    let mut largest = float::abs(f_at(a2, b2, c1, d1, e, 4));
-    for j in 1..8 {
-        let v = float::abs(f_at(a2, b2, c1, d1, e, j + 4));
-        if float::total_le(largest, v) {
-            k = j;
-            largest = v;
-        }
+impl TrigEquation {
+    fn is_finite(self) -> bool
+        ensures { result ≡ all_finite_of (numbers_of self) }
+    {
+        float::all_finite(&[self.a2, self.b2, self.c1, self.d1, self.e])
     }
-    k
+
+    // The left side at k*PI/4.
+    #[tactic(auto, unfolding(crate::specs::Crank::f_at_of))]
+    fn f_at(self, k: u32) -> f64
+        requires { k < 12 }
+        ensures { result ≡ f_at_of self k }
+    {
+        let TrigEquation { a2, b2, c1, d1, e } = self;
+        let u1 = unit(k % 8);
+        let u2 = unit(2 * k % 8);
+        a2 * u2.cos + b2 * u2.sin + c1 * u1.cos + d1 * u1.sin + e
+    }
+
+    // The k for which the left side at k*PI/4 + PI is largest in size, the last of equals: no root lies near u = infinity then.
+    #[tactic(auto, using(facts::specs::Count::up_turn, facts::specs::Count::up_end), unfolding(crate::specs::Crank::sample_of))]
+    fn sample(self) -> u32
+        ensures { (result ≡ sample_of self) × (result < 8) }
+    {
+        let mut k = 0;
+        let mut largest = float::abs(self.f_at(4));
+        for j in 1..8 {
+            let v = float::abs(self.f_at(j + 4));
+            if float::total_le(largest, v) {
+                (k, largest) = (j, v);
+            }
+        }
+        k
+    }
+
+    // The equation in s = t - k*PI/4, then in u: ascending coefficients.
+    #[tactic(auto, unfolding(crate::specs::Crank::quartic_of))]
+    fn quartic(self, k: u32) -> [f64; 5]
+        requires { k < 8 }
+        ensures { result ≡ quartic_of self k }
+    {
+        let TrigEquation { a2, b2, c1, d1, e } = self;
+        let u1 = unit(k);
+        let u2 = unit(2 * k % 8);
+        let a = a2 * u2.cos + b2 * u2.sin;
+        let b = b2 * u2.cos - a2 * u2.sin;
+        let c = c1 * u1.cos + d1 * u1.sin;
+        let d = d1 * u1.cos - c1 * u1.sin;
+        [
+            a + c + e,
+            4.0 * b + 2.0 * d,
+            -6.0 * a + 2.0 * e,
+            -4.0 * b + 2.0 * d,
+            a - c + e,
+        ]
+    }
 }
 
-// The equation in s = t - k*PI/4, then in u: ascending coefficients.
-fn quartic(a2: f64, b2: f64, c1: f64, d1: f64, e: f64, k: usize) -> [f64; 5]
-    requires { k < 8 }
-    ensures { result ≡ quartic_of a2 b2 c1 d1 e k }
-{
-    let u1 = unit(k);
-    let u2 = unit(2 * k % 8);
-    let a = a2 * u2.cos + b2 * u2.sin;
-    let b = b2 * u2.cos - a2 * u2.sin;
-    let c = c1 * u1.cos + d1 * u1.sin;
-    let d = d1 * u1.cos - c1 * u1.sin;
-    [
-        a + c + e,
-        4.0 * b + 2.0 * d,
-        -6.0 * a + 2.0 * e,
-        -4.0 * b + 2.0 * d,
-        a - c + e,
-    ]
-}
-
-// A refusal's number, 0 where there is none; k and the quartic in u, zeros where refused.
+// k, and the quartic in u.
 #[derive(Clone, Copy)]
 pub struct Crank {
-    pub number: u32,
-    pub k: usize,
+    pub k: u32,
     pub q: [f64; 5],
 }
 
-fn no_crank(number: u32) -> Crank
-    ensures { result ≡ no_crank number }
+// solve_trig up to its quartic; refused is what is not finite, of the five numbers or of the quartic.
+#[tactic(auto, unfolding(crate::specs::Crank::crank_front_of))]
+pub fn crank_front(trig: TrigEquation) -> Result<Crank, Refusal>
+    ensures { result ≡ crank_front_of trig }
 {
-    Crank {
-        number,
-        k: 0,
-        q: [0.0; 5],
+    if !trig.is_finite() {
+        return Err(Refusal::NotFinite);
     }
-}
-
-// solve_trig up to its quartic.
-pub fn crank_front(a2: f64, b2: f64, c1: f64, d1: f64, e: f64) -> Crank
-    ensures { result ≡ crank_front_of a2 b2 c1 d1 e }
-{
-    let handed = [a2, b2, c1, d1, e];
-    if float::all_finite(&handed) {
-        let k = sample(a2, b2, c1, d1, e);
-        let q = quartic(a2, b2, c1, d1, e, k);
-        if float::all_finite(&q) {
-            return Crank { number: 0, k, q };
-        }
-        return no_crank(refusals::ANSWER_NOT_FINITE);
+    let k = trig.sample();
+    let q = trig.quartic(k);
+    if !float::all_finite(&q) {
+        return Err(Refusal::AnswerNotFinite);
     }
-    no_crank(refusals::NOT_FINITE)
+    Ok(Crank { k, q })
 }

@@ -1,11 +1,7 @@
 -- `angle::rough` is safe.
 use native.Mathlib.Omega.{arith}
 use Rattle.ldexp.proofs.Pack.{pack_not_nan}
-use Rattle.nearest.proofs.Digits.{at_least_not_nan}
 use Rattle.angle.proofs.rough.Goals as goal
-
-pub float_to_bits-r : goal.float_to_bits-r
-float_to_bits-r c = at_least_not_nan _ _ c.if-x.true
 
 pub float_from_bits-r : goal.float_from_bits-r
 float_from_bits-r c = pack_not_nan _ (omega arith)

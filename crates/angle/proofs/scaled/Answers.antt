@@ -1,16 +1,9 @@
 -- By the place of k.
-use native.Mathlib.Omega.{arith}
-use Rattle.angle.proofs.Levels.{bit_pos, none, low, mid, high}
+use Rattle.angle.proofs.Levels.{none, low, mid, high}
 use Rattle.angle.proofs.scaled.Goals as goal
 
 pub returns-then-k-lt903 : goal.returns-then-k-lt903
 returns-then-k-lt903 c = none _ _ c.requires.w_low c.requires.w_high c.if-k-lt903.true
-
-pub nonzero_div-lo : goal.nonzero_div-lo
-nonzero_div-lo c = bit_pos _ (omega arith)
-
-pub nonzero_rem-rest : goal.nonzero_rem-rest
-nonzero_rem-rest c = bit_pos _ (omega arith)
 
 pub returns-then-k-lt966 : goal.returns-then-k-lt966
 returns-then-k-lt966 c = low _ _ c.if-k-lt903.false c.if-k-lt966.true

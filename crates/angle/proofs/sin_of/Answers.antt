@@ -14,11 +14,11 @@ unfolding of_bits
 returns-then-m-eq9007199254740992 c = sym (ap (λ (x : ℕ). sin_of (odd 54 false x 1021 1074)) c.if-m-eq9007199254740992.true ∙ sin_one)
 
 pub from_units-requires-2 : goal.from_units-requires-2
-from_units-requires-2 c = let s = c.sine_square-n.ensures in
-    let b = half_bounds _ (monotone _) (words _ _ s.least s.most s.word) _ c.half_root-r.ensures in
+from_units-requires-2 c = let s = c.sine_square-square.ensures in
+    let b = half_bounds _ (monotone _) (words _ s.least s.most s.word) _ c.half_root-r.ensures in
     record { w_low = b.0; w_high = b.1; k_high = s.reach }
 
 pub returns : goal.returns
 returns c =
     c.from_units-2.ensures
-    ∙ sym (sin_is _ _ _ _ _ c.requires.m_high c.sine_square-n.ensures c.half_root-r.ensures)
+    ∙ sym (sin_is _ _ _ _ _ c.requires.m_high c.sine_square-square.ensures c.half_root-r.ensures)

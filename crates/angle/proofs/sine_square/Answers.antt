@@ -8,11 +8,8 @@ returns-then-p-ge4398046511104 c =
     square_long _ _ _ _ _ c.requires.m_low c.requires.m_high c.even_digits-d.ensures c.mul-p.ensures.product
     c.mul-p.ensures.high c.if-p-ge4398046511104.true
 
-pub overflow_mul-hi : goal.overflow_mul-hi
-overflow_mul-hi c = omega (arith, c.if-p-ge4398046511104.false)
-
-pub overflow_add-hi : goal.overflow_add-hi
-overflow_add-hi c =
+pub overflow_add-result : goal.overflow_add-result
+overflow_add-result c =
     omega (
       arith,
       four_fits _ _ _ _ _ c.requires.m_low c.requires.m_high

@@ -7,11 +7,11 @@ use Rattle.band.proofs.magnitude.Goals as goal
 
 pub loop-i-init : goal.loop-i-init
 unfolding magnitude_of
-loop-i-init c = (search rules, rw c.abs-ay.ensures)
+loop-i-init c = rw c.abs-ay.ensures
 
 pub loop-i-preserved : goal.loop-i-preserved
 unfolding magnitude_step
-loop-i-preserved c = (search rules, rw c.abs.ensures (sym (down_turn _ _ _ (search rules)) ∙ c.loop-i.invariant.1))
+loop-i-preserved c = rw c.abs.ensures (sym (down_turn _ _ _ (search rules)) ∙ c.loop-i.invariant)
 
 pub returns : goal.returns
-returns c = sym (down_end _ _ _ (search rules)) ∙ c.loop-i.invariant.1
+returns c = sym (down_end _ _ _ (search rules)) ∙ c.loop-i.invariant

@@ -7,10 +7,10 @@ use Rattle.band.proofs.radius.Goals as goal
 
 pub loop-k-init : goal.loop-k-init
 unfolding radius_of
-loop-k-init c = (search rules, rw c.infinity-r.ensures)
+loop-k-init c = rw c.infinity-r.ensures
 
 pub loop-k-preserved : goal.loop-k-preserved
-loop-k-preserved c = (search rules, rw c.radius_step-r.ensures (sym (up_turn _ _ _ _ (search rules)) ∙ c.loop-k.invariant.1))
+loop-k-preserved c = rw c.radius_step-r.ensures (sym (up_turn _ _ _ _ (search rules)) ∙ c.loop-k.invariant)
 
 pub returns : goal.returns
-returns c = sym (up_end _ _ _ _ (search rules)) ∙ c.loop-k.invariant.1
+returns c = sym (up_end _ _ _ _ (search rules)) ∙ c.loop-k.invariant

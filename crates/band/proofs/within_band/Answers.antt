@@ -1,7 +1,6 @@
 -- `within_band` is its definition: f, d and unit suffice.
-use mathlib.Core.Path.{◌∙◌}
 use Rattle.band.proofs.Laws.{same_within}
 use Rattle.band.proofs.within_band.Goals as goal
 
 pub returns : goal.returns
-returns c = c.within.ensures ∙ same_within _ _ _ _
+returns c = rw (c.within.ensures, c.polynomial.ensures.0, c.polynomial.ensures.1) (same_within _ _ _ _)

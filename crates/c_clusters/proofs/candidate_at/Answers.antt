@@ -9,11 +9,11 @@ use Rattle.c_clusters.specs.Clustering.{candidate_at}
 use Rattle.c_clusters.proofs.candidate_at.Goals as goal
 
 pub overflow_cast-multiplicity : goal.overflow_cast-multiplicity
-overflow_cast-multiplicity c = omega (arith, c.shared_slice_known-2-1.given (32 + c.args.i))
+overflow_cast-multiplicity c = omega (arith, c.type_inv.c (32 + c.args.i))
 
 pub returns : goal.returns
 unfolding candidate_at
 returns c =
     let a = c.args in
     let is = ap (λ (y : Float). root y (get_or a.c.now (32 + a.i) 0)) c.f64_at-value.ensures in
-    (c.new.ensures ∙ is, rw c.new.ensures (omega (arith, c.shared_slice_known-2-1.given (32 + a.i))))
+    (c.new.ensures ∙ is, rw c.new.ensures (omega (arith, c.type_inv.c (32 + a.i))))

@@ -1,14 +1,12 @@
 -- Number by number.
-use native.Mathlib.Omega.{arith}
-use lib.Ieee.{of_int}
-use Rattle.float.proofs.Whole.{whole_exact}
-use Rattle.c_clusters.specs.Clustering.{root_numbers, found_numbers}
+use mathlib.Core.Path.{◌∙◌}
+use Rattle.std.proofs.Common.{rules}
+use Rattle.float.proofs.Made.{made_by}
+use Rattle.c_clusters.specs.Clustering.{found_number}
+use Rattle.c_clusters.proofs.Polynomials.{all_found}
 use Rattle.c_clusters.proofs.found_numbers.Goals as goal
 
 pub returns : goal.returns
-unfolding of_int found_numbers root_numbers
 returns c =
-    rw c.root_numbers-x.ensures
-
-pub int_to_float-result : goal.int_to_float-result
-int_to_float-result c = whole_exact _ (omega arith)
+    let x = c.root_numbers-x in
+    made_by _ (found_number x.result c.args.s.pairs) _ _ _ (λ i y q l k. search rules) c.from_fn.ensures.items ∙ all_found c.args.s _ x.ensures

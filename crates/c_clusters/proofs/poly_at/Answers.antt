@@ -11,6 +11,6 @@ pub returns : goal.returns
 returns c =
     let d = c.args.d in
     let l : d ≤ 4 = search rules in (
-      c.new.ensures ∙ ap (λ (a : List Float). scaled_of a d) c.five_at.ensures,
+      c.new.ensures ∙ ap (λ (a : List Float). scaled_of a d) c.doubles_at-f.ensures,
       subst⁻¹ (λ (s : Scaled). s.d ≤ 4) c.new.ensures (unfold scaled_of in l),
     )

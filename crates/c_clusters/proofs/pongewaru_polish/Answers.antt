@@ -8,9 +8,9 @@ pub returns-then-lacks_five : goal.returns-then-lacks_five
 unfolding of_bits div
 returns-then-lacks_five c = is_other _ _ c.lacks_five.ensures c.if-lacks_five.true
 
-pub poly_at-p-requires : goal.poly_at-p-requires
-poly_at-p-requires c = let ok = accepted _ _ c.lacks_five.ensures c.if-lacks_five.false in record { a_length = ok.0; d_high = ok.1 }
+pub poly_at-requires : goal.poly_at-requires
+poly_at-requires c = let ok = accepted _ _ c.lacks_five.ensures c.if-lacks_five.false in record { a_length = ok.0; d_high = ok.1 }
 
 pub returns : goal.returns
 returns c =
-    is_given _ _ c.lacks_five.ensures c.if-lacks_five.false (rw c.poly_at-p.ensures.0 at c.polish.ensures)
+    is_given _ _ c.lacks_five.ensures c.if-lacks_five.false (rw (c.polynomial.ensures.0, c.polynomial.ensures.1, c.poly_at.ensures.0) at c.polish.ensures)

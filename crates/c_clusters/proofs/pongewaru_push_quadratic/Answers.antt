@@ -17,23 +17,23 @@ returns-then-lacks c =
 pub poly_at-requires : goal.poly_at-requires
 poly_at-requires c = record { a_length = (accepted _ _ c.lacks_five.ensures c.if-lacks_five.false).0; d_high = (accepted _ _ c.lacks_five.ensures c.if-lacks_five.false).1 }
 
-pub candidates_at-requires : goal.candidates_at-requires
-candidates_at-requires c = let h = (holding _ _ _ _ c.lacks.ensures c.if-lacks.false).0 in search rules
+pub candidates_at-roots-requires : goal.candidates_at-roots-requires
+candidates_at-roots-requires c = let h = (holding _ _ _ _ c.lacks.ensures c.if-lacks.false).0 in search rules
 
-pub pairs_at-requires : goal.pairs_at-requires
-pairs_at-requires c = (holding _ _ _ _ c.lacks.ensures c.if-lacks.false).0
+pub pairs_at-pairs-requires : goal.pairs_at-pairs-requires
+pairs_at-pairs-requires c = (holding _ _ _ _ c.lacks.ensures c.if-lacks.false).0
 
 pub found_numbers-requires : goal.found_numbers-requires
 found_numbers-requires c =
     let few = (holding _ _ _ _ c.lacks.ensures c.if-lacks.false).1 in
-    let fit = quadratic_fits _ _ _ _ _ _ _ few.0 few.1 c.candidates_at.ensures.0 c.pairs_at.ensures c.push_quadratic-s.ensures in
+    let fit = quadratic_fits _ _ _ _ _ _ _ few.0 few.1 c.candidates_at-roots.ensures.0 c.pairs_at-pairs.ensures c.push_quadratic-s.ensures in
     record { fits = fit.0; pairs_fit = fit.1 }
 
 pub returns : goal.returns
 returns c =
     let is = rw (
-      c.pairs_at.ensures,
-      c.candidates_at.ensures.0,
+      c.pairs_at-pairs.ensures,
+      c.candidates_at-roots.ensures.0,
       c.poly_at.ensures.0,
     ) at (c.found_numbers.ensures ∙ ap found_numbers c.push_quadratic-s.ensures) in
     held _ _ c.lacks_five.ensures c.if-lacks_five.false refl

@@ -1,14 +1,21 @@
--- Number by number.
-use native.Mathlib.Omega.{arith}
-use Rattle.float.proofs.Whole.{whole_exact}
-use Rattle.c_clusters.specs.Clustering.{root_numbers}
+-- Root by root.
+use mathlib.Core.Path.{refl, ap, ◌∙◌}
+use mathlib.Core.List.{List}
+use Prim.Native.Nat.{◌+◌, ◌*◌}
+use lib.Ieee.{Float}
+use lib.ListN.{get_or, set}
+use Rattle.std.proofs.Common.{rules}
+use Rattle.lent_bytes.specs.Numbers.{number}
+use Rattle.roots.specs.Listed.{blank}
+use Rattle.c_clusters.proofs.Polynomials.{filled_next, filled_all}
 use Rattle.c_clusters.proofs.root_numbers.Goals as goal
 
-pub int_to_float-result : goal.int_to_float-result
-int_to_float-result c =
-    whole_exact _ (omega (arith, c.requires.1))
+pub loop-k-preserved : goal.loop-k-preserved
+loop-k-preserved c =
+    let k = c.loop-k.k in
+    let r = get_or c.args.s.root k blank in
+    ap (λ (x : List Float). set (set (set x (3 * k + 1) r.value) (3 * k + 2) (number r.multiplicity)) (3 * k + 3) c.kind_number.result) c.loop-k.invariant
+    ∙ filled_next c.args.s k c.loop-k-test.true refl refl c.kind_number.ensures
 
 pub returns : goal.returns
-unfolding root_numbers
-returns c =
-    rw (c.kind_number.ensures, c.kind_number-2.ensures, c.kind_number-3.ensures, c.kind_number-4.ensures)
+returns c = c.loop-k.invariant ∙ filled_all c.args.s c.loop-k.k (search rules) (search rules)

@@ -9,5 +9,5 @@ returns-then-a-lt40 c = lacking _ _ (sym (lt-ltb _ _ c.if-a-lt40.true)) refl
 
 pub returns : goal.returns
 returns c =
-    let is = rw c.five_at.ensures at c.log2_five.ensures in
+    let is = rw c.doubles_at.ensures at c.log2_five.ensures in
     held _ _ (sym (le-ltb _ _ c.if-a-lt40.false)) refl is c.store.ensures

@@ -1,52 +1,24 @@
 -- By the words of the cube.
-use mathlib.Core.Path.{◌≡◌, ◌∙◌}
-use mathlib.Core.Logic.{◌⊎◌, inl, inr}
-use Prim.Native.Nat.{ℕ, ◌^◌, ◌<◌}
-use native.Mathlib.Omega.{arith}
-use Rattle.cbrt.proofs.Words.{product_lt, square_lt, upper_lt, square_upper, within_is}
-use Rattle.cbrt.proofs.within.Goals.{then-q-eq0, else-q-eq0}
+use Rattle.std.proofs.Common.{◌∙◌, ⊎_elim, arith}
+use Rattle.cbrt.proofs.Words.{product_lt, square_lt, upper_lt, square_upper, one, within_is}
 use Rattle.cbrt.proofs.within.Goals as goal
 
-positive : (n : ℕ) → (n ≡ 0 → ⊥) → 0 < n
-positive n h = omega arith
+pub overflow_add-q : goal.overflow_add-q
+overflow_add-q c =
+    let q = c.mul-q in
+    let l = upper_lt q.result.hi q.result.lo _ q.ensures.product (product_lt c.mul-s.result.lo c.args.t c.mul-s.ensures.high c.requires.t_high) in
+    ⊎_elim (λ z. omega arith) (λ z. omega arith) (one _ _ c.from-rest.ensures)
 
-pub overflow_add-e : goal.overflow_add-e
-overflow_add-e c =
-    let t = c.args.t in
+pub add-requires : goal.add-requires
+add-requires c =
     let s = c.mul-s in
     let p = c.mul-p in
-    let q = c.mul-q in
-    let small : t < 2 ^ 56 = c.requires.t_high in
-    let l = upper_lt q.result.hi q.result.lo _ q.ensures.product (product_lt s.result.lo t s.ensures.high small) in
-    elim c.if-q-eq0.branch [ then-q-eq0 w ↦ omega (arith, w.rest-is) | else-q-eq0 w ↦ omega (arith, w.rest-is) ]
-
-pub add-sum-requires : goal.add-sum-requires
-add-sum-requires c =
-    let t = c.args.t in
-    let s = c.mul-s in
-    let p = c.mul-p in
-    let q = c.mul-q in
-    let small : t < 2 ^ 56 = c.requires.t_high in
-    let s1 = square_upper s.result.hi s.result.lo _ s.ensures.product (square_lt t small) in
-    let l = upper_lt p.result.hi p.result.lo _ p.ensures.product (product_lt s.result.hi t (omega arith) small) in
+    let s1 = square_upper s.result.hi s.result.lo _ s.ensures.product (square_lt c.args.t c.requires.t_high) in
+    let l = upper_lt p.result.hi p.result.lo _ p.ensures.product (product_lt s.result.hi c.args.t (omega arith) c.requires.t_high) in
     omega arith
 
 pub returns : goal.returns
 returns c =
-    let t = c.args.t in
-    let s = c.mul-s in
-    let p = c.mul-p in
-    let q = c.mul-q in
-    let small : t < 2 ^ 56 = c.requires.t_high in
-    let a = c.add-sum in
-    let rests : ((q.result.lo ≡ 0) × (c.if-q-eq0.rest ≡ 0)) ⊎ ((0 < q.result.lo) × (c.if-q-eq0.rest ≡ 1)) =
-    elim c.if-q-eq0.branch [
-      | then-q-eq0 w ↦ inl (w.if-q-eq0.true, w.rest-is)
-      | else-q-eq0 w ↦ inr (positive q.result.lo w.if-q-eq0.false, w.rest-is)
-    ] in
     c.at_most.ensures
-    ∙ within_is t c.args.a s.result.hi s.result.lo p.result.hi p.result.lo q.result.hi q.result.lo
-    c.if-q-eq0.rest a.result.hi a.result.lo
-    s.ensures.product p.ensures.product q.ensures.product q.ensures.high
-    rests
-    a.ensures.0
+    ∙ within_is c.args.t c.args.a _ _ _ _ _ _ _ _ _ c.mul-s.ensures.product c.mul-p.ensures.product c.mul-q.ensures.product c.mul-q.ensures.high
+    (one _ _ c.from-rest.ensures) c.add.ensures.0

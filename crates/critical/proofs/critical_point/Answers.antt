@@ -4,4 +4,4 @@ use Rattle.critical.proofs.critical_point.Goals as goal
 
 pub returns : goal.returns
 unfolding critical_point_of
-returns c = c.critical.ensures
+returns c = rw (c.critical.ensures, c.polynomial.ensures.0, c.polynomial.ensures.1)

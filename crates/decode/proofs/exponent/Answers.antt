@@ -16,19 +16,18 @@ pub returns-then-x : goal.returns-then-x
 unfolding of_bits
 returns-then-x c = sym (exponent_zero _ c.if-x.true)
 
-pub returns-then-n-eq0 : goal.returns-then-n-eq0
+pub returns-in-None : goal.returns-in-None
 unfolding of_bits
-returns-then-n-eq0 c =
-    sym (exponent_irregular _ c.if-x.false (decoded_irregular _ _ _ c.normal_of-n.ensures c.if-n-eq0.true))
+returns-in-None c = sym (exponent_irregular _ c.if-x.false (decoded_irregular _ c.in-None.ensures))
 
 pub overflow_cast-result : goal.overflow_cast-result
-overflow_cast-result c = omega (arith, (decoded_normal _ _ _ c.normal_of-n.ensures c.if-n-eq0.false).reach)
+overflow_cast-result c = omega (arith, (decoded_normal _ _ c.in-Some.ensures).reach)
 
 pub overflow_sub-result : goal.overflow_sub-result
-overflow_sub-result c = machine_fits 1073 _ (lit< tt) (short _ (decoded_normal _ _ _ c.normal_of-n.ensures c.if-n-eq0.false).reach)
+overflow_sub-result c = machine_fits 1073 _ (lit< tt) (short _ (decoded_normal _ _ c.in-Some.ensures).reach)
 
-pub returns : goal.returns
-returns c =
-    let d = c.normal_of-n.ensures in
-    let n = decoded_normal _ _ _ d c.if-n-eq0.false in
-    machine_is 1073 _ (lit< tt) (short _ n.reach) ∙ sym (exponent_is _ _ _ (decoded_regular _ _ _ d c.if-n-eq0.false) n)
+pub returns-in-Some : goal.returns-in-Some
+returns-in-Some c =
+    let d = c.in-Some.ensures in
+    let n = decoded_normal _ _ d in
+    machine_is 1073 _ (lit< tt) (short _ n.reach) ∙ sym (exponent_is _ _ _ (decoded_regular _ _ d) n)

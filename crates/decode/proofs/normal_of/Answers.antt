@@ -42,5 +42,5 @@ overflow_sub-result c = (shifted _ c.if-fraction-eq0.false (omega arith)).bound
 pub returns : goal.returns
 returns c =
     fraction_digits c.args.x c.well_formed.0.1 _
-    (pattern c.args.x c.well_formed.0.1 (self_not_nan _ c.if-x.false)) c.if-field-ne0.false _ _
+    (pattern c.args.x c.well_formed.0.1 (self_not_nan _ c.if-x.false)) c.if-field-ne0.false _
     (shifted _ c.if-fraction-eq0.false (omega arith)).digits

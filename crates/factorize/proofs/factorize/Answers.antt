@@ -3,4 +3,4 @@ use Rattle.factorize.proofs.Discs.{the_factors}
 use Rattle.factorize.proofs.factorize.Goals as goal
 
 pub returns : goal.returns
-returns c = the_factors c.factorize_rooted-r.ensures
+returns c = the_factors c.factorize_rooted.ensures

@@ -13,14 +13,14 @@ decreases-sum l = 3 * (length l.s.now - l.at) + 2
 abbrev pub decreases-term : goal.decreases-term
 decreases-term l = 3 * (length l.s.now - l.at) + 1
 
-abbrev pub invariant-sum-loop-i : goal.invariant-sum-loop-i
-invariant-sum-loop-i l = SumFar l.s l.at l.left
+abbrev pub invariant-sum-loop-op : goal.invariant-sum-loop-op
+invariant-sum-loop-op l = SumFar l.s l.at l.left
 
-abbrev pub decreases-sum-loop-i : goal.decreases-sum-loop-i
-decreases-sum-loop-i l = length l.s - l.left.next
+abbrev pub decreases-sum-loop-op : goal.decreases-sum-loop-op
+decreases-sum-loop-op l = length l.s - l.left.next
 
-abbrev pub invariant-term-loop-i : goal.invariant-term-loop-i
-invariant-term-loop-i l = TermFar l.s l.at l.left
+abbrev pub invariant-term-loop-left : goal.invariant-term-loop-left
+invariant-term-loop-left l = TermFar l.s l.at l.left
 
-abbrev pub decreases-term-loop-i : goal.decreases-term-loop-i
-decreases-term-loop-i l = length l.s - l.left.next
+abbrev pub decreases-term-loop-left : goal.decreases-term-loop-left
+decreases-term-loop-left l = length l.s - l.left.next

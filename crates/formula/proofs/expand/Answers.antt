@@ -1,15 +1,12 @@
 -- By whether a sum was read, and whether it is all of the text.
-use borrow.Author.Tests.{not-true, not-false}
-use native.Mathlib.Omega.{arith}
-use Rattle.formula.proofs.Whole.{text_unread, text_read}
+use Rattle.formula.proofs.Whole.{text_unread, text_rest, text_read}
 use Rattle.formula.proofs.expand.Goals as goal
 
-pub returns-then-not-all : goal.returns-then-not-all
-returns-then-not-all c =
-    let all = c.sum-all in
-    text_unread _ all.result all.ensures (not-true _ c.if-not-all.true) _ c.refused.ensures
+pub returns-in_default : goal.returns-in_default
+returns-in_default c = text_unread _ c.in_default.ensures _ c.refused.ensures
+
+pub returns-then-all-s : goal.returns-then-all-s
+returns-then-all-s c = text_rest _ c.in-Some.all c.in-Some.ensures c.if-all-s.true _ c.refused-then-all-s.ensures
 
 pub returns : goal.returns
-returns c =
-    let all = c.sum-all in
-    text_read _ all.result all.ensures (not-false _ c.if-not-all.false) (omega arith) _ c.answered.ensures
+returns c = text_read _ c.in-Some.all c.in-Some.ensures c.if-all-s.false _ c.answered.ensures

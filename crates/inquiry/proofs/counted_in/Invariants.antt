@@ -1,13 +1,9 @@
 use mathlib.Core.Path.{◌≡◌}
-use Prim.Native.Nat.{◌-◌, ◌≤◌}
 use lib.ListN.{drop}
 use Rattle.roots.specs.Roots.{list_of}
-use Rattle.roots.specs.Listed.{Fits}
 use Rattle.inquiry.specs.Inquiry.{counted_in}
 use Rattle.inquiry.proofs.counted_in.Given as goal
 
-abbrev pub invariant-loop-k : goal.invariant-loop-k
-invariant-loop-k l = (l.k ≤ l.roots.len) × Fits l.roots × (counted_in l.left (drop l.k (list_of l.roots)) ≡ counted_in l.most (list_of l.roots))
-
-abbrev pub decreases-loop-k : goal.decreases-loop-k
-decreases-loop-k l = l.roots.len - l.k
+-- what is left of the roots, and of the sum, decides
+abbrev pub invariant-loop-r : goal.invariant-loop-r
+invariant-loop-r l = counted_in l.left (drop l.r-index l.r-items) ≡ counted_in l.fn.most (list_of l.fn.roots)

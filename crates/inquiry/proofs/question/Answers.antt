@@ -4,4 +4,4 @@ use Rattle.inquiry.proofs.question.Goals as goal
 
 pub returns : goal.returns
 unfolding shown left_by over_by
-returns c = rw c.none-none.ensures
+returns c = rw c.none.ensures

@@ -1,9 +1,9 @@
--- `isolated` is its definition, from what it calls.
-use Rattle.isolated.proofs.Laws.{is_lone}
+-- `isolated` is its definition: `map` keeps the root of the best one.
+use Rattle.isolated.proofs.Laws.{mapped, is_lone}
+use borrow.Author.Rules.{rules}
 use Rattle.isolated.proofs.isolated.Goals as goal
 
-pub best_root-requires : goal.best_root-requires
-best_root-requires c = (c.disc_of-first.ensures, c.disc_of-second.ensures)
-
 pub returns : goal.returns
-returns c = is_lone _ c.disc_of-first.ensures c.disc_of-second.ensures c.best_root.ensures c.lone-far.ensures
+returns c =
+    let far = mapped c.best_root.result _ (λ b x k. search rules) c.map-far.ensures.cases in
+    rw (c.disc_of-first.ensures, c.disc_of-second.ensures) (is_lone _ _ (rw c.best_root.ensures at far))

@@ -8,4 +8,4 @@ use Rattle.ldexp.proofs.ldexp.Goals as goal
 pub returns : goal.returns
 returns c =
     c.scaled.ensures ∙ ap (λ (z : ℤ). ldexp_of c.args.x z)
-    (sym (sym (to_z-of_z c.ranges.k) ∙ c.split_sign-s.ensures))
+    (sym (sym (to_z-of_z c.ranges.k) ∙ c.of.ensures))

@@ -8,5 +8,5 @@ use Rattle.ldexp.proofs.steady.Goals as goal
 pub returns-then-x : goal.returns-then-x
 returns-then-x c e = steady_zero _ (subst T (sym c.well_formed.0.1) tt) c.if-x.true
 
-pub returns : goal.returns
-returns c e = steady_special _ (sym c.is_finite.ensures ∙ not-true _ e)
+pub returns-else-x : goal.returns-else-x
+returns-else-x c e = steady_special _ (sym c.is_finite.ensures ∙ not-true _ e)

@@ -6,10 +6,10 @@ pub returns-then-x : goal.returns-then-x
 unfolding rest_with
 returns-then-x c = simp (sym c.is_finite.ensures ∙ c.if-is_finite.true, c.if-x.true)
 
-pub returns-then-is_finite : goal.returns-then-is_finite
+pub returns-else-x : goal.returns-else-x
 unfolding rest_with
-returns-then-is_finite c = simp (sym c.is_finite.ensures ∙ c.if-is_finite.true, c.if-x.false)
+returns-else-x c = simp (sym c.is_finite.ensures ∙ c.if-is_finite.true, c.if-x.false)
 
-pub returns : goal.returns
+pub returns-else-is_finite : goal.returns-else-is_finite
 unfolding rest_with
-returns c = simp (sym c.is_finite.ensures ∙ c.if-is_finite.false)
+returns-else-is_finite c = simp (sym c.is_finite.ensures ∙ c.if-is_finite.false)

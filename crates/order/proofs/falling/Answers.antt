@@ -6,20 +6,20 @@ use borrow.Author.Rules.{rules}
 use Rattle.order.proofs.falling.Goals as goal
 
 pub loop-i-init : goal.loop-i-init
-loop-i-init c = (search rules, sym (order_none _ _))
+loop-i-init c = sym (order_none _ _)
 
 pub insert-next-requires : goal.insert-next-requires
 insert-next-requires c = record {
   i_high = search rules;
-  places = subst Places (sym c.loop-i.invariant.1) (order_places _ _ _ (search rules));
+  places = subst Places (sym c.loop-i.invariant) (order_places _ _ _ (search rules));
 }
 
 pub loop-i-preserved : goal.loop-i-preserved
-loop-i-preserved c = (search rules, c.insert-next.ensures ∙ rw c.loop-i.invariant.1 (order_turn _ _ _ (search rules)))
+loop-i-preserved c = c.insert-next.ensures ∙ rw c.loop-i.invariant (order_turn _ _ _ (search rules))
 
 pub returns : goal.returns
 unfolding falling_of
 returns c =
     let e : c.loop-i.i ≡ c.args.n = search rules in
-    let r = c.loop-i.invariant.1 ∙ ap (order_of _ _) e in
+    let r = c.loop-i.invariant ∙ ap (order_of _ _) e in
     (r, subst Places (sym r) (order_places _ _ _ (search rules)))

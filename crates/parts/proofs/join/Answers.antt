@@ -11,12 +11,14 @@ pub returns-then-b-ne0 : goal.returns-then-b-ne0
 returns-then-b-ne0 c =
     record { value = join_right c.args.op c.args.a c.args.b c.if-a-ne0.false c.if-b-ne0.true; sound = c.requires.b_sound }
 
-pub made_len-end-requires : goal.made_len-end-requires
-made_len-end-requires c = (c.len-m.ensures.ends.few, c.len-n.ensures.ends.few)
+pub len-end-requires : goal.len-end-requires
+len-end-requires c = (c.of-x.result.ends.few, c.of-y.result.ends.few)
 
 pub made-requires : goal.made-requires
-made-requires c = record { a_ends = c.len-m.ensures.ends; b_ends = c.len-n.ensures.ends; end_is = (c.made_len-end.ensures, omega arith) }
+made-requires c = (c.len-end.ensures, omega arith)
 
 pub returns : goal.returns
-returns c = let a = c.args in
-    record { value = join_both a.op a.a a.b c.if-a-ne0.false c.if-b-ne0.false _ c.made.ensures.value; sound = c.made.ensures.sound }
+returns c =
+    let a = c.args in
+    let made = rw (c.of-x.ensures.raised, c.of-y.ensures.raised) at c.made.ensures.value in
+    record { value = join_both a.op a.a a.b c.if-a-ne0.false c.if-b-ne0.false _ made; sound = c.made.ensures.sound }

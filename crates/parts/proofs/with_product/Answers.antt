@@ -1,26 +1,21 @@
 -- The upper words have room.
 use native.Mathlib.Omega.{arith}
-use Rattle.parts.specs.Part.{words_of}
 use Rattle.parts.proofs.Words.{upper_sum, words_sum}
 use Rattle.parts.proofs.with_product.Goals as goal
 
-pub overflow_add-s : goal.overflow_add-s
-unfolding words_of
-overflow_add-s c =
+pub overflow_add-upper : goal.overflow_add-upper
+overflow_add-upper c =
     omega (arith, upper_sum c.args.s c.mul-p.result _ _ c.requires.within c.mul-p.ensures.product c.requires.digits_high.0 c.requires.digits_high.1)
 
-pub overflow_add-s-2 : goal.overflow_add-s-2
-unfolding words_of
-overflow_add-s-2 c =
+pub overflow_add-upper-2 : goal.overflow_add-upper-2
+overflow_add-upper-2 c =
     omega (arith, upper_sum c.args.s c.mul-p.result _ _ c.requires.within c.mul-p.ensures.product c.requires.digits_high.0 c.requires.digits_high.1)
 
 pub add-requires : goal.add-requires
-unfolding words_of
 add-requires c =
     omega (arith, upper_sum c.args.s c.mul-p.result _ _ c.requires.within c.mul-p.ensures.product c.requires.digits_high.0 c.requires.digits_high.1)
 
 pub returns : goal.returns
-unfolding words_of
 returns c =
     let s = c.args.s in
     words_sum s.hi s.lo c.mul-p.result.hi c.mul-p.result.lo _ _ c.add.ensures.0 c.mul-p.ensures.product

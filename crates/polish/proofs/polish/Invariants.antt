@@ -1,12 +1,10 @@
 use mathlib.Core.Path.{◌≡◌}
-use Prim.Native.Nat.{◌-◌, ◌≤◌}
+use Prim.Native.Nat.{◌-◌}
 use Rattle.horner.specs.Horner.{value_slope_compensated_of}
 use Rattle.polish.specs.Polish.{polish_of}
 use Rattle.polish.proofs.Laws.{turns_from}
 use Rattle.polish.proofs.polish.Given as goal
 
 abbrev pub invariant-loop-k : goal.invariant-loop-k
-invariant-loop-k l = (l.k ≤ 4) × (l.at ≡ value_slope_compensated_of l.f l.d l.y) × (turns_from l.f l.d l.gap (4 - l.k) l.y ≡ polish_of 4 l.f l.d l.gap l.y0)
-
-abbrev pub decreases-loop-k : goal.decreases-loop-k
-decreases-loop-k l = 4 - l.k
+invariant-loop-k l =
+    (l.at ≡ value_slope_compensated_of l.p.f l.p.d l.y) × (turns_from l.p.f l.p.d l.gap (4 - l.k) l.y ≡ polish_of 4 l.p.f l.p.d l.gap l.y0)

@@ -1,18 +1,18 @@
--- Each turn passes a zero.
-use mathlib.Core.Path.{sym, ◌∙◌}
-use borrow.Author.Rules.{rules}
-use native.Mathlib.Nat.{zero-add}
-use Rattle.poly.proofs.Coefficients.{zeros_stop, zeros_go, zeros_end}
+-- As many zeros as the chain takes.
+use mathlib.Core.Path.{◌∙◌}
+use Rattle.std.proofs.Common.{rules, tests}
+use Rattle.std.proofs.lemmas.Iterator.{YieldsList-from_slice}
+use Rattle.std.proofs.lemmas.Iterator.Consumers.{YieldsList-at, count_from_yields_List}
+use Rattle.std.proofs.lemmas.Iterator.Search.{YieldsList-from_take_while}
+use Rattle.std.proofs.lemmas.List.Folds.{length-prefix_len}
+use Rattle.poly.proofs.Coefficients.{is_zero, zeros_prefix}
 use Rattle.poly.proofs.leading_zeros.Goals as goal
 
-pub loop-i-init : goal.loop-i-init
-loop-i-init c = (search rules, zero-add _)
-
-pub loop-i-preserved : goal.loop-i-preserved
-loop-i-preserved c = (search rules, sym (zeros_go _ _ c.loop-i-test.true c.if-coeffs-i.true) ∙ c.loop-i.invariant.1)
-
-pub returns-else-coeffs-i : goal.returns-else-coeffs-i
-returns-else-coeffs-i c = sym (zeros_stop _ _ c.loop-i-test.true c.if-coeffs-i.false) ∙ c.loop-i.invariant.1
-
 pub returns : goal.returns
-returns c = sym (zeros_end _ _ c.loop-i-test.false) ∙ c.loop-i.invariant.1
+returns c =
+    let coeffs = c.args.coeffs.now in
+    count_from_yields_List c.take_while.result _ c.count.ensures.ran
+    (YieldsList-from_take_while _ is_zero (YieldsList-at c.take_while.ensures.source (YieldsList-from_slice coeffs cc)) c.take_while.ensures.closure
+    c.take_while.ensures.done (λ x b q k. search (rules, tests)))
+    ∙ length-prefix_len is_zero coeffs
+    ∙ zeros_prefix coeffs

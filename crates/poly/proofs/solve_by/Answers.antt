@@ -23,15 +23,13 @@ overflow_sub-d-2 c =
     let r = room _ _ _ _ _ c.trimmed-n.ensures.0 c.leading_zeros-zeros.ensures c.refusal-number.ensures c.if-number-ne0.false in
     search rules
 
-pub logs-requires : goal.logs-requires
-logs-requires c =
+pub invariant_of-p : goal.invariant_of-p
+invariant_of-p c =
     let r = room _ _ _ _ _ c.trimmed-n.ensures.0 c.leading_zeros-zeros.ensures c.refusal-number.ensures c.if-number-ne0.false in
     search rules
 
 pub with_logs-poly-requires : goal.with_logs-poly-requires
-with_logs-poly-requires c =
-    let r = room _ _ _ _ _ c.trimmed-n.ensures.0 c.leading_zeros-zeros.ensures c.refusal-number.ensures c.if-number-ne0.false in
-    record { d_high = search rules; l_high = c.logs.ensures.0 }
+with_logs-poly-requires c = c.logs.ensures.0
 
 pub finished-requires : goal.finished-requires
 finished-requires c =

@@ -1,23 +1,16 @@
--- `unscaled_all` is the loop, turn by turn, and so its definition.
+-- Each turn lists one root more.
 use mathlib.Core.Path.{◌∙◌}
-use mir.Facts.{to_z-of_z}
-use Rattle.facts.specs.Lists.{length_mapped}
-use Rattle.poly.specs.Found.{unscaled_in}
-use Rattle.poly.proofs.Turns.{first_turn, next_turn, last_turn, unscaled_turns}
 use borrow.Author.Rules.{rules}
+use Rattle.facts.specs.Lists.{length_mapped}
+use Rattle.poly.specs.RealRoots.{unscaled_all}
+use Rattle.poly.proofs.Arrays.{unscaled_turn}
 use Rattle.poly.proofs.unscaled_all.Goals as goal
 
-pub returns : goal.returns
-returns c =
-    let a = c.args in
-    let n = a.s.len in
-    let four = c.well_formed.0 in
-    let exponent = to_z-of_z c.ranges.e in
-    let turn = unscaled_in _ a.s in
-    last_turn n turn 4 _ (search rules)
-    ∙ next_turn n turn 3 _ c.unscaled_at.ensures
-    ∙ next_turn n turn 2 _ c.unscaled_at-three.ensures
-    ∙ next_turn n turn 1 _ c.unscaled_at-two.ensures
-    ∙ next_turn n turn 0 _ c.unscaled_at-one.ensures
-    ∙ first_turn n turn _
-    ∙ unscaled_turns a.e a.s (search (rules, length_mapped), search rules) exponent c.none-none.ensures
+pub loop-i-init : goal.loop-i-init
+unfolding unscaled_all
+loop-i-init c = c.none-out.ensures
+
+pub loop-i-preserved : goal.loop-i-preserved
+loop-i-preserved c =
+    rw (c.loop-i.invariant, c.ldexp.ensures) at c.keep-out.ensures
+    ∙ unscaled_turn _ c.args.s c.loop-i.i (search (rules, length_mapped), search rules) c.loop-i-test.true

@@ -1,12 +1,15 @@
 -- `largest` is its definition: the maximum over a single root, or over three.
-use Rattle.cubic.proofs.Laws.{three}
+use Rattle.std.proofs.Common.{◌≡◌, fold}
+use borrow.Author.Rules.{rules}
+use lib.Ieee.{neg}
+use Rattle.float.specs.Methods.{max_of}
 use Rattle.quartic.proofs.Laws.{largest_one, largest_three}
 use Rattle.quartic.proofs.largest.Goals as goal
 
-pub returns-then-n-eq1 : goal.returns-then-n-eq1
-returns-then-n-eq1 c = rw (c.max-a.ensures, c.infinity.ensures) (largest_one _ _ c.if-n-eq1.true)
+pub returns-in-One : goal.returns-in-One
+returns-in-One c = rw (c.in-One.is, c.max.ensures, c.infinity-least.ensures) (largest_one _)
 
-pub returns : goal.returns
-returns c =
-    rw (c.max.ensures, c.max-b.ensures, c.max-a.ensures, c.infinity.ensures)
-    (largest_three _ _ (three c.requires c.if-n-eq1.false))
+pub returns-in-Three : goal.returns-in-Three
+returns-in-Three c =
+    let e : c.fold.result ≡ fold max_of (neg c.infinity-least.result) c.in-Three.roots = search rules in
+    rw (c.in-Three.is, e, c.infinity-least.ensures) (largest_three _ (search rules))

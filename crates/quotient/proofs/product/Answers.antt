@@ -1,38 +1,33 @@
 -- `quotient::product` is its definition: the factors left, times the present product, give the whole, and dl is the degree so far.
-use mathlib.Core.Path.{refl, ap, sym, ◌∙◌}
+use mathlib.Core.Path.{ap, sym, ◌∙◌}
 use native.Mathlib.Omega.{arith}
-use native.Mathlib.Nat.{sub-zero}
+use lib.Seq.{get_or-take}
+use lib.Ieee.{nan}
 use Rattle.facts.specs.Count.{count_up, up_turn, up_end}
-use Rattle.quotient.specs.Quotient.{product_of}
-use Rattle.quotient.proofs.InPlace.{mul_is}
+use Rattle.factors.specs.Factors.{quad_of}
+use Rattle.quotient.specs.declared.Monic.{Monic}
+use Rattle.quotient.specs.Quotient.{mul_of, product_of}
 use borrow.Author.Rules.{rules}
 use Rattle.quotient.proofs.product.Goals as goal
 
-pub loop-i-init : goal.loop-i-init
-loop-i-init c = (search rules, refl, refl, simp sub-zero)
-
-pub loop-i-preserved : goal.loop-i-preserved
-loop-i-preserved c = (
-  search rules,
-  omega (arith, c.loop-i.invariant.1),
-  search rules,
-  ap (count_up _ _ _) (mul_is _ _ _ c.mul_in_place.ensures) ∙ sym (up_turn _ _ _ _ (search rules)) ∙ c.loop-i.invariant.3,
+pub loop-r-preserved : goal.loop-r-preserved
+unfolding mul_of
+loop-r-preserved c = (
+  omega (arith, ap (λ (m : Monic). m.dl) c.multiply.ensures, c.loop-r.invariant.0),
+  ap (count_up _ _ _) (rw (get_or-take c.args.large.nlin c.args.large.lin c.loop-r.r-index nan (omega arith)) at c.multiply.ensures)
+      ∙ sym (up_turn _ _ _ _ (search rules)) ∙ c.loop-r.invariant.1,
 )
 
-pub loop-k-init : goal.loop-k-init
-loop-k-init c =
-    (search rules, omega (arith, c.loop-i.invariant.1, c.loop-i.invariant.0, c.loop-i-test.false), c.loop-i.invariant.2, simp sub-zero)
-
-pub loop-k-preserved : goal.loop-k-preserved
-loop-k-preserved c = (
-  search rules,
-  omega (arith, c.loop-k.invariant.1),
-  search rules,
-  ap (count_up _ _ _) (mul_is _ _ _ c.mul_in_place-in-loop-k.ensures) ∙ sym (up_turn _ _ _ _ (search rules)) ∙ c.loop-k.invariant.3,
+pub loop-q-preserved : goal.loop-q-preserved
+unfolding mul_of
+loop-q-preserved c = (
+  omega (arith, ap (λ (m : Monic). m.dl) c.multiply-in-loop-q.ensures, c.loop-q.invariant.0),
+  ap (count_up _ _ _) (rw (get_or-take c.args.large.nquad c.args.large.quad c.loop-q.q-index (quad_of nan nan) (omega arith)) at c.multiply-in-loop-q.ensures)
+      ∙ sym (up_turn _ _ _ _ (search rules)) ∙ c.loop-q.invariant.1,
 )
 
 pub returns : goal.returns
 unfolding product_of
 returns c =
-    sym (up_end _ _ _ _ (search rules)) ∙ c.loop-k.invariant.3
-    ∙ ap (count_up _ _ _) (sym (up_end _ _ _ _ (search rules)) ∙ c.loop-i.invariant.3)
+    sym (up_end _ _ _ _ (search rules)) ∙ c.loop-q.invariant.1
+    ∙ ap (count_up _ _ _) (sym (up_end _ _ _ _ (search rules)) ∙ c.loop-r.invariant.1)

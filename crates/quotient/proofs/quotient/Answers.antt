@@ -9,20 +9,16 @@ use Rattle.quotient.proofs.quotient.Goals as goal
 
 pub loop-i-init : goal.loop-i-init
 unfolding quotient_of
-loop-i-init c = (search rules, simp sub-zero)
-
-pub loop-j-init : goal.loop-j-init
-loop-j-init c = (search rules, search rules, simp add-sub_cancel)
+loop-i-init c = simp sub-zero
 
 pub loop-j-preserved : goal.loop-j-preserved
-loop-j-preserved c = (search rules, search rules, sym (up_turn _ _ _ _ (search rules)) ∙ c.loop-j.invariant.2)
+loop-j-preserved c = sym (up_turn _ _ _ _ (search rules)) ∙ c.loop-j.invariant
 
 pub loop-i-preserved : goal.loop-i-preserved
 unfolding acc_of
 loop-i-preserved c =
-    let m = c.smaller-m.ensures.0 in
-    let left = sym (up_end _ _ _ _ (search rules)) ∙ c.loop-j.invariant.2 in
-    (search rules, rw (left, m) (sym (up_turn _ _ _ _ (search rules)) ∙ c.loop-i.invariant.1))
+    let left = simp add-sub_cancel at (sym (up_end _ _ _ _ (search rules)) ∙ c.loop-j.invariant) in
+    rw (left, c.min-j-end.ensures) (sym (up_turn _ _ _ _ (search rules)) ∙ c.loop-i.invariant)
 
 pub returns : goal.returns
-returns c = sym (up_end _ _ _ _ (search rules)) ∙ c.loop-i.invariant.1
+returns c = sym (up_end _ _ _ _ (search rules)) ∙ c.loop-i.invariant

@@ -3,9 +3,7 @@ use Rattle.facts.specs.Count.{count_up}
 use Rattle.refine.specs.Refine.{weigh_row_step}
 use Rattle.refine.proofs.weigh_row.Given as goal
 
-abbrev pub invariant-loop-i : goal.invariant-loop-i
-invariant-loop-i l =
-    (length l.row ≡ length l.initial.row) × (count_up (length l.initial.row) (weigh_row_step l.m) (length l.initial.row - l.i) l.row ≡ count_up (length l.initial.row) (weigh_row_step l.m) (length l.initial.row) l.initial.row)
-
-abbrev pub decreases-loop-i : goal.decreases-loop-i
-decreases-loop-i l = length l.initial.row - l.i
+abbrev pub invariant-loop-v : goal.invariant-loop-v
+invariant-loop-v g l =
+    (length l.row ≡ g.row.N)
+    × (count_up g.row.N (weigh_row_step l.m) (g.row.N - l.v-index) l.row ≡ count_up g.row.N (weigh_row_step l.m) g.row.N l.initial.row)

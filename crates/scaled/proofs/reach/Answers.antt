@@ -4,26 +4,24 @@ use Rattle.decode.proofs.Class.{decoded_normal}
 use Rattle.scaled.proofs.Needed.{reach_none, reach_same, reach_more}
 use Rattle.scaled.proofs.reach.Goals as goal
 
-pub returns-then-n-eq0 : goal.returns-then-n-eq0
-returns-then-n-eq0 c = reach_none _ _ _ _ _ c.normal_of-n.ensures c.if-n-eq0.true
+pub returns-in_default : goal.returns-in_default
+returns-in_default c = reach_none _ _ _ c.in_default.ensures
 
 pub overflow_add-t : goal.overflow_add-t
-overflow_add-t c = omega (arith, (decoded_normal _ _ _ c.normal_of-n.ensures c.if-n-eq0.false).reach)
+overflow_add-t c = omega (arith, (decoded_normal _ _ c.in-Some.ensures).reach)
 
 pub overflow_add-result : goal.overflow_add-result
-overflow_add-result c =
-    omega (arith, (decoded_normal _ _ _ c.normal_of-n.ensures c.if-n-eq0.false).reach)
+overflow_add-result c = omega (arith, (decoded_normal _ _ c.in-Some.ensures).reach)
 
-pub returns-then-n-w : goal.returns-then-n-w
-returns-then-n-w c =
+pub returns-then-n-lead : goal.returns-then-n-lead
+returns-then-n-lead c =
     let p = c.requires in
-    reach_same _ _ _ _ _ _ c.normal_of-n.ensures c.if-n-eq0.false p.w_in_range p.k_high p.j_in_range.0 c.if-n-w.true
+    reach_same _ _ _ _ _ c.in-Some.ensures p.w_in_range p.k_high p.j_in_range.0 c.if-n-lead.true
 
 pub overflow_add-result-2 : goal.overflow_add-result-2
-overflow_add-result-2 c =
-    omega (arith, (decoded_normal _ _ _ c.normal_of-n.ensures c.if-n-eq0.false).reach)
+overflow_add-result-2 c = omega (arith, (decoded_normal _ _ c.in-Some.ensures).reach)
 
 pub returns : goal.returns
 returns c =
     let p = c.requires in
-    reach_more _ _ _ _ _ _ c.normal_of-n.ensures c.if-n-eq0.false p.w_in_range p.k_high p.j_in_range.0 c.if-n-w.false
+    reach_more _ _ _ _ _ c.in-Some.ensures p.w_in_range p.k_high p.j_in_range.0 c.if-n-lead.false

@@ -1,8 +1,6 @@
-use Rattle.split.proofs.Gaps.{Seeking}
+use Rattle.std.proofs.Common.{◌≡◌}
+use Rattle.split.specs.Gap.{split_from, magnitude_split_of}
 use Rattle.split.proofs.magnitude_split.Given as goal
 
 abbrev pub invariant-loop-k : goal.invariant-loop-k
-invariant-loop-k l = Seeking l.lg l.d l.at l.k
-
-abbrev pub decreases-loop-k : goal.decreases-loop-k
-decreases-loop-k l = l.k
+invariant-loop-k l = split_from l.lg l.s.at l.k ≡ magnitude_split_of l.lg l.d

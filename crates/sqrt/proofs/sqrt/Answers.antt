@@ -10,31 +10,28 @@ pub returns-then-x : goal.returns-then-x
 unfolding of_bits div
 returns-then-x c = sym (root_negative _ c.if-x.true)
 
-pub returns-then-n-eq0 : goal.returns-then-n-eq0
+pub returns-in-None : goal.returns-in-None
 unfolding of_bits
-returns-then-n-eq0 c = sym (root_special _ c.if-x.false (decoded_irregular _ _ _ c.normal_of-n.ensures c.if-n-eq0.true))
+returns-in-None c = sym (root_special _ c.if-x.false (decoded_irregular _ c.in-None.ensures))
 
 pub nearest_root-m-requires : goal.nearest_root-m-requires
 nearest_root-m-requires c =
-    let n = decoded_normal _ _ _ c.normal_of-n.ensures c.if-n-eq0.false in
+    let n = decoded_normal _ _ c.in-Some.ensures in
     record { w_low = n.led; w_high = n.short; d_high = omega arith }
 
 pub overflow_add-n : goal.overflow_add-n
-overflow_add-n c =
-    omega (arith, (decoded_normal _ _ _ c.normal_of-n.ensures c.if-n-eq0.false).reach)
+overflow_add-n c = omega (arith, (decoded_normal _ _ c.in-Some.ensures).reach)
 
 pub from_units-requires : goal.from_units-requires
-from_units-requires c = let d = c.normal_of-n in
-    let n = decoded_normal _ _ _ d.ensures c.if-n-eq0.false in
+from_units-requires c =
+    let n = decoded_normal _ _ c.in-Some.ensures in
     let h = half_digits 2 _ squares 54 refl _ _ _ _ n c.nearest_root-m.ensures in
     record { w_low = h.0; w_high = h.1; k_high = omega (arith, n.reach) }
 
-pub returns : goal.returns
+pub returns-in-Some : goal.returns-in-Some
 unfolding of_bits
-returns c =
-    let d = c.normal_of-n in
-    let some = c.if-n-eq0.false in
-    let n = decoded_normal _ _ _ d.ensures some in
+returns-in-Some c =
+    let d = c.in-Some.ensures in
     c.from_units.ensures
-    ∙ sym (root_of _ d.result.w d.result.k _ n c.nearest_root-m.ensures)
-    ∙ sym (root_positive _ c.if-x.false (decoded_regular _ _ _ d.ensures some))
+    ∙ sym (root_of _ c.in-Some.n.w c.in-Some.n.k _ (decoded_normal _ _ d) c.nearest_root-m.ensures)
+    ∙ sym (root_positive _ c.if-x.false (decoded_regular _ _ d))

@@ -14,7 +14,7 @@ const RUST: [&str; 3] = ["src/math/poly.rs", "src/math/equation.rs", "src/math/s
 type Parts = &'static [(&'static str, &'static str)];
 
 /// The functions of the Rust whose counterpart has another name, or several.
-const OTHERWISE: [(&str, Parts); 7] = [
+const OTHERWISE: [(&str, Parts); 6] = [
     (
         "real_roots_touching",
         &[
@@ -22,13 +22,13 @@ const OTHERWISE: [(&str, Parts); 7] = [
             ("inquiry::Inquiry::ask", ""),
             ("inquiry::Inquiry::reply", ""),
             ("touching::Replies::with", ""),
-            ("touching::pairs", "pair_turn"),
-            ("touching::chains", "item_turn"),
-            ("touching::emit", "emitted"),
+            ("touching::Walker::pairs", "pair_turn"),
+            ("touching::Walker::chained", "item_turn"),
+            ("touching::Walker::emit", "emitted"),
         ],
     ),
     ("Candidates::push", &[("Roots::keep", "")]),
-    ("Scaled::unscaled", &[("poly::unscaled_at", "unscaled_in")]),
+    ("Scaled::unscaled", &[("poly::unscaled_all", "unscaled_all")]),
     (
         "factorize",
         &[
@@ -51,7 +51,6 @@ const OTHERWISE: [(&str, Parts); 7] = [
             ("crank::crank", ""),
         ],
     ),
-    ("solve_square", &[("solve_square3", ""), ("solve_square4", "")]),
 ];
 
 /// What document 01 puts in the place of Rust's library, and what it and document 02 add.
@@ -180,12 +179,16 @@ fn wrong(what: String) -> io::Error {
     io::Error::other(what)
 }
 
-/// The function of that name: `CRATE::NAME`, or the one public function that has it.
+/// The function of that name: `CRATE::NAME`, or the one public function that has it, or else the one
+/// public method.
 fn function<'a>(all: &'a [Crate], name: &str) -> io::Result<(&'a Crate, &'a Piece)> {
-    let pieces = all.iter().flat_map(|c| c.pieces.iter().map(move |p| (c, p)));
-    let named = pieces
-        .filter(|(c, p)| p.public && p.name == name || format!("{}::{}", c.name, p.name) == name);
-    let found: Vec<_> = named.filter(|(_, p)| p.file.ends_with(".rt")).collect();
+    let code = |p: &Piece| p.file.ends_with(".rt");
+    let pieces = || all.iter().flat_map(|c| c.pieces.iter().map(move |p| (c, p)));
+    let whole = |c: &Crate, p: &Piece| format!("{}::{}", c.name, p.name) == name;
+    let named: Vec<_> =
+        pieces().filter(|(c, p)| code(p) && (p.public && p.name == name || whole(c, p))).collect();
+    let methods = || pieces().filter(|(_, p)| code(p) && p.public && p.last_name() == name);
+    let found = if named.is_empty() { methods().collect() } else { named };
     match found[..] {
         [one] => Ok(one),
         _ => Err(wrong(format!("{} functions are named {name}", found.len()))),

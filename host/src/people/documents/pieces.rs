@@ -64,7 +64,7 @@ pub fn begun(line: &str) -> Option<&str> {
     for word in ["pub ", "pub(crate) ", "extern \"C\" "] {
         rest = rest.strip_prefix(word).unwrap_or(rest);
     }
-    let rest = rest.strip_prefix("fn ").or_else(|| rest.strip_prefix("const "))?;
+    let rest = ["fn ", "const ", "static "].iter().find_map(|word| rest.strip_prefix(word))?;
     rest.split(['(', '<', ':']).next()
 }
 
@@ -143,7 +143,7 @@ pub fn used(root: &Path, text: &str) -> Vec<(String, String)> {
 
 /// The names that a text is made of.
 pub fn names(text: &str) -> impl Iterator<Item = &str> {
-    text.split(|c: char| c.is_whitespace() || "(){}[],;.".contains(c)).filter(|s| !s.is_empty())
+    text.split(|c: char| c.is_whitespace() || "(){}[],;.&".contains(c)).filter(|s| !s.is_empty())
 }
 
 fn edit(owner: &str, path: &Path, folder: &Path) -> io::Result<Edit> {

@@ -1,18 +1,10 @@
 -- All the numbers of the answer, or none.
-use Rattle.lent_bytes.proofs.Five.{accepted}
+use Rattle.std.proofs.Common.{refl, sym}
 use Rattle.lent_bytes.proofs.Whole.{lacking, held}
 use Rattle.c_layers.proofs.evaluation.pongewaru_taylor.Goals as goal
 
-pub returns-then-lacks_five : goal.returns-then-lacks_five
-returns-then-lacks_five c = lacking _ _ c.lacks_five.ensures c.if-lacks_five.true
-
-pub five_at-requires : goal.five_at-requires
-five_at-requires c = (accepted _ _ c.lacks_five.ensures c.if-lacks_five.false).0
-
-pub taylor-requires : goal.taylor-requires
-taylor-requires c = (accepted _ _ c.lacks_five.ensures c.if-lacks_five.false).1
+pub returns-in_default : goal.returns-in_default
+returns-in_default c = lacking _ _ refl c.in_default.ensures
 
 pub returns : goal.returns
-returns c =
-    let is = rw c.five_at.ensures at c.taylor.ensures in
-    held _ _ c.lacks_five.ensures c.if-lacks_five.false is c.store.ensures
+returns c = let p = c.in-Some.ensures in held _ _ refl p.0 (rw (sym p.1, sym p.2) c.taylor.ensures) c.store.ensures

@@ -1,20 +1,11 @@
 -- All the numbers of the answer, or none.
-use mathlib.Core.Path.{ap}
+use Rattle.std.proofs.Common.{refl, sym, ap}
 use Rattle.c_layers.specs.Numbers.{slope_numbers}
-use Rattle.lent_bytes.proofs.Five.{accepted}
 use Rattle.lent_bytes.proofs.Whole.{lacking, held}
 use Rattle.c_layers.proofs.evaluation.pongewaru_value_slope_compensated.Goals as goal
 
-pub returns-then-lacks_five : goal.returns-then-lacks_five
-returns-then-lacks_five c = lacking _ _ c.lacks_five.ensures c.if-lacks_five.true
-
-pub five_at-requires : goal.five_at-requires
-five_at-requires c = (accepted _ _ c.lacks_five.ensures c.if-lacks_five.false).0
-
-pub value_slope_compensated-t-requires : goal.value_slope_compensated-t-requires
-value_slope_compensated-t-requires c = (accepted _ _ c.lacks_five.ensures c.if-lacks_five.false).1
+pub returns-in_default : goal.returns-in_default
+returns-in_default c = lacking _ _ refl c.in_default.ensures
 
 pub returns : goal.returns
-returns c =
-    let is = rw c.five_at.ensures at (ap slope_numbers c.value_slope_compensated-t.ensures) in
-    held _ _ c.lacks_five.ensures c.if-lacks_five.false is c.store.ensures
+returns c = let p = c.in-Some.ensures in held _ _ refl p.0 (rw (sym p.1, sym p.2) (ap slope_numbers c.value_slope_compensated-t.ensures)) c.store.ensures

@@ -24,11 +24,11 @@ few a d s e h = subst⁻¹ (λ (s : Scaled). s.d ≤ 4) e (unfold scaled_of in h
 pub returns-then-lacks_five : goal.returns-then-lacks_five
 returns-then-lacks_five c = lacking _ _ c.lacks_five.ensures c.if-lacks_five.true
 
-pub five_at-requires : goal.five_at-requires
-five_at-requires c = (accepted _ _ c.lacks_five.ensures c.if-lacks_five.false).0
+pub doubles_at-requires : goal.doubles_at-requires
+doubles_at-requires c = (omega arith, (accepted _ _ c.lacks_five.ensures c.if-lacks_five.false).0)
 
-pub new-s-requires : goal.new-s-requires
-new-s-requires c = (accepted _ _ c.lacks_five.ensures c.if-lacks_five.false).1
+pub invariant_of-p : goal.invariant_of-p
+invariant_of-p c = record { degree = (accepted _ _ c.lacks_five.ensures c.if-lacks_five.false).1 }
 
 pub factorize-f-requires : goal.factorize-f-requires
 factorize-f-requires c =
@@ -41,6 +41,6 @@ factor_numbers-requires c =
 
 pub returns : goal.returns
 returns c =
-    let is = rw (c.new-s.ensures, c.five_at.ensures) at (c.factor_numbers.ensures
+    let is = rw (c.new-s.ensures, c.doubles_at.ensures) at (c.factor_numbers.ensures
     ∙ ap factor_numbers c.factorize-f.ensures) in
     held _ _ c.lacks_five.ensures c.if-lacks_five.false is c.store.ensures

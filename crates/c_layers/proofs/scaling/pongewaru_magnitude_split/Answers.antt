@@ -1,4 +1,5 @@
 -- All the numbers of the answer, or none.
+use native.Mathlib.Omega.{arith}
 use Rattle.c_layers.specs.Numbers.{split_numbers}
 use mathlib.Core.Path.{subst⁻¹, ap, ◌∙◌}
 use Rattle.split.specs.Gap.{Inside, magnitude_split_of}
@@ -10,8 +11,8 @@ use Rattle.c_layers.proofs.scaling.pongewaru_magnitude_split.Goals as goal
 pub returns-then-lacks_five : goal.returns-then-lacks_five
 returns-then-lacks_five c = lacking _ _ c.lacks_five.ensures c.if-lacks_five.true
 
-pub five_at-requires : goal.five_at-requires
-five_at-requires c = (accepted _ _ c.lacks_five.ensures c.if-lacks_five.false).0
+pub doubles_at-requires : goal.doubles_at-requires
+doubles_at-requires c = (omega arith, (accepted _ _ c.lacks_five.ensures c.if-lacks_five.false).0)
 
 pub magnitude_split-s-requires : goal.magnitude_split-s-requires
 magnitude_split-s-requires c = (accepted _ _ c.lacks_five.ensures c.if-lacks_five.false).1
@@ -23,5 +24,5 @@ split_numbers-requires c =
 
 pub returns : goal.returns
 returns c =
-    let is = rw c.five_at.ensures at (c.split_numbers.ensures ∙ ap split_numbers c.magnitude_split-s.ensures) in
+    let is = rw c.doubles_at.ensures at (c.split_numbers.ensures ∙ ap split_numbers c.magnitude_split-s.ensures) in
     held _ _ c.lacks_five.ensures c.if-lacks_five.false is c.store.ensures

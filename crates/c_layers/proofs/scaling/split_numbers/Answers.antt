@@ -8,12 +8,12 @@ use Rattle.c_layers.proofs.scaling.split_numbers.Goals as goal
 
 pub int_to_float-result : goal.int_to_float-result
 int_to_float-result c =
-    let inside = subst (Inside 4) c.in-Gap.is c.requires in
+    let inside = subst (Inside 4) c.in-Some.is c.requires in
     whole_exact _ (omega (arith, inside.1))
 
-pub returns-in-Gap : goal.returns-in-Gap
+pub returns-in-Some : goal.returns-in-Some
 unfolding split_numbers
-returns-in-Gap c = cc
+returns-in-Some c = cc
 
 pub returns-in-None : goal.returns-in-None
 unfolding split_numbers

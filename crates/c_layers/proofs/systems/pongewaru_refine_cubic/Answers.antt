@@ -9,5 +9,5 @@ returns-then-x-lt24 c = lacking _ _ (sym (lt-ltb _ _ c.if-x-lt24.true)) refl
 
 pub returns : goal.returns
 returns c =
-    let is = rw c.three_at.ensures at c.refine_cubic.ensures in
+    let is = rw c.doubles_at.ensures at c.refine_cubic.ensures in
     held _ _ (sym (le-ltb _ _ c.if-x-lt24.false)) refl is c.store.ensures

@@ -9,5 +9,5 @@ returns-then-x-lt32 c = lacking _ _ (sym (lt-ltb _ _ c.if-x-lt32.true)) refl
 
 pub returns : goal.returns
 returns c =
-    let is = rw c.four_at.ensures at c.refine_peel.ensures in
+    let is = rw c.doubles_at.ensures at c.refine_peel.ensures in
     held _ _ (sym (le-ltb _ _ c.if-x-lt32.false)) refl is c.store.ensures

@@ -9,4 +9,5 @@ returns-then-s-lt96 c = lacking _ _ (sym (lt-ltb _ _ c.if-s-lt96.true)) refl
 
 pub returns : goal.returns
 returns c =
-    held _ _ (sym (le-ltb _ _ c.if-s-lt96.false)) refl (cc) c.store.ensures
+    held _ _ (sym (le-ltb _ _ c.if-s-lt96.false)) refl
+    (rw (c.doubles_at.ensures, c.doubles_at-2.ensures, c.doubles_at-3.ensures, c.doubles_at-4.ensures)) c.store_solution.ensures

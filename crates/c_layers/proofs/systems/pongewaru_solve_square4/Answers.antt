@@ -9,4 +9,5 @@ returns-then-s-lt160 c = lacking _ _ (sym (lt-ltb _ _ c.if-s-lt160.true)) refl
 
 pub returns : goal.returns
 returns c =
-    held _ _ (sym (le-ltb _ _ c.if-s-lt160.false)) refl (cc) c.store.ensures
+    held _ _ (sym (le-ltb _ _ c.if-s-lt160.false)) refl
+    (rw (c.doubles_at.ensures, c.doubles_at-2.ensures, c.doubles_at-3.ensures, c.doubles_at-4.ensures, c.doubles_at-5.ensures)) c.store_solution.ensures

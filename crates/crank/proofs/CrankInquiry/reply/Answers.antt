@@ -4,4 +4,4 @@ use Rattle.crank.proofs.CrankInquiry.reply.Goals as goal
 
 pub returns : goal.returns
 unfolding crank_replied_of
-returns c = rw c.reply-r.ensures
+returns c = rw c.reply-number.ensures

@@ -13,4 +13,4 @@ with_demand : (q : Inquiry) (r : Asked) → r ≡ asked_of q → (r ≡ asked_of
 with_demand q r is = (is, subst⁻¹ (λ (a : Asked). Within 4 (list_of a.list)) is (shown_within q))
 
 pub returns : goal.returns
-returns c = with_demand _ _ (ap (λ (s : Seen). s.asked) c.see-s.ensures ∙ sym (asked_seen _))
+returns c = with_demand _ _ (ap (λ (s : Seen). s.asked) c.see.ensures ∙ sym (asked_seen _))

@@ -7,8 +7,8 @@ use Rattle.inquiry.proofs.Questions.{asking_room, reply_taken, reply_refused}
 use borrow.Author.Rules.{rules}
 use Rattle.inquiry.proofs.Inquiry.reply.Goals as goal
 
-pub with-more-requires : goal.with-more-requires
-with-more-requires c =
+pub with-inquiry-requires : goal.with-inquiry-requires
+with-inquiry-requires c =
     let on = ap (λ (a : Asked). a.asking) (sym c.ask-a.ensures.0) ∙ c.if-a.true in
     let room =
     asking_room c.args.self
@@ -19,7 +19,7 @@ with-more-requires c =
 
 pub returns-then-a : goal.returns-then-a
 returns-then-a c =
-    rw c.with-more.ensures (reply_taken c.args.self _ (ap (λ (a : Asked). a.asking) (sym c.ask-a.ensures.0) ∙ c.if-a.true))
+    rw c.with-inquiry.ensures (reply_taken c.args.self _ (ap (λ (a : Asked). a.asking) (sym c.ask-a.ensures.0) ∙ c.if-a.true))
 
 pub returns : goal.returns
 returns c = reply_refused c.args.self _ (ap (λ (a : Asked). a.asking) (sym c.ask-a.ensures.0) ∙ c.if-a.false)

@@ -3,7 +3,7 @@ use mathlib.Core.Path.{subst}
 use Rattle.text.proofs.Laws.{written_none, written_as}
 use Rattle.records.specs.declared.Kind.{Kind}
 use Rattle.records.specs.Records.{Whole}
-use Rattle.listing.proofs.Asked.{polynomial_prints, quadratic_prints, crank_prints, contact_prints, formula_prints}
+use Rattle.listing.proofs.Asked.{polynomial_prints, crank_prints, contact_prints, formula_prints}
 use Rattle.listing.proofs.Asked.{polynomial_text_is, quadratic_text_is, crank_text_is, contact_text, formula_text, unknown_text}
 use Rattle.listing.proofs.lines.put_answer.Goals as goal
 
@@ -18,10 +18,6 @@ put_polynomial-requires c =
 pub quadratic_at-requires : goal.quadratic_at-requires
 quadratic_at-requires c =
     subst (λ (k : Kind). Whole k c.args.s.now c.args.at) c.in-Quadratic.is c.requires.1
-
-pub put_quadratic-requires : goal.put_quadratic-requires
-put_quadratic-requires c =
-    (c.requires.0, quadratic_prints c.args.s.now c.args.at c.quadratic_at.result c.quadratic_at.ensures)
 
 pub crank_at-requires : goal.crank_at-requires
 crank_at-requires c =

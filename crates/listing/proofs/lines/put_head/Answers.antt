@@ -21,4 +21,4 @@ unfolding head_of
 returns c =
     written_then c.put_decimal-blank.ensures
     (written_then c.put_byte-mark.ensures
-    (written_then (written_as c.mark.ensures c.put_bytes-end.ensures) c.put_byte.ensures))
+    (written_then (written_as c.from.ensures c.put_bytes-end.ensures) c.put_byte.ensures))

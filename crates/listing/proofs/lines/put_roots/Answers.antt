@@ -16,7 +16,7 @@ put_decimal-next-requires c =
 
 pub loop-i-init : goal.loop-i-init
 loop-i-init c =
-    (omega arith, omega arith, flat_none root_text c.put_decimal-next.new.out c.put_decimal-next.result c.args.roots.root)
+    (omega arith, flat_none root_text c.put_decimal-next.new.out c.put_decimal-next.result c.args.roots.root)
 
 pub offset_bounds-root-i : goal.offset_bounds-root-i
 offset_bounds-root-i c =
@@ -32,29 +32,22 @@ put_root-next-requires c = (
   each_short c.args.roots c.loop-i.i c.requires.1 c.loop-i-test.true,
 )
 
-pub overflow_add-i : goal.overflow_add-i
-overflow_add-i c = omega arith
-
-pub loop-i-smaller : goal.loop-i-smaller
-loop-i-smaller c = omega arith
-
 pub loop-i-preserved : goal.loop-i-preserved
 loop-i-preserved c =
     let root = c.args.roots.root in
     let i = c.loop-i.i in
     let h : i < length root = omega (arith, c.requires.1.fits.0, c.requires.1.fits.1) in (
-      omega arith,
       omega (arith, root_length (get_or root i blank) (each_short c.args.roots i c.requires.1 c.loop-i-test.true)),
-      written_flat root_text root i blank h c.loop-i.invariant.2 c.put_root-next.ensures,
+      written_flat root_text root i blank h c.loop-i.invariant.1 c.put_root-next.ensures,
     )
 
 pub shape_of-out : goal.shape_of-out
 shape_of-out c =
-    written_length c.loop-i.invariant.2 ∙ c.put_decimal-next.auto.out
+    written_length c.loop-i.invariant.1 ∙ c.put_decimal-next.auto.out
 
 pub returns : goal.returns
 unfolding roots_text
 returns c =
     let e : c.loop-i.i ≡ c.args.roots.len = omega arith in
     written_then c.put_decimal-next.ensures
-    (written_as (ap (λ (k : ℕ). flat_map root_text (take k c.args.roots.root)) e) c.loop-i.invariant.2)
+    (written_as (ap (λ (k : ℕ). flat_map root_text (take k c.args.roots.root)) e) c.loop-i.invariant.1)

@@ -1,5 +1,5 @@
 use mathlib.Core.List.{flat_map}
-use Prim.Native.Nat.{◌+◌, ◌*◌, ◌-◌, ◌≤◌}
+use Prim.Native.Nat.{◌+◌, ◌*◌, ◌≤◌}
 use lib.ListN.{take}
 use Rattle.text.specs.Written.{Written}
 use Rattle.listing.specs.Lines.{root_text}
@@ -7,8 +7,5 @@ use Rattle.listing.proofs.lines.put_roots.Given as goal
 
 abbrev pub invariant-loop-i : goal.invariant-loop-i
 invariant-loop-i l =
-    (l.i ≤ l.len) × (l.next ≤ l.initial.next + 22 * l.i)
+    (l.next ≤ l.initial.next + 22 * l.i)
     × Written l.initial.out l.initial.next (flat_map root_text (take l.i l.root)) l.out l.next
-
-abbrev pub decreases-loop-i : goal.decreases-loop-i
-decreases-loop-i l = l.len - l.i

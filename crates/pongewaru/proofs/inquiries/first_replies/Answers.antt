@@ -12,23 +12,18 @@ use Rattle.pongewaru.proofs.inquiries.first_replies.Goals as goal
 
 pub loop-i-init : goal.loop-i-init
 unfolding first_replies
-loop-i-init c = (omega arith, refl, refl)
-
-pub returns-then-replies-i : goal.returns-then-replies-i
-returns-then-replies-i c =
-    let rs = c.args.replies.now in
-    sym (fed_end replied_by (take 4 rs) c.loop-i.i c.loop-i.first (omega (arith, length-take 4 rs, c.if-replies-i.true))) ∙ c.loop-i.invariant.2
+loop-i-init c = (refl, refl)
 
 pub loop-i-preserved : goal.loop-i-preserved
 loop-i-preserved c =
     let rs = c.args.replies.now in
     let i = c.loop-i.i in
-    let below : i < 4 = c.loop-i-test.true in
-    let more = fed_next replied_by (take 4 rs) i c.loop-i.first (omega (arith, length-take 4 rs, c.if-replies-i.false)) in
+    let below : i < 4 = omega arith in
+    let more = fed_next replied_by (take 4 rs) i c.loop-i.first (omega (arith, length-take 4 rs)) in
     let count = ap (λ (s : Replies). s.count) c.with-first.ensures in
-    (omega arith, count ∙ ap (λ (k : ℕ). k + 1) c.loop-i.invariant.1, rw c.with-first.ensures (sym (rw get_or-take at more) ∙ c.loop-i.invariant.2))
+    (count ∙ ap (λ (k : ℕ). k + 1) c.loop-i.invariant.0, rw c.with-first.ensures (sym (rw get_or-take at more) ∙ c.loop-i.invariant.1))
 
 pub returns : goal.returns
 returns c =
     let rs = c.args.replies.now in
-    sym (fed_end replied_by (take 4 rs) c.loop-i.i c.loop-i.first (omega (arith, length-take 4 rs, c.loop-i-test.false))) ∙ c.loop-i.invariant.2
+    sym (fed_end replied_by (take 4 rs) c.loop-i.i c.loop-i.first (omega (arith, length-take 4 rs))) ∙ c.loop-i.invariant.1

@@ -6,7 +6,4 @@ use Rattle.pongewaru.specs.Inquiries.{each_reply, first_replies}
 use Rattle.pongewaru.proofs.inquiries.first_replies.Given as goal
 
 abbrev pub invariant-loop-i : goal.invariant-loop-i
-invariant-loop-i l = (l.i ≤ 4) × (l.first.count ≡ l.i) × (each_reply replied_by (drop l.i (take 4 l.replies)) l.first ≡ first_replies l.replies)
-
-abbrev pub decreases-loop-i : goal.decreases-loop-i
-decreases-loop-i l = 4 - l.i
+invariant-loop-i l = (l.first.count ≡ l.i) × (each_reply replied_by (drop l.i (take 4 l.replies)) l.first ≡ first_replies l.replies)

@@ -27,18 +27,18 @@ pub top_of-top-requires : goal.top_of-top-requires
 top_of-top-requires c =
     record { e_size = small c.scale_exponent-e.result _ _ c.scale_exponent-e.type_inv c.scale_exponent-e.ensures; d_high = search rules }
 
-pub coefficients-f-requires : goal.coefficients-f-requires
-coefficients-f-requires c =
+pub invariant_of-shift : goal.invariant_of-shift
+invariant_of-shift c =
     record {
-      d_high = search rules;
+      degree = search rules;
       e_size = small c.scale_exponent-e.result _ _ c.scale_exponent-e.type_inv c.scale_exponent-e.ensures;
       top_size = same c.top_of-top.result c.top_of-top.type_inv c.top_of-top.ensures.1;
     }
 
-pub log_sizes-lg-requires : goal.log_sizes-lg-requires
-log_sizes-lg-requires c =
+pub invariant_of-logs : goal.invariant_of-logs
+invariant_of-logs c =
     record {
-      d_high = search rules;
+      degree = search rules;
       e_size = small c.scale_exponent-e.result _ _ c.scale_exponent-e.type_inv c.scale_exponent-e.ensures;
       top_size = same c.top_of-top.result c.top_of-top.type_inv c.top_of-top.ensures.1;
     }

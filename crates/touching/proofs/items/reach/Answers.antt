@@ -1,19 +1,14 @@
--- `reach` is its definition: what is left of the items, from the present value on, gives the result.
-use mathlib.Core.Path.{refl, sym, ◌∙◌}
+-- `reach` is its definition: the fold over the items.
+use mathlib.Core.Path.{sym, ◌∙◌}
 use borrow.Author.Rules.{rules}
-use Rattle.touching.proofs.Steps.{reach_turn, reach_end}
+use Rattle.std.proofs.Common.{tests}
+use Rattle.std.proofs.lemmas.Iterator.{YieldsList-from_slice}
+use Rattle.std.proofs.lemmas.Iterator.Consumers.{fold_from_yields_List}
+use Rattle.roots.specs.Roots.{list_of}
+use Rattle.touching.proofs.Steps.{reach_fold}
 use Rattle.touching.proofs.items.reach.Goals as goal
 
-pub loop-k-init : goal.loop-k-init
-loop-k-init c = (search rules, c.requires, refl)
-
-pub loop-k-preserved : goal.loop-k-preserved
-loop-k-preserved c = (
-  search rules,
-  c.loop-k.invariant.1,
-  rw (c.min-r.ensures, c.abs.ensures)
-      (sym (reach_turn c.args.items c.loop-k.k c.loop-k.invariant.1 _ _ (search rules)) ∙ c.loop-k.invariant.2),
-)
-
 pub returns : goal.returns
-returns c = sym (reach_end c.args.items c.loop-k.k c.loop-k.invariant.1 _ _ (search rules)) ∙ c.loop-k.invariant.2
+returns c =
+    fold_from_yields_List _ _ _ _ c.fold.ensures.ran (YieldsList-from_slice (list_of c.args.items) (cc)) (λ a x b q k. search (rules, tests))
+    ∙ sym (reach_fold c.args.m c.args.far (list_of c.args.items))

@@ -1,5 +1,0 @@
--- `cubic_at` is its definition: the sums of sizes are the magnitudes.
-use Rattle.refine.proofs.cubic_at.Goals as goal
-
-pub returns : goal.returns
-returns c = rw (c.weigh3.ensures, c.size3.ensures, c.size3-2.ensures, c.size2.ensures)

@@ -1,4 +1,0 @@
-use Rattle.refine.proofs.size3.Goals as goal
-
-pub returns : goal.returns
-returns c = rw (c.abs.ensures, c.abs-2.ensures, c.abs-3.ensures)

@@ -1,4 +1,0 @@
-use Rattle.touching.proofs.chains.opened.Goals as goal
-
-pub returns : goal.returns
-returns c = rw c.double-touching.ensures.0

@@ -1,2 +1,0 @@
--- What the functions come to, over plain variables.
-pub mod Samples
