@@ -77,8 +77,9 @@ fn functions() -> Vec<Function> {
         let sources = files(&root().join("crates").join(&own).join("src"), ".rt");
         for path in sources.expect("a crate can be read") {
             let text = text(path.to_str().expect("a path in UTF-8"));
-            let declared = text.split("#[unsafe(no_mangle)] pub extern \"C\" fn ").skip(1);
-            found.extend(declared.map(|declared| Function::read(&own, declared)));
+            let marked = text.split("#[unsafe(no_mangle)]").skip(1);
+            let declared = marked.filter_map(|item| item.split_once("pub extern \"C\" fn "));
+            found.extend(declared.map(|(_, declared)| Function::read(&own, declared)));
         }
     }
     found
