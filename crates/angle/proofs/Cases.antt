@@ -9,13 +9,15 @@ use native.Mathlib.Nat.{mul-le-mul, mul-le-mul_left, mul-lt-mul_of_pos_right, lt
 use borrow.Author.Tests.{le-leb, lt-leb, lt-ltb}
 use lib.Dec.{lit<, lit≤}
 use lib.Pow.{pow_pos, pow_mono}
-use lib.IntN.{ℤ, pos}
-use lib.Ieee.{Float, nan, inf, fin, up, down, round, size, units, odd, eq, lt}
+use lib.IntN.{ℤ}
+use lib.Ieee.{Float, nan, inf, fin, up, down, round, size, units, odd, eq, lt, binary64, of_bits}
 use lib.Count.{count_trailing_zeros}
+use Rattle.float.specs.Literals.{zero64}
 use Rattle.float.specs.Units.{units_of}
 use Rattle.decode.specs.Exponent.{regular_of}
 use Rattle.decode.specs.Shape.{Normal, Decoded}
-use Rattle.decode.proofs.Class.{zero_is, not_zero, negative_view, positive_view, decoded_irregular}
+use Rattle.decode.specs.declared.digits.Digits.{Digits}
+use Rattle.decode.proofs.Class.{zero_is, not_zero, negative_view, positive_view, decoded_irregular, decoded_regular, decoded_normal}
 use Rattle.std.specs.Prelude.{Some, None}
 use Rattle.nearest.specs.Greatest.{greatest, nearest_of, NearestHalf}
 use Rattle.nearest.proofs.ByTest.{half_bounds}
@@ -45,13 +47,13 @@ at : (s : Bool) (m : ℕ) (e : ℤ) → units_of (fin s m e) ≤ 2 ^ 1074 → co
 unfolding cos_of
 at s m e h = ap (λ (b : Bool). cond b (nearest_cos s (units_of (fin s m e))) nan) (le-leb (units_of (fin s m e)) (2 ^ 1074) h)
 
-cos_is : (v : Float) → regular_of v ≡ true → units_of v ≤ 2 ^ 1074 → cos_of v ≡ nearest_cos (lt v (fin false 0 (pos 0))) (units_of v)
-cos_is v r h = go (lt v (fin false 0 (pos 0))) refl
+cos_is : (v : Float) → regular_of v ≡ true → units_of v ≤ 2 ^ 1074 → cos_of v ≡ nearest_cos (lt v zero64) (units_of v)
+cos_is v r h = go (lt v zero64) refl
   where
     of_view : (b : Bool) (m : ℕ) (e : ℤ) → v ≡ fin b m e → cos_of v ≡ nearest_cos b (units_of v)
     of_view b m e x = ap cos_of x ∙ at b m e (subst (λ (y : Float). units_of y ≤ 2 ^ 1074) x h) ∙ ap (λ (y : Float). nearest_cos b (units_of y)) (sym x)
 
-    go : (b : Bool) → lt v (fin false 0 (pos 0)) ≡ b → cos_of v ≡ nearest_cos b (units_of v)
+    go : (b : Bool) → lt v zero64 ≡ b → cos_of v ≡ nearest_cos b (units_of v)
     go true e = ⊎_elim (λ i. absurd (false≢true (sym (ap regular_of i) ∙ r))) (λ x. of_view true (suc x.0) x.1 x.2) (negative_view v e)
     go false e = let x = positive_view v e r in of_view false (suc x.0) x.1 x.2
 
@@ -61,7 +63,7 @@ cos_above nan h = refl
 cos_above (inf s) h = refl
 cos_above (fin s m e) h = ap (λ (b : Bool). cond b (nearest_cos s (units_of (fin s m e))) nan) (lt-leb (units_of (fin s m e)) (2 ^ 1074) h)
 
-cos_irregular : (v : Float) → eq v (fin false 0 (pos 0)) ≡ false → regular_of v ≡ false → cos_of v ≡ nan
+cos_irregular : (v : Float) → eq v zero64 ≡ false → regular_of v ≡ false → cos_of v ≡ nan
 unfolding cos_of
 cos_irregular nan z r = refl
 cos_irregular (inf s) z r = refl
@@ -80,7 +82,7 @@ unfolding cos_units nearest_of greatest round size units odd count_trailing_zero
 at_one true = refl
 at_one false = refl
 
-pub digits_zero : (v : Float) → eq v (fin false 0 (pos 0)) ≡ true → CosineDigits (cos_of v) (Some 7800463371553962)
+pub digits_zero : (v : Float) → eq v zero64 ≡ true → CosineDigits (cos_of v) (Some 7800463371553962)
 digits_zero v z =
     let x = zero_is v z in
     let none : units_of (fin x.0 0 x.1) ≡ 0 = ap (λ (a : ℕ). a * 2 ^ 1074 / down x.1) (zero-mul (up x.1)) ∙ zero-div (down x.1) in
@@ -89,10 +91,22 @@ digits_zero v z =
 
 -- ---- by the digits of v
 
-pub digits_none : (v : Float) → Decoded v None → eq v (fin false 0 (pos 0)) ≡ false → CosineDigits (cos_of v) None
+pub digits_none : (v : Float) → Decoded v None → eq v zero64 ≡ false → CosineDigits (cos_of v) None
 digits_none v d e = no_digits _ (cos_irregular v e (decoded_irregular v d))
 
-module _ (v : Float) (w k : ℕ) (n : Normal (units_of v) w k) (r : regular_of v ≡ true) where
+module _ (v : Float) (d : Digits) (D : Decoded v (Some d)) where
+  abbrev w : ℕ
+  w = d.w
+
+  abbrev k : ℕ
+  k = d.k
+
+  n : Normal (units_of v) d.w d.k
+  n = decoded_normal v d D
+
+  r : regular_of v ≡ true
+  r = decoded_regular v d D
+
   units_below : k < 1074 → units_of v < 2 ^ 1074
   units_below l =
       lt_of_mul-lt-mul_right (2 ^ 52)
@@ -111,17 +125,20 @@ module _ (v : Float) (w k : ℕ) (n : Normal (units_of v) w k) (r : regular_of v
       go (inl l) = lt_of_lt_of_le (lit< tt) (mul-le-mul {n₁ = 2 ^ 52} {m₁ = 2 ^ 1075} n.led (pow_mono l))
       go (inr l) = lt_of_lt_of_le (mul-lt-mul_of_pos_right l (pow_pos 1074)) (mul-le-mul_left w (pow_mono a))
 
-  pub digits_inside : (s : Bool) → lt v (fin false 0 (pos 0)) ≡ s → k < 1074 → (m : ℕ) → NearestHalf (cos_le (level_of s w k)) m → CosineDigits (cos_of v) (Some m)
+  pub digits_inside : (s : Bool) → lt v zero64 ≡ s → d.k < 1074 → (m : ℕ) → NearestHalf (cos_le (level_of s d.w d.k)) m → CosineDigits (cos_of v) (Some m)
   digits_inside s e l m q =
       let b = half_bounds _ (monotone (level_of s w k)) (sized (level_of s w k) (level_lt w k n.short l s)) m q in
       all_are_digits _ _ b.0 b.1
       (cos_is v r (le_of_lt (units_below l)) ∙ ap (λ (s : Bool). nearest_cos s (units_of v)) e
       ∙ cos_nearest s (units_of v) w k m n (le_of_lt (units_below l)) l q)
 
-  pub digits_above : 1074 ≤ k → (1074 < k) ⊎ (2 ^ 52 < w) → CosineDigits (cos_of v) None
-  digits_above a c = no_digits _ (cos_above v (units_above a c))
+  pub digits_above : 1074 < d.k → CosineDigits (cos_of v) None
+  digits_above a = no_digits _ (cos_above v (units_above (omega arith) (inl a)))
 
-  pub digits_one : (s : Bool) → lt v (fin false 0 (pos 0)) ≡ s → 1074 ≤ k → k ≤ 1074 → w ≤ 2 ^ 52 → CosineDigits (cos_of v) (Some (cond s (2 ^ 52) (2 ^ 53)))
+  pub digits_over : 1074 ≤ d.k → 2 ^ 52 < d.w → CosineDigits (cos_of v) None
+  digits_over a c = no_digits _ (cos_above v (units_above a (inr c)))
+
+  digits_one : (s : Bool) → lt v zero64 ≡ s → 1074 ≤ k → k ≤ 1074 → w ≤ 2 ^ 52 → CosineDigits (cos_of v) (Some (cond s (2 ^ 52) (2 ^ 53)))
   digits_one s e a b l =
       all_are_digits _ _ (low s) (high s)
       (cos_is v r (le_of_eq (units_one a b l)) ∙ ap₂ (λ (s : Bool) (u : ℕ). nearest_cos s u) e (units_one a b l) ∙ at_one s)
@@ -134,8 +151,33 @@ module _ (v : Float) (w k : ℕ) (n : Normal (units_of v) w k) (r : regular_of v
       high true = lit≤ tt
       high false = lit≤ tt
 
--- ---- both
+  -- at 1 and -1
+  pub digits_up : lt v zero64 ≡ false → 1074 ≤ d.k → d.k ≤ 1074 → d.w ≤ 2 ^ 52 → CosineDigits (cos_of v) (Some (2 ^ 53))
+  digits_up e a b l = digits_one false e a b l
 
-pub both : (v c s : Float) → c ≡ cos_of v → s ≡ sin_of (cos_of v) → angle c s ≡ third_angle_of v
+  pub digits_down : lt v zero64 ≡ true → 1074 ≤ d.k → d.k ≤ 1074 → d.w ≤ 2 ^ 52 → CosineDigits (cos_of v) (Some (2 ^ 52))
+  digits_down e a b l = digits_one true e a b l
+
+-- ---- both, by the digits of c
+
+module _ (c : Float) (m : ℕ) (d : CosineDigits c (Some m)) where
+  pub cos_low : 2 ^ 52 ≤ m
+  cos_low = (d.some m refl).0
+
+  pub cos_high : m ≤ 2 ^ 53
+  cos_high = (d.some m refl).1
+
+both : (v c s : Float) → c ≡ cos_of v → s ≡ sin_of (cos_of v) → angle c s ≡ third_angle_of v
 unfolding third_angle_of
 both v c s a b = ap₂ angle a b
+
+pub both_none : (v : Float) → CosineDigits (cos_of v) None → angle (of_bits binary64 0x7FF8_0000_0000_0000) (of_bits binary64 0x7FF8_0000_0000_0000) ≡ third_angle_of v
+unfolding of_bits sin_of
+both_none v d = let e = d.none refl in both v _ _ (sym e) (sym (ap sin_of e))
+
+pub both_some : (v c s : Float) (m : ℕ) → CosineDigits (cos_of v) (Some m) → c ≡ odd 54 false m 1021 1074 → s ≡ sin_of (odd 54 false m 1021 1074)
+    → angle c s ≡ third_angle_of v
+both_some v c s m d a b = let e = (d.some m refl).2 in both v c s (a ∙ sym e) (b ∙ sym (ap sin_of e))
+
+-- what `third_digits` rests on
+pub ruleset digits = (digits_zero, digits_none, digits_above, digits_over, digits_up, digits_down)

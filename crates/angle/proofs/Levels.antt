@@ -148,3 +148,6 @@ level_below w k n rest q s e =
 -- the level, and that c is below 1
 pub level_is : (w k : ℕ) → w < 2 ^ 53 → k < 1074 → (s t : Bool) {q : ℕ} → s ≡ t → q ≡ level_of t w k → (q ≡ level_of s w k) × (q < 2 ^ 161)
 level_is w k h l s t e is = (is ∙ ap (λ (b : Bool). level_of b w k) (sym e), subst (λ (x : ℕ). x < 2 ^ 161) (sym is) (level_lt w k h l t))
+
+-- what `level` rests on
+pub ruleset levels = (part_lt, top_lt, level_above, level_below, level_lt)

@@ -1,11 +1,14 @@
 -- The last way out of `within_band`, and what it looks at.
 use mathlib.Core.Path.{◌≡◌, refl, sym}
 use mathlib.Core.Bool.{false}
+use Prim.Native.Nat.{ℕ}
 use lib.ListN.{get_or}
 use lib.Ieee.{Float, nan, binary64, add, sub, mul, lt, le}
+use Rattle.facts.specs.Count.{up_turn, up_end, down_turn, down_end}
 use Rattle.float.specs.Methods.{abs_of, powi_of}
 use Rattle.scaled.specs.declared.Scaled.{Scaled}
-use Rattle.band.specs.Band.{budget_of, noise_within, noise_of, base_of, within_band_of, bare}
+use Rattle.band.specs.Band.{magnitude_step, magnitude_of, budget_of, kth_root_of, radius_step, radius_of, noise_within, noise_of, base_of, band_of}
+use Rattle.band.specs.Band.{within_band_of, bare}
 
 -- ---- the band: beyond the caller's, and not beyond the crude bound: the noise decides
 pub noise_decides : (poly : Scaled) (half y tol : Float) {base budget power lead noise : Float} → base ≡ base_of poly.unit y tol
@@ -22,3 +25,10 @@ barely poly = bare poly.f poly.d poly.unit
 pub same_within : (poly : Scaled) (half y tol : Float) → within_band_of (barely poly) half y tol ≡ within_band_of poly half y tol
 unfolding within_band_of noise_of
 same_within poly half y tol = refl
+
+-- What the functions' proofs rest on: the laws, and the definitions.
+pub ruleset laws = (up_turn, up_end, down_turn, down_end, noise_decides)
+
+unfoldable pub definitions : ℕ
+unfolding magnitude_step magnitude_of budget_of kth_root_of radius_step radius_of noise_within noise_of base_of band_of within_band_of
+definitions = 0

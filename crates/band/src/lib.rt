@@ -1,6 +1,6 @@
 // The clustering band of a scaled polynomial: `noise`, `band` and `within_band` of poly.rs.
 // It rests on the leaves, `horner` and `scaled`; `critical`, `push` and `finish` rest on it.
-#![tactic(auto)]
+#![tactic(auto, using(crate::proofs::Laws::laws), unfolding(crate::proofs::Laws::definitions))]
 
 ghost use Rattle.std.specs.Prelude.{◌≡◌, ◌≤◌};
 ghost use Rattle.band.specs.Band.{magnitude_of, budget_of, kth_root_of, radius_step, radius_of, noise_within, noise_of, base_of, band_of, within_band_of, bare};
@@ -8,9 +8,6 @@ ghost use Rattle.band.specs.Band.{magnitude_of, budget_of, kth_root_of, radius_s
 use horner::Polynomial;
 
 const NOISE_FACTOR: f64 = 4.0;
-
-// f64::EPSILON
-const EPSILON: f64 = 2.220446049250313e-16;
 
 // The sum of the sizes of p's terms at y.
 fn magnitude(p: Polynomial, y: f64) -> f64
@@ -28,11 +25,10 @@ fn magnitude(p: Polynomial, y: f64) -> f64
 pub fn budget(p: Polynomial, y: f64) -> f64
     ensures { result ≡ budget_of p.f p.d y }
 {
-    NOISE_FACTOR * EPSILON * magnitude(p, y)
+    NOISE_FACTOR * f64::EPSILON * magnitude(p, y)
 }
 
-// q^(1/k)
-#[tactic(auto, unfolding(crate::specs::Band::kth_root_of))]
+// q^(1/k). (A match: the root is chosen by the data, k, and each is a function by name; a table of functions would say the same.)
 fn kth_root(k: usize, q: f64) -> f64
     ensures { result ≡ kth_root_of k q }
 {

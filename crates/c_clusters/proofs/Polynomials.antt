@@ -1,31 +1,34 @@
 -- What the C functions below the list are handed, and that counts and multiplicities stay within theirs.
-use mathlib.Core.Path.{◌≡◌, refl, sym, ap, subst⁻¹, ◌∙◌}
+use mathlib.Core.Path.{◌≡◌, refl, sym, ap, ◌∙◌}
 use mathlib.Core.Bool.{Bool, false, ◌||◌}
 use mathlib.Core.List.{List, [], ◌∷◌, ◌++◌}
-use Prim.Native.Nat.{ℕ, zero, suc, ◌+◌, ◌-◌, ◌*◌, ◌^◌, ◌≤◌, ◌<◌}
+use Prim.Native.Nat.{ℕ, zero, suc, ◌+◌, ◌^◌, ◌≤◌, ◌<◌}
 use native.Mathlib.Omega.{arith}
 use borrow.Author.Tests.{ltb-false}
 use lib.Dec.{ltb}
-use lib.ListN.{length, take, get_or, set, replicate}
+use lib.ListN.{length, take, get_or}
 use lib.Ieee.{Float, nan}
 use Rattle.std.specs.Prelude.{Option, Some, None, unwrap_or}
 use Rattle.facts.specs.Arrays.{from_fn}
 use Rattle.scaled.specs.declared.Scaled.{Scaled}
+use Rattle.scaled.specs.Scaled.{scaled_of}
 use Rattle.roots.specs.declared.RealRoot.{RealRoot}
 use Rattle.roots.specs.declared.Roots.{Roots}
 use Rattle.roots.specs.declared.Pair.{Pair}
 use Rattle.roots.specs.declared.Pairs.{Pairs}
-use Rattle.float.specs.Literals.{zero64}
-use Rattle.lent_bytes.specs.Numbers.{number}
-use Rattle.roots.specs.Roots.{kind_number, roots_of}
-use Rattle.roots.specs.Listed.{blank, multiplicities, Fits, PairsFit}
-use Rattle.roots.proofs.Laws.{roots_fit, kept_fits, paired_fits}
+use Rattle.lent_bytes.specs.Lists.{root_numbers}
+use Rattle.roots.specs.Listed.{multiplicities, Fits, PairsFit}
+use Rattle.roots.proofs.Laws.{kept_fits, paired_fits}
 use Rattle.push.specs.declared.Found.{Found}
 use Rattle.push.specs.Quadratic.{Factor, double, apart, complex, quadratic_roots_of, push_factor_in, push_quadratic_in}
-use Rattle.finish.specs.Finish.{finish_of}
-use Rattle.finish.proofs.Counts.{finish_counts}
-use Rattle.lent_bytes.proofs.Five.{none_holds}
-use Rattle.c_clusters.specs.Clustering.{turning_or_nan, candidate_at, candidates_at, pair_at, pairs_at, root_at, root_numbers, found_number, found_numbers, lacks_of}
+use Rattle.lent_bytes.proofs.Five.{none_holds, accepted}
+use Rattle.lent_bytes.proofs.Whole.{no_bytes}
+use Rattle.float.proofs.Bits.{nan_pattern}
+use Rattle.c_clusters.specs.Clustering.{turning_or_nan, candidate_at, candidates_at, pair_at, pairs_at, found_number, found_numbers, lacks_of}
+
+pub degree_is : (a : List Float) (d : ℕ) → (scaled_of a d).d ≡ d
+unfolding scaled_of
+degree_is a d = refl
 
 pub holding : (c : List ℕ) (size n m : ℕ) {b : Bool} → b ≡ lacks_of c size n m → b ≡ false → (size ≤ length c) × ((n ≤ 4) × (m ≤ 2))
 unfolding lacks_of
@@ -33,6 +36,12 @@ holding c size n m e t =
     let h = none_holds (ltb (length c) size) (ltb 4 n || ltb 2 m) (sym e ∙ t) in
     let k = none_holds (ltb 4 n) (ltb 2 m) h.1 in
     (ltb-false (length c) size h.0, (ltb-false 4 n k.0, ltb-false 2 m k.1))
+
+-- a polynomial handed in, and nothing handed out
+pub ruleset handed = (no_bytes, accepted, nan_pattern, degree_is)
+
+-- candidates handed in
+pub ruleset counted = (no_bytes, holding)
 
 -- ---- candidates
 pub four_candidates : (c : List ℕ) (n : ℕ) {l : List RealRoot} → l ≡ from_fn 4 (candidate_at c) → ◌≡◌ {A = Roots} (record { root = l; len = n }) (candidates_at c n)
@@ -86,32 +95,7 @@ quadratic_fits poly al be tol c n m h k o p e =
     (candidates_fit c n h) (pairs_fit c m k) in
     rw (e, o, p) fit
 
-pub finish_fits : (poly : Scaled) (c : List RealRoot) (tol : Float) {s : Roots} → s ≡ roots_of (finish_of poly c tol) → Fits s
-finish_fits poly c tol e = subst⁻¹ Fits e (roots_fit (finish_of poly c tol) (finish_counts poly c tol))
-
--- ---- handed out: the numbers of the first k roots, and zeros behind them
-abbrev pub rows : Roots → ℕ → List Float
-rows s zero = []
-rows s (suc k) = rows s k ++ root_at s k
-
-abbrev pub filled : Roots → ℕ → List Float
-filled s k = number s.len ∷ (rows s k ++ replicate (12 - 3 * k) zero64)
-
-abbrev here : Roots → ℕ → RealRoot
-here s k = get_or s.root k blank
-
-pub filled_next : (s : Roots) (k : ℕ) {v m κ : Float} → k < 4 → v ≡ (here s k).value → m ≡ number (here s k).multiplicity → κ ≡ number (kind_number (here s k).kind)
-    → set (set (set (filled s k) (3 * k + 1) v) (3 * k + 2) m) (3 * k + 3) κ ≡ filled s (k + 1)
-filled_next s zero h e f g = rw (e, f, g)
-filled_next s (suc zero) h e f g = rw (e, f, g)
-filled_next s (suc (suc zero)) h e f g = rw (e, f, g)
-filled_next s (suc (suc (suc zero))) h e f g = rw (e, f, g)
-filled_next s (suc (suc (suc (suc k)))) h e f g = absurd (omega arith)
-
-pub filled_all : (s : Roots) (k : ℕ) → k ≤ 4 → 4 ≤ k → filled s k ≡ root_numbers s
-unfolding root_numbers
-filled_all s k h l = (let e : k ≡ 4 = omega arith in ap (filled s) e) ∙ refl
-
+-- ---- handed out
 pub all_found : (s : Found) (x : List Float) → x ≡ root_numbers s.roots → from_fn 18 (found_number x s.pairs) ≡ found_numbers s
 unfolding found_numbers root_numbers found_number
 all_found s x e = rw e

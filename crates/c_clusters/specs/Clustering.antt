@@ -8,13 +8,14 @@ use Rattle.roots.specs.declared.RealRoot.{RealRoot}
 use Rattle.roots.specs.declared.Roots.{Roots}
 use Rattle.roots.specs.declared.Pair.{Pair}
 use Rattle.roots.specs.declared.Pairs.{Pairs}
-use Rattle.roots.specs.Roots.{kind_number, root, pair, list_of, roots_of}
-use Rattle.roots.specs.Listed.{blank, blank_pair}
+use Rattle.roots.specs.Roots.{root, pair, list_of, roots_of}
+use Rattle.roots.specs.Listed.{blank_pair}
 use Rattle.push.specs.declared.Found.{Found}
 use Rattle.push.specs.Quadratic.{push_quadratic_in}
 use Rattle.finish.specs.Finish.{finish_of}
 use Rattle.lent_bytes.specs.Bytes.{five_at, lacks_five, unless}
 use Rattle.lent_bytes.specs.Numbers.{number}
+use Rattle.lent_bytes.specs.Lists.{root_numbers}
 
 -- the polynomial with five doubles as coefficients and the degree d
 abbrev pub poly_at : List ℕ → ℕ → Scaled
@@ -43,15 +44,7 @@ unfoldable pub pairs_at : List ℕ → ℕ → Pairs
 pairs_at c n = record { pair = pair_at c 0 ∷ pair_at c 1 ∷ []; len = n }
 
 -- ---- handed out
--- place, multiplicity and kind of the root i
-abbrev pub root_at : Roots → ℕ → List Float
-root_at s i = let r = get_or s.root i blank in r.value ∷ number r.multiplicity ∷ number (kind_number r.kind) ∷ []
-
--- how many roots there are, and the four places with their multiplicities and kinds
-unfoldable pub root_numbers : Roots → List Float
-root_numbers s = number s.len ∷ (root_at s 0 ++ (root_at s 1 ++ (root_at s 2 ++ root_at s 3)))
-
--- number i of it, from those of the roots: how many pairs there are, and the centre and the half of each, come behind
+-- number i of what is found, from those of the roots: how many pairs there are, and the centre and the half of each, come behind
 unfoldable pub found_number : List Float → Pairs → ℕ → Float
 found_number x s i =
     let p = get_or s.pair ((i - 14) / 2) blank_pair in

@@ -1,90 +1,100 @@
 // Layer 6 below the list as C functions on numbers and byte slices, under the contracts of what they pass on to: the band, what is found in it, polishing
 // and the finished roots, each for the polynomial Scaled::new of five doubles in 40 bytes and a degree. A number is NaN, a truth false, and nothing is
-// stored, where the doubles have fewer bytes or the degree is above 4. No C function here requires anything.
-// `c_clusters_c` exports them, since a library has no exports. It rests on the crates whose functions it hands out, and on `lent_bytes`; `pongewaru` and
-// `c_clusters_c` rest on it.
-#![tactic(auto)]
+// stored, where the doubles have fewer bytes or the degree is above 4. `rt lib c_clusters` makes of them one of the archives that the test host links.
+// No C function here requires anything. It rests on the crates whose functions it hands out, and on `lent_bytes`; nothing rests on it.
+#![tactic(auto, using(crate::proofs::Polynomials::handed), unfolding(lent_bytes::specs::Bytes::unless, lent_bytes::specs::Bytes::whole))]
 
-ghost use Rattle.std.specs.Prelude.{◌≡◌, false, ◌^◌, ◌≤◌, ◌<◌, length};
+ghost use Rattle.std.specs.Prelude.{◌≡◌, false, true, ◌^◌, ◌≤◌, ◌<◌, length, MatchOption};
 ghost use Rattle.std.specs.Float.{nan};
-ghost use Rattle.roots.specs.Roots.{kind_number, list_of};
+ghost use Rattle.roots.specs.Roots.{list_of};
 ghost use Rattle.roots.specs.Listed.{multiplicities, Fits, PairsFit};
 ghost use Rattle.band.specs.Band.{noise_of, band_of, within_band_of};
 ghost use Rattle.critical.specs.Critical.{critical_point_of, extremum_of};
 ghost use Rattle.polish.specs.Polish.{polish_of};
 ghost use Rattle.lent_bytes.specs.Bytes.{lacks_five, unless, Stored};
-ghost use Rattle.lent_bytes.specs.Numbers.{number};
 ghost use Rattle.c_clusters.specs.Clustering.{poly_at, turning_or_nan, candidate_at, lacks_of, candidates_at};
-ghost use Rattle.c_clusters.specs.Clustering.{pair_at, pairs_at, root_numbers, found_number, found_numbers, pushed_numbers, finished_numbers};
+ghost use Rattle.c_clusters.specs.Clustering.{pair_at, pairs_at, found_number, found_numbers, pushed_numbers, finished_numbers};
 
 use horner::Polynomial;
+use lent_bytes::lists::root_numbers;
 use lent_bytes::{doubles_at, lacks_five, store};
 
-fn poly_at(a: &[u8], d: u64) -> scaled::Scaled
-    requires a_length { 40 ≤ length a.now }
-    requires d_high { d ≤ 4 }
-    ensures { (result ≡ poly_at a.now d) × (result.d ≤ 4) }
+// The polynomial Scaled::new of the five doubles that a holds and the degree d, if a holds them and d is at most 4.
+fn poly_at(a: &[u8], d: u64) -> Option<scaled::Scaled>
+    ensures { MatchOption result (lacks_five a.now d ≡ true)
+        (λ p. (lacks_five a.now d ≡ false) × (p ≡ poly_at a.now d) × (p.d ≤ 4)) }
 {
+    if lacks_five(a, d) {
+        return None;
+    }
     let f = doubles_at(a, 0);
-    scaled::Scaled::new(Polynomial { f, d: d as usize })
+    Some(scaled::Scaled::new(Polynomial { f, d: d as usize }))
 }
 
-pub fn pongewaru_noise(a: &[u8], d: u64, y: f64) -> f64
+#[unsafe(no_mangle)]
+pub extern "C" fn pongewaru_noise(a: &[u8], d: u64, y: f64) -> f64
     ensures { result ≡ unless nan (lacks_five a.now d) (noise_of (poly_at a.now d) y) }
 {
-    if lacks_five(a, d) {
-        return 0.0 / 0.0;
-    }
-    band::noise(poly_at(a, d), y)
+    let Some(p) = poly_at(a, d) else {
+        return f64::NAN;
+    };
+    band::noise(p, y)
 }
 
-pub fn pongewaru_band(a: &[u8], d: u64, y: f64, tol: f64) -> f64
+#[unsafe(no_mangle)]
+pub extern "C" fn pongewaru_band(a: &[u8], d: u64, y: f64, tol: f64) -> f64
     ensures { result ≡ unless nan (lacks_five a.now d) (band_of (poly_at a.now d) y tol) }
 {
-    if lacks_five(a, d) {
-        return 0.0 / 0.0;
-    }
-    band::band(poly_at(a, d), y, tol)
+    let Some(p) = poly_at(a, d) else {
+        return f64::NAN;
+    };
+    band::band(p, y, tol)
 }
 
-pub fn pongewaru_within_band(a: &[u8], d: u64, half: f64, y: f64, tol: f64) -> bool
+#[unsafe(no_mangle)]
+pub extern "C" fn pongewaru_within_band(a: &[u8], d: u64, half: f64, y: f64, tol: f64) -> bool
     ensures { result ≡ unless false (lacks_five a.now d) (within_band_of (poly_at a.now d) half y tol) }
 {
-    if lacks_five(a, d) {
+    let Some(p) = poly_at(a, d) else {
         return false;
-    }
-    band::within_band(poly_at(a, d), half, y, tol)
+    };
+    band::within_band(p, half, y, tol)
 }
 
-pub fn pongewaru_critical_point(a: &[u8], d: u64, y: f64, lo: f64, hi: f64) -> f64
+#[unsafe(no_mangle)]
+pub extern "C" fn pongewaru_critical_point(a: &[u8], d: u64, y: f64, lo: f64, hi: f64) -> f64
     ensures { result ≡ unless nan (lacks_five a.now d) (critical_point_of (poly_at a.now d) y lo hi) }
 {
-    if lacks_five(a, d) {
-        return 0.0 / 0.0;
-    }
-    critical::critical_point(poly_at(a, d), y, lo, hi)
+    let Some(p) = poly_at(a, d) else {
+        return f64::NAN;
+    };
+    critical::critical_point(p, y, lo, hi)
 }
 
 // The place, NaN where there is none.
-pub fn pongewaru_extremum(a: &[u8], d: u64, y: f64, lo: f64, hi: f64, tol: f64) -> f64
+#[tactic(auto, using(float::proofs::Bits::nan_pattern, crate::proofs::Polynomials::turning_is), unfolding(lent_bytes::specs::Bytes::unless))]
+#[unsafe(no_mangle)]
+pub extern "C" fn pongewaru_extremum(a: &[u8], d: u64, y: f64, lo: f64, hi: f64, tol: f64) -> f64
     ensures { result ≡ unless nan (lacks_five a.now d) (turning_or_nan (extremum_of (poly_at a.now d) y lo hi tol)) }
 {
-    if lacks_five(a, d) {
-        return 0.0 / 0.0;
-    }
-    critical::extremum(poly_at(a, d), y, lo, hi, tol).unwrap_or(0.0 / 0.0)
+    let Some(p) = poly_at(a, d) else {
+        return f64::NAN;
+    };
+    critical::extremum(p, y, lo, hi, tol).unwrap_or(f64::NAN)
 }
 
-pub fn pongewaru_polish(a: &[u8], d: u64, y: f64, gap: f64) -> f64
+#[unsafe(no_mangle)]
+pub extern "C" fn pongewaru_polish(a: &[u8], d: u64, y: f64, gap: f64) -> f64
     ensures { result ≡ unless nan (lacks_five a.now d) (polish_of 4 (poly_at a.now d).f (poly_at a.now d).d gap y) }
 {
-    if lacks_five(a, d) {
-        return 0.0 / 0.0;
-    }
-    polish::polish(poly_at(a, d).polynomial(), y, gap)
+    let Some(p) = poly_at(a, d) else {
+        return f64::NAN;
+    };
+    polish::polish(p.polynomial(), y, gap)
 }
 
 // The double at place i, and the byte at place i behind four doubles.
+#[tactic(auto, unfolding(crate::specs::Clustering::candidate_at))]
 fn candidate_at(c: &[u8], i: usize) -> roots::RealRoot
     requires c_length { 36 ≤ length c.now }
     requires i_high { i < 4 }
@@ -96,16 +106,11 @@ fn candidate_at(c: &[u8], i: usize) -> roots::RealRoot
 }
 
 // Whether c is shorter than its size, or cannot hold n candidates and m pairs.
+#[tactic(auto, unfolding(crate::specs::Clustering::lacks_of))]
 fn lacks(c: &[u8], size: usize, n: u64, m: u64) -> bool
     ensures { result ≡ lacks_of c.now size n m }
 {
-    if c.len() < size {
-        return true;
-    }
-    if 4 < n {
-        return true;
-    }
-    2 < m
+    c.len() < size || 4 < n || 2 < m
 }
 
 // n candidates.
@@ -144,29 +149,8 @@ fn pairs_at(c: &[u8], n: u64) -> roots::Pairs
     }
 }
 
-fn kind_number(r: roots::RealRoot) -> f64
-    ensures { result ≡ number (kind_number r.kind) }
-{
-    u32::from(r.kind) as f64
-}
-
-// How many roots there are, and the four places with their multiplicities and kinds.
-pub fn root_numbers(s: roots::Roots) -> [f64; 13]
-    requires { Fits s }
-    ensures { result ≡ root_numbers s }
-{
-    let mut x = [0.0; 13];
-    x[0] = s.len as f64;
-    for k in 0..4usize {
-        let r = s.root[k];
-        x[3 * k + 1] = r.value;
-        x[3 * k + 2] = r.multiplicity as f64;
-        x[3 * k + 3] = kind_number(r);
-    }
-    x
-}
-
 // Number i of what is found: those of the roots, how many pairs there are, and the centre and the half of each.
+#[tactic(auto, unfolding(crate::specs::Clustering::found_number))]
 fn found_number(x: [f64; 13], s: roots::Pairs, i: usize) -> f64
     requires fits { PairsFit s }
     requires i_high { i < 18 }
@@ -197,7 +181,9 @@ fn found_numbers(s: push::Found) -> [f64; 18]
 
 // The candidates, n on entry, and the complex pairs, m on entry, after the factor y^2 + al*y + be. Nothing is stored where c is short, or where
 // they have no such count.
-pub fn pongewaru_push_quadratic(
+#[tactic(auto, using(crate::proofs::Polynomials::counted), unfolding(lent_bytes::specs::Bytes::unless, lent_bytes::specs::Bytes::whole))]
+#[unsafe(no_mangle)]
+pub extern "C" fn pongewaru_push_quadratic(
     a: &[u8],
     d: u64,
     al: f64,
@@ -210,29 +196,38 @@ pub fn pongewaru_push_quadratic(
 ) -> u64
     ensures { Stored (pushed_numbers a.now d al be tol c.now n m) out.old result out.new }
 {
-    if lacks_five(a, d) {
+    let Some(p) = poly_at(a, d) else {
         return 0;
-    }
+    };
     if lacks(c, 68, n, m) {
         return 0;
     }
     let roots = candidates_at(c, n);
     let pairs = pairs_at(c, m);
     let found = push::Found { roots, pairs };
-    let s = push::push_quadratic(poly_at(a, d), al, be, tol, found);
+    let s = push::push_quadratic(p, al, be, tol, found);
     store(out, &found_numbers(s))
 }
 
 // The finished roots of n candidates. Nothing is stored where c is short or n above 4.
-pub fn pongewaru_finish(a: &[u8], d: u64, c: &[u8], n: u64, tol: f64, out: &mut [u8]) -> u64
+#[tactic(auto, using(crate::proofs::Polynomials::counted), unfolding(lent_bytes::specs::Bytes::unless, lent_bytes::specs::Bytes::whole))]
+#[unsafe(no_mangle)]
+pub extern "C" fn pongewaru_finish(
+    a: &[u8],
+    d: u64,
+    c: &[u8],
+    n: u64,
+    tol: f64,
+    out: &mut [u8],
+) -> u64
     ensures { Stored (finished_numbers a.now d c.now n tol) out.old result out.new }
 {
-    if lacks_five(a, d) {
+    let Some(p) = poly_at(a, d) else {
         return 0;
-    }
+    };
     if lacks(c, 36, n, 0) {
         return 0;
     }
-    let s = finish::finish(poly_at(a, d), candidates_at(c, n), tol);
+    let s = finish::finish(p, candidates_at(c, n), tol);
     store(out, &root_numbers(s))
 }

@@ -11,7 +11,7 @@ use horner::Polynomial;
 use lent_bytes::{doubles_at, lacks_five, store};
 
 // The polynomial of degree d that p holds, if it holds one.
-fn polynomial_at(p: &[u8], d: u64) -> Option<Polynomial>
+pub(super) fn polynomial_at(p: &[u8], d: u64) -> Option<Polynomial>
     ensures { MatchOption result (lacks_five p.now d ≡ true)
         (λ q. (lacks_five p.now d ≡ false) × (q.f ≡ five_at p.now) × (q.d ≡ d)) }
 {

@@ -11,6 +11,8 @@ use cubic::CubicRoots;
 use lent_bytes::store;
 use quartic::QuarticFactor;
 
+// (No From, here and for the others: the trait and the types are of other crates.)
+#[tactic(auto, unfolding(crate::specs::Numbers::roots_numbers))]
 fn roots_numbers(roots: CubicRoots) -> [f64; 4]
     ensures { result ≡ roots_numbers roots }
 {
@@ -45,12 +47,13 @@ pub extern "C" fn pongewaru_quartic_factor(b: f64, c: f64, d: f64, e: f64, out: 
     store(out, &[x.al, x.be, x.ga, x.de])
 }
 
+#[tactic(auto, using(float::proofs::Bits::nan_pattern), unfolding(crate::specs::Numbers::lone_numbers))]
 fn lone_numbers(found: Option<f64>) -> [f64; 2]
     ensures { result ≡ lone_numbers found }
 {
     match found {
         Some(x) => [1.0, x],
-        None => [0.0, 0.0 / 0.0],
+        None => [0.0, f64::NAN],
     }
 }
 

@@ -8,9 +8,11 @@ ghost use Rattle.factorize.specs.Factorize.{factorize_of};
 ghost use Rattle.lent_bytes.specs.Bytes.{five_at, lacks_five, unless, Stored};
 ghost use Rattle.c_layers.specs.Numbers.{scaled_numbers, split_numbers, factor_numbers};
 
-use horner::Polynomial;
+use crate::evaluation::polynomial_at;
 use lent_bytes::{doubles_at, lacks_five, store};
 
+// Number by number, as the definition has them: part by part it would be copies into zeros, which is longer, and whose proof did not close.
+#[tactic(auto, unfolding(crate::specs::Numbers::scaled_numbers))]
 fn scaled_numbers(s: scaled::Scaled) -> [f64; 18]
     requires { s.d ≤ 4 }
     ensures { result ≡ scaled_numbers s }
@@ -25,22 +27,20 @@ fn scaled_numbers(s: scaled::Scaled) -> [f64; 18]
 }
 
 // f, g, lg, d, e and unit of the polynomial with the coefficients a, ascending, and the degree d.
+#[tactic(auto, using(crate::proofs::Sizes::sized), unfolding(lent_bytes::specs::Bytes::unless, lent_bytes::specs::Bytes::whole))]
 #[unsafe(no_mangle)]
 pub extern "C" fn pongewaru_scaled_new(a: &[u8], d: u64, out: &mut [u8]) -> u64
     ensures { Stored (unless [] (lacks_five a.now d) (scaled_numbers (scaled_of (five_at a.now) d)))
         out.old result out.new }
 {
-    if lacks_five(a, d) {
+    let Some(p) = polynomial_at(a, d) else {
         return 0;
-    }
-    let p = Polynomial {
-        f: doubles_at(a, 0),
-        d: d as usize,
     };
     let s = scaled::Scaled::new(p);
     store(out, &scaled_numbers(s))
 }
 
+#[tactic(auto, unfolding(crate::specs::Numbers::split_numbers))]
 fn split_numbers(s: Option<split::Gap>) -> [f64; 3]
     requires { Inside 4 s }
     ensures { result ≡ split_numbers s }
@@ -52,6 +52,7 @@ fn split_numbers(s: Option<split::Gap>) -> [f64; 3]
 }
 
 // 1, small and threshold for the logarithms lg and the degree d, or three zeros where there is no gap.
+#[tactic(auto, using(crate::proofs::Sizes::sized), unfolding(lent_bytes::specs::Bytes::unless, lent_bytes::specs::Bytes::whole))]
 #[unsafe(no_mangle)]
 pub extern "C" fn pongewaru_magnitude_split(lg: &[u8], d: u64, out: &mut [u8]) -> u64
     ensures { Stored (unless [] (lacks_five lg.now d) (split_numbers (magnitude_split_of (five_at lg.now) d)))
@@ -64,6 +65,8 @@ pub extern "C" fn pongewaru_magnitude_split(lg: &[u8], d: u64, out: &mut [u8]) -
     store(out, &split_numbers(s))
 }
 
+// Likewise.
+#[tactic(auto, unfolding(crate::specs::Numbers::factor_numbers))]
 fn factor_numbers(f: factors::Factors) -> [f64; 10]
     requires { Sized f }
     ensures { result ≡ factor_numbers f }
@@ -87,17 +90,14 @@ fn factor_numbers(f: factors::Factors) -> [f64; 10]
 }
 
 // nlin, lin, nquad and the al and be of quad for that polynomial, from this depth on.
+#[tactic(auto, using(crate::proofs::Sizes::sized), unfolding(lent_bytes::specs::Bytes::unless, lent_bytes::specs::Bytes::whole))]
 #[unsafe(no_mangle)]
 pub extern "C" fn pongewaru_factorize(a: &[u8], d: u64, depth: u32, out: &mut [u8]) -> u64
     ensures { Stored (unless [] (lacks_five a.now d)
         (factor_numbers (factorize_of (scaled_of (five_at a.now) d) depth))) out.old result out.new }
 {
-    if lacks_five(a, d) {
+    let Some(p) = polynomial_at(a, d) else {
         return 0;
-    }
-    let p = Polynomial {
-        f: doubles_at(a, 0),
-        d: d as usize,
     };
     let s = scaled::Scaled::new(p);
     let f = factorize::factorize(s, depth);

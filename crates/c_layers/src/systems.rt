@@ -23,7 +23,7 @@ fn store_solution<const N: usize>(m: [[f64; N]; N], b: [f64; N], tol: f64, out: 
     store(out, &numbers[..N + 1])
 }
 
-// Of a system row by row, and its right-hand side.
+// Of a system row by row, and its right-hand side. (A function for each size and each system, as C calls them: they share store_solution and refine.)
 #[unsafe(no_mangle)]
 pub extern "C" fn pongewaru_solve_square3(s: &[u8], tol: f64, out: &mut [u8]) -> u64
     ensures { Stored (unless [] (ltb (length s.now) 96)

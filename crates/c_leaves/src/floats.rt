@@ -6,50 +6,59 @@ ghost use Rattle.float.specs.Methods.{abs_of, is_finite_of, copysign_of, min_of,
 ghost use Rattle.float.specs.Floor.{floor_of};
 ghost use Rattle.lent_bytes.specs.Numbers.{up_to};
 
-pub fn pongewaru_float_abs(x: f64) -> f64
+#[unsafe(no_mangle)]
+pub extern "C" fn pongewaru_float_abs(x: f64) -> f64
     ensures { result ≡ abs_of x }
 {
     float::abs(x)
 }
 
-pub fn pongewaru_float_copysign(x: f64, y: f64) -> f64
+#[unsafe(no_mangle)]
+pub extern "C" fn pongewaru_float_copysign(x: f64, y: f64) -> f64
     ensures { result ≡ copysign_of x y }
 {
     float::copysign(x, y)
 }
 
-pub fn pongewaru_float_min(x: f64, y: f64) -> f64
+#[unsafe(no_mangle)]
+pub extern "C" fn pongewaru_float_min(x: f64, y: f64) -> f64
     ensures { result ≡ min_of x y }
 {
     float::min(x, y)
 }
 
-pub fn pongewaru_float_max(x: f64, y: f64) -> f64
+#[unsafe(no_mangle)]
+pub extern "C" fn pongewaru_float_max(x: f64, y: f64) -> f64
     ensures { result ≡ max_of x y }
 {
     float::max(x, y)
 }
 
-pub fn pongewaru_float_clamp(x: f64, lo: f64, hi: f64) -> f64
+#[unsafe(no_mangle)]
+pub extern "C" fn pongewaru_float_clamp(x: f64, lo: f64, hi: f64) -> f64
     ensures { result ≡ clamp_of x lo hi }
 {
     float::clamp(x, lo, hi)
 }
 
-pub fn pongewaru_float_total_le(x: f64, y: f64) -> bool
+#[unsafe(no_mangle)]
+pub extern "C" fn pongewaru_float_total_le(x: f64, y: f64) -> bool
     ensures { result ≡ total_le_of x y }
 {
     float::total_le(x, y)
 }
 
-pub fn pongewaru_float_is_finite(x: f64) -> bool
+#[unsafe(no_mangle)]
+pub extern "C" fn pongewaru_float_is_finite(x: f64) -> bool
     ensures { result ≡ is_finite_of x }
 {
     float::is_finite(x)
 }
 
 // v.powi(n) for n up to 4.
-pub fn pongewaru_float_powi(v: f64, n: u32) -> f64
+#[tactic(auto, using(float::proofs::Bits::nan_pattern), unfolding(lent_bytes::specs::Numbers::up_to))]
+#[unsafe(no_mangle)]
+pub extern "C" fn pongewaru_float_powi(v: f64, n: u32) -> f64
     ensures { result ≡ up_to 4 n (powi_of v n) }
 {
     if 4 < n {
@@ -58,19 +67,22 @@ pub fn pongewaru_float_powi(v: f64, n: u32) -> f64
     float::powi(v, n as usize)
 }
 
-pub fn pongewaru_float_floor(x: f64) -> u64
+#[unsafe(no_mangle)]
+pub extern "C" fn pongewaru_float_floor(x: f64) -> u64
     ensures { result ≡ floor_of x }
 {
     float::floor(x)
 }
 
-pub fn pongewaru_float_from_bits(n: u64) -> f64
+#[unsafe(no_mangle)]
+pub extern "C" fn pongewaru_float_from_bits(n: u64) -> f64
     ensures { result ≡ of_bits binary64 n }
 {
     float::from_bits(n)
 }
 
-pub fn pongewaru_float_to_bits(x: f64) -> u64
+#[unsafe(no_mangle)]
+pub extern "C" fn pongewaru_float_to_bits(x: f64) -> u64
     ensures { result ≡ to_bits binary64 x }
 {
     float::to_bits(x)

@@ -1,10 +1,11 @@
 // Layer 1 as C functions on numbers and byte slices, under the contracts of what they pass on to: the leaves (scaling, exponent, roots, logarithm, third
-// angle) here, Rust's methods on f64 in `floats`. None of them requires anything. `c_leaves_c` exports them, since a
-// library has no exports. It rests on the crates whose functions it hands out, and on `lent_bytes`; `leafcases` and `c_leaves_c` rest on it.
-#![tactic(auto)]
+// angle) here, Rust's methods on f64 in `floats`. `rt lib c_leaves` makes of them one of the archives that the test host links. None of them requires anything.
+// It rests on the crates whose functions it hands out, and on `lent_bytes`; nothing rests on it.
+#![tactic(auto, using(lent_bytes::proofs::Whole::no_bytes), unfolding(lent_bytes::specs::Bytes::unless, lent_bytes::specs::Bytes::whole))]
 
 ghost use Rattle.std.specs.Prelude.{◌≡◌, [], ltb, length};
 ghost use Rattle.ldexp.specs.Scale.{ldexp_of};
+ghost use Rattle.ldexp.specs.Total.{pow2_or_nan};
 ghost use Rattle.decode.specs.Exponent.{exponent_of};
 ghost use Rattle.log2.specs.Log.{log2_grid_of, log2_five_of};
 ghost use Rattle.sqrt.specs.Root.{sqrt_of};
@@ -12,57 +13,56 @@ ghost use Rattle.cbrt.specs.Root.{cbrt_of};
 ghost use Rattle.angle.specs.Third.{third_angle_of};
 ghost use Rattle.lent_bytes.specs.Bytes.{five_at, unless, Stored};
 ghost use Rattle.c_leaves.specs.Numbers.{angle_numbers};
-ghost use Rattle.c_leaves.specs.Total.{pow2_or_nan};
 
 use lent_bytes::{doubles_at, store};
 
 pub mod floats;
 
-pub fn pongewaru_leaf_ldexp(x: f64, k: i32) -> f64
+#[unsafe(no_mangle)]
+pub extern "C" fn pongewaru_leaf_ldexp(x: f64, k: i32) -> f64
     ensures { result ≡ ldexp_of x k }
 {
     ldexp::ldexp(x, k)
 }
 
-#[tactic(auto, using(float::proofs::Bits::nan_pattern), unfolding(crate::specs::Total::pow2_or_nan))]
-pub fn pongewaru_leaf_pow2(k: i32) -> f64
+#[unsafe(no_mangle)]
+pub extern "C" fn pongewaru_leaf_pow2(k: i32) -> f64
     ensures { result ≡ pow2_or_nan k }
 {
-    if k < -1022 {
-        return f64::NAN;
-    }
-    if 1023 < k {
-        return f64::NAN;
-    }
-    ldexp::pow2(k)
+    ldexp::pow2_or_nan(k)
 }
 
-pub fn pongewaru_leaf_exponent(x: f64) -> i32
+#[unsafe(no_mangle)]
+pub extern "C" fn pongewaru_leaf_exponent(x: f64) -> i32
     ensures { result ≡ exponent_of x }
 {
     decode::exponent(x)
 }
 
-pub fn pongewaru_leaf_sqrt(x: f64) -> f64
+#[unsafe(no_mangle)]
+pub extern "C" fn pongewaru_leaf_sqrt(x: f64) -> f64
     ensures { result ≡ sqrt_of x }
 {
     sqrt::sqrt(x)
 }
 
-pub fn pongewaru_leaf_cbrt(x: f64) -> f64
+#[unsafe(no_mangle)]
+pub extern "C" fn pongewaru_leaf_cbrt(x: f64) -> f64
     ensures { result ≡ cbrt_of x }
 {
     cbrt::cbrt(x)
 }
 
-pub fn pongewaru_leaf_log2(x: f64) -> f64
+#[unsafe(no_mangle)]
+pub extern "C" fn pongewaru_leaf_log2(x: f64) -> f64
     ensures { result ≡ log2_grid_of x }
 {
     log2::log2_grid(x)
 }
 
 // c and s into 16 bytes; how many bytes are stored.
-pub fn pongewaru_leaf_third_angle(v: f64, out: &mut [u8]) -> u64
+#[unsafe(no_mangle)]
+pub extern "C" fn pongewaru_leaf_third_angle(v: f64, out: &mut [u8]) -> u64
     ensures { Stored (angle_numbers (third_angle_of v)) out.old result out.new }
 {
     let t = angle::third_angle(v);
@@ -70,7 +70,8 @@ pub fn pongewaru_leaf_third_angle(v: f64, out: &mut [u8]) -> u64
 }
 
 // L of five doubles in 40 bytes, into 40 bytes; how many bytes are stored.
-pub fn pongewaru_leaf_log2_five(a: &[u8], out: &mut [u8]) -> u64
+#[unsafe(no_mangle)]
+pub extern "C" fn pongewaru_leaf_log2_five(a: &[u8], out: &mut [u8]) -> u64
     ensures { Stored (unless [] (ltb (length a.now) 40) (log2_five_of (five_at a.now))) out.old result out.new }
 {
     if a.len() < 40 {

@@ -1,14 +1,16 @@
 -- What is claimed of pin contacts: request One of document 02. Statements only; proofs/Theorem.antt has the proof, for all bits.
 use Rattle.std.specs.Prelude.{◌≡◌, ◌⊎◌, Bool, true, false, List, ℕ, ◌-◌, ◌≤◌, ◌<◌, length, Float}
 use Rattle.std.specs.Float.Ieee.{lt}
+use Rattle.refusals.specs.Refusals.{outcome_of}
 use Rattle.float.specs.Literals.{zero64}
 use Rattle.float.specs.Methods.{all_finite_of}
 use Rattle.roots.specs.Roots.{list_of, roots_of, no_roots}
 use Rattle.roots.specs.Listed.{Within, Fits}
 use Rattle.poly.specs.Coefficients.{trimmed_of, degree_left}
 use Rattle.poly.specs.Solve.{solve_of}
+use Rattle.poly.specs.RealRoots.{roots_in}
 use Rattle.poly.specs.Conditions.{AllDoubles, Exactly}
-use Rattle.inquiry.specs.Start.{real_roots_touching_of, places_touching_of, start_of}
+use Rattle.inquiry.specs.Start.{real_roots_touching_of, places_touching_of, start_of, inquiry_in}
 use Rattle.inquiry.specs.Claims.{Fed}
 use Rattle.contact.specs.declared.Path.{Path}
 use Rattle.contact.specs.declared.Circle.{Circle}
@@ -30,13 +32,13 @@ replies_of confusion path circle = touches_of confusion (seen_of path circle) ci
 
 -- What holds of every record.
 pub record Contacts (confusion : Float) (path : Path) (circle : Circle) : Type 0 where
-  pub numbers : Numbers (pin_contact_of confusion path circle).number (numbers_of confusion path circle) circle.r (made_of path circle)
+  pub numbers : Numbers (outcome_of (pin_contact_of confusion path circle)) (numbers_of confusion path circle) circle.r (made_of path circle)
   -- the list of the Rust for these replies, the tolerance being confusion; no root where it is refused
-  pub list : (pin_contact_of confusion path circle).number ≡ 0
-      → (pin_contact_of confusion path circle).roots ≡ roots_of (real_roots_touching_of (replies_of confusion path circle) (made_of path circle) confusion)
-  pub refused : 0 < (pin_contact_of confusion path circle).number → (pin_contact_of confusion path circle).roots ≡ no_roots
+  pub list : outcome_of (pin_contact_of confusion path circle) ≡ 0
+      → roots_in (pin_contact_of confusion path circle) ≡ roots_of (real_roots_touching_of (replies_of confusion path circle) (made_of path circle) confusion)
+  pub refused : 0 < outcome_of (pin_contact_of confusion path circle) → roots_in (pin_contact_of confusion path circle) ≡ no_roots
   -- fed these replies, an inquiry about the coefficients asks at the Rust's places in its order, and ends with that list
-  pub fed : Fed (replies_of confusion path circle) (start_of (made_of path circle) confusion).inquiry (made_of path circle) confusion
+  pub fed : Fed (replies_of confusion path circle) (inquiry_in (start_of (made_of path circle) confusion)) (made_of path circle) confusion
   -- where the confusion is below 0, every reply is no
   pub negative : lt confusion zero64 ≡ true → (t : Float) → replies_of confusion path circle t ≡ false
   -- at most (degree − 1) questions, 0 where the degree is 1; at most three
@@ -44,8 +46,8 @@ pub record Contacts (confusion : Float) (path : Path) (circle : Circle) : Type 0
   pub most : length (places_touching_of (replies_of confusion path circle) (made_of path circle) confusion) ≤ degree_left (made_of path circle) - 1
   pub questions : length (places_touching_of (replies_of confusion path circle) (made_of path circle) confusion) ≤ 3
   -- demand 1
-  pub roots : Within (degree_left (made_of path circle)) (list_of (pin_contact_of confusion path circle).roots)
-  pub array : Fits (pin_contact_of confusion path circle).roots
+  pub roots : Within (degree_left (made_of path circle)) (list_of (roots_in (pin_contact_of confusion path circle)))
+  pub array : Fits (roots_in (pin_contact_of confusion path circle))
   -- what is solved is the list of these coefficients, which are doubles whatever the record
-  pub solved : (pin_contact_of confusion path circle).number ≡ 0 → (solve_of (made_of path circle) confusion).number ≡ 0
+  pub solved : outcome_of (pin_contact_of confusion path circle) ≡ 0 → outcome_of (solve_of (made_of path circle) confusion) ≡ 0
   pub doubles : AllDoubles (made_of path circle)

@@ -1,14 +1,16 @@
 -- A pin contact from path and circle: request One of document 02. The coefficients, the replies, and the answer. Definitions only.
-use Rattle.std.specs.Prelude.{Bool, cond, List, [], ◌∷◌, ℕ, Float}
+use Rattle.std.specs.Prelude.{Bool, cond, List, [], ◌∷◌, Float, Result, Ok, Err}
 use Rattle.std.specs.Float.Ieee.{lt, le}
-use Rattle.refusals.specs.Refusals.{record_not_finite, no_radius, made_not_finite}
+use Rattle.refusals.specs.declared.Refusal.{Refusal}
+use Rattle.refusals.specs.declared.Refusal.TheVariants.{RecordNotFinite, NoRadius, MadeNotFinite}
+use Rattle.refusals.specs.Refusals.{and_then}
 use Rattle.float.specs.Literals.{zero64, two64}
 use Rattle.float.specs.Methods.{abs_of, all_finite_of}
 use Rattle.float.specs.Rounded.{◌+ᶠ◌, ◌-ᶠ◌, ◌*ᶠ◌}
 use Rattle.sqrt.specs.Root.{sqrt_of}
-use Rattle.roots.specs.Roots.{roots_of, no_roots}
-use Rattle.poly.specs.declared.Answer.{Answer}
-use Rattle.poly.specs.Coefficients.{refusal_of}
+use Rattle.roots.specs.declared.Roots.{Roots}
+use Rattle.roots.specs.Roots.{roots_of}
+use Rattle.poly.specs.Coefficients.{counted_of}
 use Rattle.inquiry.specs.Start.{real_roots_touching_of}
 use Rattle.contact.specs.declared.Path.{Path}
 use Rattle.contact.specs.declared.Circle.{Circle}
@@ -52,22 +54,18 @@ unfoldable pub touches_of : Float → Path → Float → Float → Bool
 touches_of confusion p r t = le (abs_of (distance_of p t -ᶠ r)) confusion
 
 -- 'The tolerance of the list is confusion': the Rust's list for these replies; 'then 2 as for a list'
-unfoldable pub listed_of : Float → Path → Float → List Float → Answer
-listed_of confusion p r coeffs = record { number = refusal_of coeffs; roots = roots_of (real_roots_touching_of (touches_of confusion p r) coeffs confusion) }
-
--- a refusal: its number, and no root
-abbrev pub refused_contact : ℕ → Answer
-refused_contact n = record { number = n; roots = no_roots }
+unfoldable pub listed_of : Float → Path → Float → List Float → Result Roots Refusal
+listed_of confusion p r coeffs = and_then (counted_of coeffs) (λ n. Ok (roots_of (real_roots_touching_of (touches_of confusion p r) coeffs confusion)))
 
 -- the coefficients made of a record
 abbrev pub made_of : Path → Circle → List Float
 made_of path circle = coefficients_of (seen_of path circle) circle.r
 
 -- '10, a number of the record is not finite; 11, R is not above 0; 12, a coefficient made is not finite; in that order'
-unfoldable pub pin_contact_of : Float → Path → Circle → Answer
+unfoldable pub pin_contact_of : Float → Path → Circle → Result Roots Refusal
 pin_contact_of confusion path circle =
     cond (all_finite_of (numbers_of confusion path circle))
     (cond (lt zero64 circle.r)
-    (cond (all_finite_of (made_of path circle)) (listed_of confusion (seen_of path circle) circle.r (made_of path circle)) (refused_contact made_not_finite))
-    (refused_contact no_radius))
-    (refused_contact record_not_finite)
+    (cond (all_finite_of (made_of path circle)) (listed_of confusion (seen_of path circle) circle.r (made_of path circle)) (Err MadeNotFinite))
+    (Err NoRadius))
+    (Err RecordNotFinite)

@@ -6,7 +6,12 @@ ghost use Rattle.std.specs.Prelude.{◌≡◌};
 ghost use Rattle.roots.specs.Roots.{list_of};
 ghost use Rattle.roots.specs.Listed.{Within};
 ghost use Rattle.poly.specs.Coefficients.{degree_left};
-ghost use Rattle.contact.specs.Contact.{seen_of, coefficients_of, distance_of, touches_of, listed_of, refused_contact, made_of, pin_contact_of};
+ghost use Rattle.contact.specs.Contact.{seen_of, coefficients_of, distance_of, touches_of, listed_of, made_of, pin_contact_of};
+ghost use Rattle.poly.specs.RealRoots.{roots_in};
+
+use inquiry::Asked;
+use refusals::Refusal;
+use roots::Roots;
 
 // The ball is at x0 + x1*t + x2*t^2 across, and likewise y along.
 #[derive(Clone, Copy)]
@@ -77,53 +82,43 @@ impl Path {
 }
 
 // At most three questions are asked, so the loop ends. Nothing looks at a logarithm, so a level list is solved without.
-fn listed(confusion: f64, p: Path, r: f64, coeffs: &[f64]) -> poly::Answer
+// (By replies, not by a closure into the walk: the walk is proved once, of replies at hand.)
+fn listed(confusion: f64, p: Path, r: f64, coeffs: &[f64]) -> Result<Roots, Refusal>
     ensures { result ≡ listed_of confusion p r coeffs.now }
 {
-    let s = poly::solve_brief(coeffs, confusion);
+    let s = poly::solve_brief(coeffs, confusion)?;
     let mut replies = touching::Replies {
         reply: [false; 4],
         count: 0,
     };
-    let mut shown = inquiry::asked_with(s, replies);
-    while shown.asking {
-        let yes = p.touches(confusion, r, shown.place);
-        replies = replies.with(yes);
-        shown = inquiry::asked_with(s, replies);
+    loop {
+        match inquiry::asked_with(s, replies) {
+            Asked::Question(t) => replies = replies.with(p.touches(confusion, r, t)),
+            Asked::Finished(roots) => return Ok(roots),
+        }
     }
-    let roots = shown.list;
-    poly::Answer {
-        number: s.number,
-        roots,
-    }
-}
-
-fn refused(number: u32) -> poly::Answer
-    ensures { result ≡ refused_contact number }
-{
-    let roots = roots::Roots::none();
-    poly::Answer { number, roots }
 }
 
 // 10, 11 and 12 are refused by the record, in this order; 2 by the list, as for any list.
 // Demand 1 holds of the answer: at most four finite roots, each counting at least once, together at most the degree left.
-pub fn pin_contact(confusion: f64, path: Path, circle: Circle) -> poly::Answer
-    ensures { (result ≡ pin_contact_of confusion path circle) × Within (degree_left (made_of path circle)) (list_of result.roots) }
+#[tactic(auto, using(crate::proofs::Theorem::holds), unfolding(crate::specs::Contact::pin_contact_of))]
+pub fn pin_contact(confusion: f64, path: Path, circle: Circle) -> Result<Roots, Refusal>
+    ensures { (result ≡ pin_contact_of confusion path circle) × Within (degree_left (made_of path circle)) (list_of (roots_in result)) }
 {
     let handed = [
         confusion, path.x0, path.x1, path.x2, path.y0, path.y1, path.y2, circle.cx, circle.cy,
         circle.r,
     ];
-    if float::all_finite(&handed) {
-        if circle.r > 0.0 {
-            let p = path.seen(circle);
-            let coeffs = p.coefficients(circle.r);
-            if float::all_finite(&coeffs) {
-                return listed(confusion, p, circle.r, &coeffs);
-            }
-            return refused(refusals::MADE_NOT_FINITE);
-        }
-        return refused(refusals::NO_RADIUS);
+    if !float::all_finite(&handed) {
+        return Err(Refusal::RecordNotFinite);
     }
-    refused(refusals::RECORD_NOT_FINITE)
+    if !(circle.r > 0.0) {
+        return Err(Refusal::NoRadius);
+    }
+    let p = path.seen(circle);
+    let coeffs = p.coefficients(circle.r);
+    if !float::all_finite(&coeffs) {
+        return Err(Refusal::MadeNotFinite);
+    }
+    listed(confusion, p, circle.r, &coeffs)
 }

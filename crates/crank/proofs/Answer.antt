@@ -1,55 +1,113 @@
--- The two ways out of `crank`: a list, every question replied no, or a refusal.
-use mathlib.Core.Path.{◌≡◌, sym, ap, ◌∙◌}
-use mathlib.Core.Bool.{false}
-use Prim.Native.Nat.{◌≤◌}
+-- The ways out of `crank`: the refusal of its start, or a list, every question replied no.
+use mathlib.Core.Path.{◌≡◌, refl, sym, ap, ◌∙◌}
+use mathlib.Core.Bool.{false, false≢true}
+use Prim.Native.Nat.{ℕ, ◌≤◌}
 use native.Mathlib.Omega.{arith}
-use borrow.Author.Tests.{eq-eqb, ne_eqb}
 use lib.Ieee.{Float}
-use Rattle.facts.specs.Cond.{if_taken, if_left}
+use Rattle.std.specs.Prelude.{Result, Ok, Err}
+use Rattle.refusals.specs.declared.Refusal.{Refusal}
+use Rattle.refusals.specs.Refusals.{number_of, outcome_of, value_or, and_then}
+use Rattle.refusals.proofs.Numbers.{number_bounds}
 use Rattle.roots.specs.declared.Roots.{Roots}
-use Rattle.roots.specs.Roots.{roots_of, no_roots}
+use Rattle.roots.specs.Roots.{roots_of}
 use Rattle.poly.specs.Coefficients.{degree_left}
 use Rattle.trig_quartic.specs.declared.TrigEquation.{TrigEquation}
-use Rattle.trig_quartic.specs.Crank.{sample_of}
+use Rattle.trig_quartic.specs.declared.Crank.{Crank}
+use Rattle.trig_quartic.specs.Crank.{sample_of, crank_front_of}
+use Rattle.touching.specs.declared.Replies.{Replies}
+use Rattle.inquiry.specs.declared.Inquiry.{Inquiry}
 use Rattle.inquiry.specs.declared.Asked.{Asked}
-use Rattle.inquiry.specs.Inquiry.{seen_of}
-use Rattle.inquiry.specs.Start.{start_of}
+use Rattle.inquiry.specs.declared.Asked.TheVariants.{Question, Finished}
+use Rattle.inquiry.specs.Inquiry.{list_in, is_question, seen_of}
+use Rattle.inquiry.specs.Start.{start_of, inquiry_in, given, shown_after_of}
 use Rattle.inquiry.proofs.Shown.{asked_seen}
 use Rattle.crank.specs.declared.CrankInquiry.{CrankInquiry}
-use Rattle.crank.specs.declared.CrankStarted.{CrankStarted}
 use Rattle.crank.specs.declared.CrankShown.{CrankShown}
 use Rattle.crank.specs.declared.CrankAnswer.{CrankAnswer}
-use Rattle.crank.specs.Crank.{trig_quartic_of, solve_trig_of, crank_start_of, crank_shown_of, crank_of}
+use Rattle.crank.specs.Crank.{trig_quartic_of, solve_trig_of, crank_start_of, crank_in, crank_shown_of, crank_of}
 use Rattle.crank.proofs.Front.{quartic_five, started}
 use Rattle.crank.proofs.Feeding.{four_no, all_no, no_listed}
 
+-- ---- what is shown
+module _ (confusion : Float) (rs : Replies) where
+  abbrev shown : CrankInquiry → CrankShown
+  shown c = record { k = c.k; seen = seen_of (given c.inquiry rs) }
+
+  list_shown : (k : ℕ) (r : Result Inquiry Refusal)
+      → and_then (and_then r (λ q. Ok (seen_of (given q rs)))) (λ seen. Ok (record { k = k; seen = seen }))
+      ≡ and_then (and_then r (λ q. Ok (record { k = k; inquiry = q }))) (λ c. Ok (shown c))
+  list_shown k (Ok q) = refl
+  list_shown k (Err refusal) = refl
+
+  front_shown : (f : Result Crank Refusal)
+      → and_then f (λ c. and_then (shown_after_of c.q confusion rs) (λ seen. Ok (record { k = c.k; seen = seen })))
+      ≡ and_then (and_then f (λ c. and_then (start_of c.q confusion) (λ q. Ok (record { k = c.k; inquiry = q })))) (λ c. Ok (shown c))
+  unfolding shown_after_of
+  front_shown (Ok c) = list_shown c.k (start_of c.q confusion)
+  front_shown (Err refusal) = refl
+
+  -- what `inquiry::shown_after` shows of the front's quartic, with its k
+  pub shown_is : (trig : TrigEquation)
+      → and_then (crank_front_of trig) (λ c. and_then (shown_after_of c.q confusion rs) (λ seen. Ok (record { k = c.k; seen = seen })))
+      ≡ crank_shown_of confusion trig rs
+  unfolding crank_shown_of crank_start_of
+  shown_is trig = front_shown (crank_front_of trig)
+
+-- ---- the answer
 module _ (confusion : Float) (trig : TrigEquation) where
+  abbrev start : Result CrankInquiry Refusal
+  start = crank_start_of confusion trig
+
   abbrev pub listed : CrankAnswer
-  listed = let solved = solve_trig_of (λ k u. false) confusion trig in record { number = 0; k = solved.0; roots = roots_of solved.1 }
+  listed = let solved = solve_trig_of (λ k u. false) confusion trig in record { k = solved.0; roots = roots_of solved.1 }
 
-  abbrev pub refused : CrankAnswer
-  refused = record { number = (crank_start_of confusion trig).number; k = 0; roots = no_roots }
+  -- the list where the start is not refused, and else its refusal
+  pub answer_by : (P : Result CrankAnswer Refusal → Type 0) → (outcome_of start ≡ 0 → P (Ok listed))
+      → ((refusal : Refusal) → start ≡ Err refusal → P (Err refusal)) → P (crank_of confusion trig)
+  unfolding crank_of
+  answer_by P f g = go start refl
+    where
+      go : (r : Result CrankInquiry Refusal) → start ≡ r → P (and_then r (λ c. Ok listed))
+      go (Ok c) e = f (ap outcome_of e)
+      go (Err refusal) e = g refusal e
 
-  module _ (s : CrankShown) (is-s : s ≡ crank_shown_of confusion trig four_no) where
-    abbrev start : CrankStarted
-    start = crank_start_of confusion trig
-
-    number_is : s.number ≡ start.number
+  -- the replies no, put in at once
+  module _ (s : CrankShown) (is-s : Ok s ≡ crank_shown_of confusion trig four_no) where
+    shown_no : (outcome_of start ≡ 0) × (s ≡ record { k = sample_of trig; seen = seen_of (all_no (inquiry_in (start_of (trig_quartic_of trig) confusion))) })
     unfolding crank_shown_of
-    number_is = ap (λ (t : CrankShown). t.number) is-s
+    shown_no = go start refl is-s
+      where
+        go : (r : Result CrankInquiry Refusal) → start ≡ r → Ok s ≡ and_then r (λ c. Ok (shown confusion four_no c)) → (outcome_of start ≡ 0)
+            × (s ≡ record { k = sample_of trig; seen = seen_of (all_no (inquiry_in (start_of (trig_quartic_of trig) confusion))) })
+        go (Ok c) e is =
+            let z : outcome_of start ≡ 0 = ap outcome_of e in (
+              z,
+              ap (λ (r : Result CrankShown Refusal). value_or s r) is ∙ ap (λ (r : Result CrankInquiry Refusal). shown confusion four_no (crank_in r)) (sym e ∙ started trig confusion z),
+            )
+        go (Err refusal) e is = absurd (let n : 0 ≡ number_of refusal = ap outcome_of is in omega (arith, n, number_bounds refusal))
 
-    pub answer_listed : s.number ≡ 0 → record { number = 0; k = s.k; roots = s.seen.asked.list } ≡ crank_of confusion trig
-    unfolding crank_of crank_shown_of
-    answer_listed z =
+    asked_no : s.seen.asked ≡ Finished (roots_of (solve_trig_of (λ k u. false) confusion trig).1)
+    asked_no =
         let q = trig_quartic_of trig in
-        let zero = sym number_is ∙ z in
         let four : degree_left q ≤ 4 = omega (arith, quartic_five trig) in
-        let asked = sym (asked_seen (all_no (start_of q confusion).inquiry)) ∙ no_listed q confusion four in
-        if_taken listed refused (eq-eqb start.number 0 zero)
-        (ap (λ (t : CrankShown). record { number = 0; k = t.k; roots = t.seen.asked.list }) is-s
-        ∙ ap (λ (c : CrankInquiry). record { number = 0; k = c.k; roots = (seen_of (all_no c.inquiry)).asked.list }) (started trig confusion zero)
-        ∙ ap (λ (a : Asked). record { number = 0; k = sample_of trig; roots = a.list }) asked)
+        ap (λ (t : CrankShown). t.seen.asked) shown_no.1 ∙ sym (asked_seen (all_no (inquiry_in (start_of q confusion)))) ∙ no_listed q confusion four
 
-    pub answer_refused : (r : Roots) → (s.number ≡ 0 → ⊥) → r ≡ no_roots → record { number = s.number; k = 0; roots = r } ≡ crank_of confusion trig
-    unfolding crank_of
-    answer_refused r some is-r = if_left listed refused (ne_eqb start.number 0 (λ z. some (number_is ∙ z))) (rw (number_is, is-r))
+    -- four replies no are enough
+    pub never_asks : (x : Float) → s.seen.asked ≡ Question x → ⊥
+    never_asks x e = false≢true (ap is_question (sym asked_no ∙ e))
+
+    pub answer_listed : (l : Roots) → s.seen.asked ≡ Finished l → Ok (record { k = s.k; roots = l }) ≡ crank_of confusion trig
+    answer_listed l e =
+        answer_by (λ a. Ok (record { k = s.k; roots = l }) ≡ a)
+        (λ z. ap (λ (k : ℕ). Ok (record { k = k; roots = l })) (ap (λ (t : CrankShown). t.k) shown_no.1)
+        ∙ ap (λ (a : Asked). Ok (record { k = sample_of trig; roots = list_in a })) (sym e ∙ asked_no))
+        (λ refusal e. absurd (let n : number_of refusal ≡ 0 = sym (ap outcome_of e) ∙ shown_no.0 in omega (arith, n, number_bounds refusal)))
+
+  pub answer_refused : (refusal : Refusal) {a : Result CrankAnswer Refusal} → Err refusal ≡ crank_shown_of confusion trig four_no → a ≡ Err refusal
+      → a ≡ crank_of confusion trig
+  unfolding crank_of crank_shown_of
+  answer_refused refusal is-s is = is ∙ go start is-s
+    where
+      go : (r : Result CrankInquiry Refusal) → Err refusal ≡ and_then r (λ c. Ok (shown confusion four_no c)) → Err refusal ≡ and_then r (λ c. Ok listed)
+      go (Ok c) e = absurd (let n : number_of refusal ≡ 0 = ap outcome_of e in omega (arith, n, number_bounds refusal))
+      go (Err other) e = ap (λ (r : Result CrankShown Refusal). and_then r (λ s. Ok listed)) e

@@ -7,7 +7,9 @@ use native.Mathlib.Omega.{arith}
 use lib.ListN.{length, replicate}
 use lib.Ieee.{Float}
 use Rattle.facts.specs.Cond.{if_taken}
-use Rattle.float.specs.Literals.{zero64}
+use Rattle.std.specs.Prelude.{Result, Ok, Err}
+use Rattle.refusals.specs.declared.Refusal.{Refusal}
+use Rattle.refusals.specs.Refusals.{value_or, and_then}
 use Rattle.roots.specs.declared.RealRoot.{RealRoot}
 use Rattle.roots.specs.Roots.{roots_of}
 use Rattle.poly.specs.Coefficients.{degree_left}
@@ -16,40 +18,39 @@ use Rattle.asking.proofs.Feeding.{always}
 use Rattle.touching.specs.declared.Replies.{Replies}
 use Rattle.inquiry.specs.declared.Inquiry.{Inquiry}
 use Rattle.inquiry.specs.declared.Asked.{Asked}
-use Rattle.inquiry.specs.declared.Replied.{Replied}
-use Rattle.inquiry.specs.Inquiry.{shown, nothing, asking, sound_of, asked_of}
-use Rattle.inquiry.specs.Start.{real_roots_touching, real_roots_touching_of, places_touching_of, start_of, given, fed}
+use Rattle.inquiry.specs.declared.Asked.TheVariants.{Finished}
+use Rattle.inquiry.specs.Inquiry.{shown, nothing, asking, sound_of, asked_of, place_of, replied_of}
+use Rattle.inquiry.specs.Start.{real_roots_touching, real_roots_touching_of, places_touching_of, start_of, inquiry_in, given, fed}
 use Rattle.inquiry.proofs.Sound.{sound_is, sound_holds}
 use Rattle.inquiry.proofs.Fresh.{start_sound, start_asks}
 use Rattle.inquiry.proofs.Theorem.{start_fed, start_most}
 use Rattle.crank.specs.declared.CrankInquiry.{CrankInquiry}
-use Rattle.crank.specs.declared.CrankAsked.{CrankAsked}
-use Rattle.crank.specs.declared.CrankReplied.{CrankReplied}
-use Rattle.crank.specs.Crank.{crank_asked_of, crank_replied_of, crank_fed}
+use Rattle.crank.specs.Crank.{crank_asked_of, crank_replied_of, crank_after, crank_fed}
 use Rattle.crank.specs.Claims.{CrankFed}
 
 -- ---- k beside an inquiry
 abbrev with : ℕ → Inquiry → CrankInquiry
 with k q = record { k = k; inquiry = q }
 
+after_is : (k : ℕ) (q : Inquiry) (r : Result Inquiry Refusal) → value_or (with k q) (and_then r (λ p. Ok (with k p))) ≡ with k (value_or q r)
+after_is k q (Ok p) = refl
+after_is k q (Err refusal) = refl
+
 fed_is : (touches : ℕ → Float → Bool) (n k : ℕ) (q : Inquiry) → crank_fed touches n (with k q) ≡ with k (fed (touches k) n q)
 unfolding crank_fed fed crank_asked_of crank_replied_of
 fed_is touches zero k q = refl
-fed_is touches (suc n) k q = ap (λ (p : CrankInquiry). (crank_replied_of p (touches (crank_asked_of p).k (crank_asked_of p).place)).crank) (fed_is touches n k q)
+fed_is touches (suc n) k q =
+    let p = fed (touches k) n q in
+    ap (λ (c : CrankInquiry). let a = crank_asked_of c in crank_after c (touches a.k (place_of a.asked))) (fed_is touches n k q)
+    ∙ after_is k p (replied_of p (touches k (place_of (asked_of p))))
 
 module _ (touches : ℕ → Float → Bool) (k : ℕ) (coeffs : List Float) (tol : Float) where
   abbrev q : Inquiry
-  q = (start_of coeffs tol).inquiry
+  q = inquiry_in (start_of coeffs tol)
 
-  abbrev asked : Asked → CrankAsked
-  asked a = record { asking = a.asking; k = k; place = a.place; list = a.list }
-
-  abbrev replied : Replied → CrankReplied
-  replied r = record { number = r.number; crank = with k r.inquiry }
-
-  asked_is : (n : ℕ) {a : Asked} → asked_of (fed (touches k) n q) ≡ a → crank_asked_of (crank_fed touches n (with k q)) ≡ asked a
+  asked_is : (n : ℕ) {a : Asked} → asked_of (fed (touches k) n q) ≡ a → crank_asked_of (crank_fed touches n (with k q)) ≡ record { k = k; asked = a }
   unfolding crank_asked_of
-  asked_is n e = ap crank_asked_of (fed_is touches n k q) ∙ ap asked e
+  asked_is n e = ap crank_asked_of (fed_is touches n k q) ∙ ap (λ (a : Asked). record { k = k; asked = a }) e
 
   pub fed_so : CrankFed touches (with k q) (places_touching_of (touches k) coeffs tol) (real_roots_touching_of (touches k) coeffs tol)
   unfolding crank_replied_of
@@ -61,9 +62,9 @@ module _ (touches : ℕ → Float → Bool) (k : ℕ) (coeffs : List Float) (tol
         finished = asked_is n f.finished;
         over =
             λ r.
-            ap (λ (p : CrankInquiry). crank_replied_of p r) (fed_is touches n k q)
-            ∙ ap replied (f.over r)
-            ∙ ap (λ (p : CrankInquiry). record { number = 4; crank = p }) (sym (fed_is touches n k q));
+            let refused = ap (λ (c : CrankInquiry). crank_replied_of c r) (fed_is touches n k q)
+            ∙ ap (λ (p : Result Inquiry Refusal). and_then p (λ i. Ok (with k i))) (f.over r).0 in
+            (refused, ap (value_or (crank_fed touches n (with k q))) refused);
       }
 
 -- ---- every question replied no
@@ -79,12 +80,12 @@ no_sound q h =
     sound_holds (all_no q) (record { degree = s.degree; replies = omega arith; roots = s.roots; pairs = s.pairs; counted = s.counted; total = s.total })
 
 pub no_listed : (coeffs : List Float) (tol : Float) → degree_left coeffs ≤ 4
-    → asked_of (all_no (start_of coeffs tol).inquiry) ≡ record { asking = false; place = zero64; list = roots_of (real_roots_touching_of (λ x. false) coeffs tol) }
+    → asked_of (all_no (inquiry_in (start_of coeffs tol))) ≡ Finished (roots_of (real_roots_touching_of (λ x. false) coeffs tol))
 unfolding asked_of shown
 no_listed coeffs tol h =
     let t = real_roots_touching coeffs tol in
     let few : length (places_asked (λ x. false) t) ≤ 4 = omega (arith, start_most (λ x. false) coeffs tol, h) in
-    sym (if_taken (shown (walked (replicate 4 false) (asking (start_of coeffs tol).inquiry))) nothing
-    (no_sound (start_of coeffs tol).inquiry (start_sound coeffs tol)) refl)
+    sym (if_taken (shown (walked (replicate 4 false) (asking (inquiry_in (start_of coeffs tol))))) nothing
+    (no_sound (inquiry_in (start_of coeffs tol)) (start_sound coeffs tol)) refl)
     ∙ ap (λ (u : Asking (List RealRoot)). shown (walked (replicate 4 false) u)) (start_asks coeffs tol)
     ∙ ap shown (always false 4 t few).1

@@ -1,4 +1,4 @@
--- What an equation starts, by whether its numbers and its quartic are finite: the number, k, and what is asked.
+-- What an equation starts, by whether its numbers and its quartic are finite: its refusal, k, and what is asked.
 use mathlib.Core.Path.{◌≡◌, refl, sym, ap, ◌∙◌, subst}
 use mathlib.Core.Logic.{◌⊎◌, inl, inr}
 use mathlib.Core.Bool.{Bool, true, false, cond}
@@ -6,38 +6,39 @@ use mathlib.Core.List.{List, []}
 use Prim.Native.Nat.{ℕ, zero, suc, ◌+◌, ◌-◌, ◌≤◌, ◌<◌}
 use native.Mathlib.Omega.{arith}
 use borrow.Author.Tests.{leb-true, leb-false, le-leb, lt-leb, ne_eqb}
-use lib.Dec.{eqb, leb}
-use lib.ListN.{replicate}
-use lib.Ieee.{Float, eq, of_bits}
+use lib.Dec.{leb}
+use lib.Ieee.{Float}
+use Rattle.std.specs.Prelude.{Result, Ok, Err}
 use Rattle.facts.specs.Cond.{either_way}
 use Rattle.facts.specs.Count.{count_up}
-use Rattle.float.specs.Literals.{zero64}
-use Rattle.float.specs.Methods.{abs_of, is_finite_of, all_finite_of, total_le_of}
-use Rattle.poly.specs.Coefficients.{trimmed_from, trimmed_of, refusal_by, refusal_of}
-use Rattle.poly.specs.Conditions.{Exactly}
-use Rattle.poly.proofs.Coefficients.{trimmed_most}
-use Rattle.asking.specs.Asking.{done}
-use Rattle.std.specs.Prelude.{Result, Ok, Err}
 use Rattle.refusals.specs.declared.Refusal.{Refusal}
-use Rattle.refusals.specs.declared.Refusal.TheVariants.{NotFinite, AnswerNotFinite}
+use Rattle.refusals.specs.declared.Refusal.TheVariants.{NotFinite, TooFew, AnswerNotFinite}
+use Rattle.refusals.specs.Refusals.{number_of, outcome_of, and_then}
+use Rattle.refusals.proofs.Numbers.{number_bounds}
+use Rattle.float.specs.Methods.{abs_of, all_finite_of, total_le_of}
+use Rattle.poly.specs.Coefficients.{trimmed_of, counted_by, refusal_of}
+use Rattle.poly.specs.Conditions.{Exactly}
+use Rattle.poly.specs.Solve.{no_solved}
+use Rattle.poly.proofs.Coefficients.{trimmed_most}
+use Rattle.poly.proofs.Refusals.{then_number}
+use Rattle.asking.specs.Asking.{done}
 use Rattle.trig_quartic.specs.declared.TrigEquation.{TrigEquation}
 use Rattle.trig_quartic.specs.declared.Crank.{Crank}
 use Rattle.trig_quartic.specs.Crank.{f_at_of, sampled_of, numbers_of, sample_of, quartic_of, crank_front_of}
-use Rattle.inquiry.specs.Start.{real_roots_touching, start_of}
-use Rattle.inquiry.proofs.Fresh.{start_number}
-use Rattle.crank.specs.Crank.{trig_quartic_of, front_in, number_in, crank_start_of}
+use Rattle.inquiry.specs.declared.Inquiry.{Inquiry}
+use Rattle.inquiry.specs.Inquiry.{asking}
+use Rattle.inquiry.specs.Start.{real_roots_touching, fresh_by, start_of, inquiry_in}
+use Rattle.inquiry.proofs.Fresh.{start_number, start_asks}
+use Rattle.inquiry.proofs.Loop.{refused_asks}
+use Rattle.crank.specs.declared.CrankInquiry.{CrankInquiry}
+use Rattle.crank.specs.Crank.{trig_quartic_of, crank_start_of, crank_in}
 use Rattle.crank.specs.Claims.{Numbers}
 use Rattle.crank.proofs.Finite.{numbers_finite}
 
--- a refused list asks nothing
-refused_asks : (coeffs : List Float) (tol : Float) → eqb (refusal_of coeffs) 0 ≡ false → real_roots_touching coeffs tol ≡ done []
-unfolding real_roots_touching
-refused_asks coeffs tol h = rw h
-
--- the quartic of a refused front, zeros, is refused as a list
-zeros_refused : eqb (refusal_of (replicate 5 zero64)) 0 ≡ false
-unfolding refusal_by is_finite_of trimmed_of trimmed_from eq of_bits
-zeros_refused = refl
+-- a start that is refused is about nothing
+about_nothing : (r : Result Inquiry Refusal) → (outcome_of r ≡ 0 → ⊥) → fresh_by no_solved ≡ inquiry_in r
+about_nothing (Ok inquiry) h = absurd (h refl)
+about_nothing (Err refusal) h = refl
 
 module _ (trig : TrigEquation) where
   abbrev numbers : List Float
@@ -87,53 +88,99 @@ module _ (trig : TrigEquation) where
       go true h = f (numbers_finite trig (sample_of trig) h) h
       go false h = g h (unmade h)
 
-  pub front_below : (front_in front).k < 8
-  front_below = by_quartic (λ h g. rw (made h g) sample_below) (λ h is. rw is (omega arith))
-
   pub quartic_five : trimmed_of q ≤ 5
   unfolding trimmed_of quartic_of
   quartic_five = trimmed_most q 5
 
-  -- ---- what is asked
   -- a quartic that is not finite is refused as a list
-  quartic_refused : all_finite_of q ≡ false → eqb (refusal_of q) 0 ≡ false
-  unfolding refusal_by
-  quartic_refused h = rw h
+  quartic_refused : all_finite_of q ≡ false → refusal_of q ≡ 1
+  unfolding counted_by
+  quartic_refused h = rw h refl
 
   module _ (confusion : Float) where
+    abbrev start : Result CrankInquiry Refusal
+    start = crank_start_of confusion trig
+
     abbrev number : ℕ
-    number = (crank_start_of confusion trig).number
+    number = outcome_of start
 
-    -- the front's quartic asks what the Rust's asks
-    pub same_asking : real_roots_touching (front_in front).q confusion ≡ real_roots_touching q confusion
-    same_asking =
-        by_quartic (λ h g. ap (λ (f : Result Crank Refusal). real_roots_touching (front_in f).q confusion) (made h g))
-        (λ h is. ap (λ (f : Result Crank Refusal). real_roots_touching (front_in f).q confusion) is ∙ refused_asks (replicate 5 zero64) confusion zeros_refused
-        ∙ sym (refused_asks q confusion (quartic_refused h)))
+    -- ---- the start
+    abbrev by_front : Result Crank Refusal → Result CrankInquiry Refusal
+    by_front f = and_then f (λ c. and_then (start_of c.q confusion) (λ inquiry. Ok (record { k = c.k; inquiry = inquiry })))
 
-    -- its k is the Rust's, or nothing is asked
-    pub same_k : ((front_in front).k ≡ sample_of trig) ⊎ (real_roots_touching q confusion ≡ done [])
-    same_k = by_quartic (λ h g. inl (ap (λ (f : Result Crank Refusal). (front_in f).k) (made h g))) (λ h is. inr (refused_asks q confusion (quartic_refused h)))
+    -- k, and what the list starts
+    abbrev begun : Result Inquiry Refusal → Result CrankInquiry Refusal
+    begun r = and_then r (λ inquiry. Ok (record { k = sample_of trig; inquiry = inquiry }))
+
+    start_made : all_finite_of numbers ≡ true → all_finite_of q ≡ true → start ≡ begun (start_of q confusion)
+    unfolding crank_start_of
+    start_made h g = ap by_front (made h g)
+
+    start_by : {A : Type 0} → (all_finite_of numbers ≡ true → all_finite_of q ≡ true → start ≡ begun (start_of q confusion) → A)
+        → (all_finite_of q ≡ false → start ≡ by_front (refused (all_finite_of numbers)) → A) → A
+    unfolding crank_start_of
+    start_by f g = by_quartic (λ h i. f h i (start_made h i)) (λ h is. g h (ap by_front is))
+
+    begun_below : (r : Result Inquiry Refusal) → (crank_in (begun r)).k < 8
+    begun_below (Ok inquiry) = sample_below
+    begun_below (Err refusal) = omega arith
+
+    pub front_below : (crank_in start).k < 8
+    front_below = start_by (λ h g e. rw e (begun_below (start_of q confusion))) (λ h e. rw e (omega arith))
+
+    -- ---- what is asked
+    begun_about : (r : Result Inquiry Refusal) → (crank_in (begun r)).inquiry ≡ inquiry_in r
+    begun_about (Ok inquiry) = refl
+    begun_about (Err refusal) = refl
+
+    -- the inquiry is the quartic's, of a refused start too
+    pub same_inquiry : (crank_in start).inquiry ≡ inquiry_in (start_of q confusion)
+    same_inquiry =
+        let about = λ (r : Result CrankInquiry Refusal). (crank_in r).inquiry in
+        start_by (λ h g e. ap about e ∙ begun_about (start_of q confusion))
+        (λ h e. ap about e ∙ about_nothing (start_of q confusion) (λ z. omega (arith, z, start_number q confusion, quartic_refused h)))
+
+    pub same_asking : asking (crank_in start).inquiry ≡ real_roots_touching q confusion
+    same_asking = ap asking same_inquiry ∙ start_asks q confusion
+
+    refused_list : 0 < refusal_of q → real_roots_touching q confusion ≡ done []
+    refused_list h = refused_asks q confusion (ne_eqb (refusal_of q) 0 (λ z. omega (arith, h, z)))
+
+    -- k is the Rust's, or nothing is asked
+    pub same_k : ((crank_in start).k ≡ sample_of trig) ⊎ (real_roots_touching q confusion ≡ done [])
+    same_k = start_by (λ h g e. go e (start_of q confusion) refl) (λ h e. inr (refused_list (omega (arith, quartic_refused h))))
+      where
+        go : start ≡ begun (start_of q confusion) → (r : Result Inquiry Refusal) → start_of q confusion ≡ r
+            → ((crank_in start).k ≡ sample_of trig) ⊎ (real_roots_touching q confusion ≡ done [])
+        go e (Ok inquiry) is = inl (ap (λ (r : Result CrankInquiry Refusal). (crank_in r).k) (e ∙ ap begun is))
+        go e (Err refusal) is =
+            let n : number_of refusal ≡ refusal_of q = ap outcome_of (sym is) ∙ start_number q confusion in
+            inr (refused_list (omega (arith, n, number_bounds refusal)))
 
     -- ---- the number
+    abbrev counted : Bool → Result ℕ Refusal
+    counted few = cond few (Err TooFew) (Ok (trimmed_of q))
+
     listed_number : all_finite_of q ≡ true → refusal_of q ≡ cond (leb (trimmed_of q) 1) 2 0
-    unfolding refusal_by
-    listed_number g = rw (g, le-leb (trimmed_of q) 5 quartic_five)
+    unfolding counted_by
+    listed_number g = rw (g, le-leb (trimmed_of q) 5 quartic_five) (few (leb (trimmed_of q) 1))
+      where
+        few : (b : Bool) → outcome_of (counted b) ≡ cond b 2 0
+        few true = refl
+        few false = refl
+
+    begun_number : start ≡ begun (start_of q confusion) → number ≡ refusal_of q
+    begun_number e =
+        ap outcome_of e ∙ then_number (λ inquiry. record { k = sample_of trig; inquiry = inquiry }) (start_of q confusion) ∙ start_number q confusion
 
     abbrev number_by : Bool → Bool → Bool → ℕ
     number_by a b c = cond a (cond b (cond c 2 0) 5) 1
 
-    -- by the front alone
-    abbrev by_front : Result Crank Refusal → ℕ
-    by_front f = number_in f (start_of (front_in f).q confusion).number
-
     number_is : number ≡ number_by (all_finite_of numbers) (all_finite_of q) (leb (trimmed_of q) 1)
-    unfolding crank_start_of
     number_is =
-        by_quartic (λ h g. ap by_front (made h g) ∙ start_number q confusion ∙ listed_number g ∙ rw (h, g))
-        (λ g is. ap by_front is ∙ said (all_finite_of numbers) ∙ rw g)
+        start_by (λ h g e. begun_number e ∙ listed_number g ∙ rw (h, g)) (λ g e. ap outcome_of e ∙ said (all_finite_of numbers) ∙ rw g)
       where
-        said : (a : Bool) → by_front (refused a) ≡ cond a 5 1
+        said : (a : Bool) → outcome_of (by_front (refused a)) ≡ cond a 5 1
         said true = refl
         said false = refl
 
@@ -166,16 +213,17 @@ module _ (trig : TrigEquation) where
         }
 
     -- ---- what is started
-    pub started : number ≡ 0 → (crank_start_of confusion trig).crank ≡ record { k = sample_of trig; inquiry = (start_of q confusion).inquiry }
-    unfolding crank_start_of
+    begun_is : (r : Result Inquiry Refusal) → outcome_of (begun r) ≡ 0 → begun r ≡ Ok (record { k = sample_of trig; inquiry = inquiry_in r })
+    begun_is (Ok inquiry) z = refl
+    begun_is (Err refusal) z = absurd (omega (arith, z, number_bounds refusal))
+
+    pub started : number ≡ 0 → start ≡ Ok (record { k = sample_of trig; inquiry = inquiry_in (start_of q confusion) })
     started z =
         let s = start_numbers.zero.only_there z in
-        ap (λ (f : Result Crank Refusal). record { k = (front_in f).k; inquiry = (start_of (front_in f).q confusion).inquiry }) (made s.0 s.1)
+        let e = start_made s.0 s.1 in
+        e ∙ begun_is (start_of q confusion) (ap outcome_of (sym e) ∙ z)
 
     -- nothing is asked where anything is refused
     pub refused_nothing : 0 < number → real_roots_touching q confusion ≡ done []
-    unfolding crank_start_of
     refused_nothing h =
-        by_quartic
-        (λ n g. refused_asks q confusion (ne_eqb (refusal_of q) 0 (λ z. absurd (omega (arith, h, z, ap by_front (made n g) ∙ start_number q confusion)))))
-        (λ g is. refused_asks q confusion (quartic_refused g))
+        start_by (λ n g e. refused_list (omega (arith, h, begun_number e))) (λ g e. refused_list (omega (arith, quartic_refused g)))

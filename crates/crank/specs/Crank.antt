@@ -1,20 +1,18 @@
 -- `solve_trig` of equation.rs up to its list of r, `touches` an argument; the inquiry that starts it; and an inquiry that is fed. Definitions only.
-use Rattle.std.specs.Prelude.{Bool, false, cond, List, ℕ, zero, suc, eqb, replicate, Float, Result, Ok, Err}
+use Rattle.std.specs.Prelude.{Bool, false, List, ℕ, zero, suc, Float, Result, Ok}
 use Rattle.refusals.specs.declared.Refusal.{Refusal}
-use Rattle.refusals.specs.Refusals.{number_of}
-use Rattle.float.specs.Literals.{zero64}
+use Rattle.refusals.specs.Refusals.{value_or, and_then}
 use Rattle.roots.specs.declared.RealRoot.{RealRoot}
+use Rattle.roots.specs.declared.Roots.{Roots}
 use Rattle.roots.specs.Roots.{roots_of, no_roots}
 use Rattle.trig_quartic.specs.declared.TrigEquation.{TrigEquation}
-use Rattle.trig_quartic.specs.declared.Crank.{Crank}
 use Rattle.trig_quartic.specs.Crank.{sample_of, quartic_of, crank_front_of}
 use Rattle.touching.specs.declared.Replies.{Replies}
-use Rattle.inquiry.specs.Inquiry.{asked_of, seen_of, replied_of}
-use Rattle.inquiry.specs.Start.{real_roots_touching_of, places_touching_of, start_of, given}
+use Rattle.poly.specs.Solve.{no_solved}
+use Rattle.inquiry.specs.Inquiry.{asked_of, place_of, seen_of, replied_of}
+use Rattle.inquiry.specs.Start.{real_roots_touching_of, places_touching_of, fresh_by, start_of, given}
 use Rattle.crank.specs.declared.CrankInquiry.{CrankInquiry}
-use Rattle.crank.specs.declared.CrankStarted.{CrankStarted}
 use Rattle.crank.specs.declared.CrankAsked.{CrankAsked}
-use Rattle.crank.specs.declared.CrankReplied.{CrankReplied}
 use Rattle.crank.specs.declared.CrankShown.{CrankShown}
 use Rattle.crank.specs.declared.CrankAnswer.{CrankAnswer}
 
@@ -34,36 +32,30 @@ module _ (touches : ℕ → Float → Bool) (confusion : Float) (trig : TrigEqua
   places_trig_of = places_touching_of (touches (sample_of trig)) (trig_quartic_of trig) confusion
 
 -- ---- the inquiry: that about the quartic in u, and k
--- k and the quartic; of a refused equation 0 and zeros, about which nothing is asked
-abbrev pub front_in : Result Crank Refusal → Crank
-front_in (Ok front) = front
-front_in (Err refusal) = record { k = 0; q = replicate 5 zero64 }
-
--- the number of the refused equation, or the list's
-abbrev pub number_in : Result Crank Refusal → ℕ → ℕ
-number_in (Ok front) list = list
-number_in (Err refusal) list = number_of refusal
-
 -- 'Crank start: 1, one of the five not finite; 5, a quartic coefficient not finite; 2, trimmed length 0 or 1'
-unfoldable pub crank_start_of : Float → TrigEquation → CrankStarted
+unfoldable pub crank_start_of : Float → TrigEquation → Result CrankInquiry Refusal
 crank_start_of confusion trig =
-    let front = crank_front_of trig in
-    let s = start_of (front_in front).q confusion in
-    record { number = number_in front s.number; crank = record { k = (front_in front).k; inquiry = s.inquiry } }
+    and_then (crank_front_of trig) (λ front. and_then (start_of front.q confusion) (λ inquiry. Ok (record { k = front.k; inquiry = inquiry })))
+
+-- what theorems say of a start that is refused too: that its inquiry is about nothing
+abbrev pub crank_in : Result CrankInquiry Refusal → CrankInquiry
+crank_in start = value_or (record { k = 0; inquiry = fresh_by no_solved }) start
 
 -- the crank's own `ask`: what is asked, with k
 unfoldable pub crank_asked_of : CrankInquiry → CrankAsked
-crank_asked_of c = let a = asked_of c.inquiry in record { asking = a.asking; k = c.k; place = a.place; list = a.list }
+crank_asked_of c = record { k = c.k; asked = asked_of c.inquiry }
 
 -- the crank's own `reply`
-unfoldable pub crank_replied_of : CrankInquiry → Bool → CrankReplied
-crank_replied_of c reply = let r = replied_of c.inquiry reply in record { number = r.number; crank = record { k = c.k; inquiry = r.inquiry } }
+unfoldable pub crank_replied_of : CrankInquiry → Bool → Result CrankInquiry Refusal
+crank_replied_of c reply = and_then (replied_of c.inquiry reply) (λ inquiry. Ok (record { k = c.k; inquiry = inquiry }))
+
+-- the inquiry after a reply: unaltered where it is refused
+abbrev pub crank_after : CrankInquiry → Bool → CrankInquiry
+crank_after c reply = value_or c (crank_replied_of c reply)
 
 -- `start`, and `see` with these replies put in at once
-unfoldable pub crank_shown_of : Float → TrigEquation → Replies → CrankShown
-crank_shown_of confusion trig rs =
-    let s = crank_start_of confusion trig in
-    record { number = s.number; k = s.crank.k; seen = seen_of (given s.crank.inquiry rs) }
+unfoldable pub crank_shown_of : Float → TrigEquation → Replies → Result CrankShown Refusal
+crank_shown_of confusion trig rs = and_then (crank_start_of confusion trig) (λ c. Ok (record { k = c.k; seen = seen_of (given c.inquiry rs) }))
 
 -- n questions, each given the reply of touches
 unfoldable pub crank_fed : (ℕ → Float → Bool) → ℕ → CrankInquiry → CrankInquiry
@@ -71,11 +63,14 @@ crank_fed touches zero c = c
 crank_fed touches (suc n) c =
     let p = crank_fed touches n c in
     let a = crank_asked_of p in
-    (crank_replied_of p (touches a.k a.place)).crank
+    crank_after p (touches a.k (place_of a.asked))
 
 -- ---- TG of the hall file: 'every question replied no'
-unfoldable pub crank_of : Float → TrigEquation → CrankAnswer
+unfoldable pub crank_of : Float → TrigEquation → Result CrankAnswer Refusal
 crank_of confusion trig =
-    let number = (crank_start_of confusion trig).number in
     let solved = solve_trig_of (λ k u. false) confusion trig in
-    cond (eqb number 0) (record { number = 0; k = solved.0; roots = roots_of solved.1 }) (record { number = number; k = 0; roots = no_roots })
+    and_then (crank_start_of confusion trig) (λ c. Ok (record { k = solved.0; roots = roots_of solved.1 }))
+
+-- the roots of an answer; of a refusal none
+abbrev pub crank_roots_in : Result CrankAnswer Refusal → Roots
+crank_roots_in answer = (value_or (record { k = 0; roots = no_roots }) answer).roots

@@ -7,10 +7,12 @@ use Prim.Native.Nat.{ℕ}
 use Rattle.std.specs.Bool.{then_some}
 use Rattle.std.specs.Prelude.{Some, None}
 use lib.Ieee.{Float, binary64, sub, div}
+use Rattle.facts.specs.Turns.{turns_stop, turns_go, turns_end}
 use Rattle.horner.specs.Taylor.{derivs12_of}
 use Rattle.horner.specs.declared.Derivs.{Derivs}
 use Rattle.refine.specs.Newton.{flat_of, no_gain_of}
-use Rattle.critical.specs.Critical.{is_between_of, critical_next}
+use Rattle.band.specs.Band.{noise_of, band_of}
+use Rattle.critical.specs.Critical.{is_between_of, critical_next, critical_point_of, extremum_of}
 
 module _ (f : List Float) (d : ℕ) (lo hi y : Float) {v : Derivs} (here : v ≡ derivs12_of f d y) where
   pub critical_flat : flat_of v.d1 v.d2 ≡ true → critical_next f d lo hi y ≡ none
@@ -37,3 +39,10 @@ module _ (f : List Float) (d : ℕ) (lo hi y : Float) {v : Derivs} (here : v ≡
 pub some_where : {A : Type 0} (b : Bool) (x : A) → then_some b x ≡ cond b (Some x) None
 some_where true x = refl
 some_where false x = refl
+
+-- What the functions' proofs rest on: the laws, and the definitions.
+pub ruleset laws = (turns_stop, turns_go, turns_end, critical_flat, critical_outside, critical_held, critical_moved, some_where)
+
+unfoldable pub definitions : ℕ
+unfolding noise_of band_of is_between_of critical_point_of extremum_of
+definitions = 0

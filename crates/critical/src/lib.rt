@@ -1,6 +1,6 @@
 // Where the slope of a scaled polynomial is zero: `critical_point` and `extremum` of poly.rs, and the place of a double root.
 // It rests on `horner`, `refine`, `scaled` and `band`; `push` and `touching` rest on it.
-#![tactic(auto)]
+#![tactic(auto, using(crate::proofs::Laws::laws), unfolding(crate::proofs::Laws::definitions))]
 
 ghost use Rattle.std.specs.Prelude.{◌≡◌, ◌≤◌};
 ghost use Rattle.facts.specs.Turns.{turns_of};
@@ -9,7 +9,6 @@ ghost use Rattle.critical.specs.Critical.{is_between_of, critical_next, critical
 
 use horner::Polynomial;
 
-#[tactic(auto, unfolding(crate::specs::Critical::is_between_of))]
 fn is_between(lo: f64, x: f64, hi: f64) -> bool
     ensures { result ≡ is_between_of lo x hi }
 {
@@ -29,7 +28,7 @@ fn critical(p: Polynomial, y0: f64, lo: f64, hi: f64) -> f64
 {
     let mut y = y0;
     let mut at = p.derivs12(y0);
-    for k in 0..4usize {
+    for _ in 0..4u32 {
         if refine::flat(at.d1, at.d2) {
             return y;
         }

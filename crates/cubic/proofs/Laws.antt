@@ -41,7 +41,35 @@ module _ (roots : List Float) (i0 i1 i2 : Float) (e0 : i0 ≡ isolation_among (g
   after_two t h = simp (rw (f0, f1) at h)
 
   -- the second takes the place of the first where t, and the third the place of the better of them where u
-  pub of_three : (t u : Bool) → total_le_of i0 i1 ≡ t → total_le_of (cond t i1 i0) i2 ≡ u → get_or roots (cond u 2 (cond t 1 0)) nan ≡ most_isolated_of roots 3
+  of_three : (t u : Bool) → total_le_of i0 i1 ≡ t → total_le_of (cond t i1 i0) i2 ≡ u → get_or roots (cond u 2 (cond t 1 0)) nan ≡ most_isolated_of roots 3
   unfolding better_of
   of_three true u h k = sym (after_two true h ∙ simp (rw (f1, f2) at k))
   of_three false u h k = sym (after_two false h ∙ simp (rw (f0, f2) at k))
+
+-- by what the two tests find
+module _ (roots : List Float) where
+  abbrev i0 : Float
+  i0 = isolation_among (get_or roots 0 nan) (get_or roots 1 nan) (get_or roots 2 nan)
+
+  abbrev i1 : Float
+  i1 = isolation_among (get_or roots 1 nan) (get_or roots 0 nan) (get_or roots 2 nan)
+
+  abbrev i2 : Float
+  i2 = isolation_among (get_or roots 2 nan) (get_or roots 0 nan) (get_or roots 1 nan)
+
+  by_tests : (t u : Bool) → total_le_of i0 i1 ≡ t → total_le_of (cond t i1 i0) i2 ≡ u → most_isolated_of roots 3 ≡ get_or roots (cond u 2 (cond t 1 0)) nan
+  by_tests t u h k = sym (of_three roots i0 i1 i2 refl refl refl t u h k)
+
+  pub third_after_second : total_le_of i0 i1 ≡ true → total_le_of i1 i2 ≡ true → most_isolated_of roots 3 ≡ get_or roots 2 nan
+  third_after_second h k = by_tests true true h k
+
+  pub second_stays : total_le_of i0 i1 ≡ true → total_le_of i1 i2 ≡ false → most_isolated_of roots 3 ≡ get_or roots 1 nan
+  second_stays h k = by_tests true false h k
+
+  pub third_after_first : total_le_of i0 i1 ≡ false → total_le_of i0 i2 ≡ true → most_isolated_of roots 3 ≡ get_or roots 2 nan
+  third_after_first h k = by_tests false true h k
+
+  pub first_stays : total_le_of i0 i1 ≡ false → total_le_of i0 i2 ≡ false → most_isolated_of roots 3 ≡ get_or roots 0 nan
+  first_stays h k = by_tests false false h k
+
+pub ruleset most_isolated = (only_root, third_after_second, second_stays, third_after_first, first_stays)

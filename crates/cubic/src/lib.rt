@@ -42,6 +42,7 @@ fn one_root(shift: f64, p: f64, q: f64, disc: f64) -> CubicRoots
 const HALF_ROOT_THREE: f64 = 0.8660254037844386;
 
 // cos(theta -+ 2pi/3) = -cos/2 +- sin*sqrt(3)/2.
+#[tactic(auto, using(crate::proofs::Laws::half_root_three), unfolding(crate::specs::Cubic::three_roots_of))]
 fn three_roots(shift: f64, p: f64, q: f64) -> CubicRoots
     ensures { result ≡ three_roots_of shift p q }
 {
@@ -57,6 +58,7 @@ fn three_roots(shift: f64, p: f64, q: f64) -> CubicRoots
     ])
 }
 
+// (The coefficients one by one, here and in cubic_factor, as in poly.rs and as C hands them in.)
 #[tactic(auto, unfolding(crate::specs::Cubic::cubic_closed_form_of, crate::specs::Cubic::depressed_roots_of))]
 pub fn cubic_closed_form(b: f64, c: f64, d: f64) -> CubicRoots
     ensures { result ≡ cubic_closed_form_of b c d }
@@ -89,12 +91,14 @@ fn isolation(a: f64, b: f64, c: f64) -> f64
 }
 
 // The last of equally isolated roots.
+#[tactic(auto, using(crate::proofs::Laws::most_isolated))]
 fn most_isolated(roots: CubicRoots) -> f64
     ensures { result ≡ most_isolated_of (places_of roots) (count_of roots) }
 {
     match roots {
         CubicRoots::One(r) => r,
         CubicRoots::Three(roots) => {
+            // The three are written out: of each root the two others are named, and std's max_by takes no total_le, which orders NaNs.
             let [a, b, c] = roots;
             let i0 = isolation(a, b, c);
             let i1 = isolation(b, a, c);

@@ -8,19 +8,18 @@ use native.Mathlib.Nat.{mul-one, zero-mul, mul-pos, zero-div, zero-lt-suc, lt_of
 use lib.Dec.{T, eqb, ltb, eqb→eq, ltb→lt}
 use borrow.Author.Tests.{lt-ltb, not-true}
 use lib.Pow.{pow_pos}
-use lib.IntN.{ℤ, pos}
+use lib.IntN.{ℤ}
 use lib.Ieee.{Float, fin, nan, inf, binary64, up, down, eq, ne, lt, fits, is_nan, level, of_bits}
 use lib.Ieee.Fits.{up_pos, and_l}
-use lib.Ieee.Compare.{differs_from_itself}
 use Rattle.float.specs.Literals.{zero64}
 use Rattle.float.specs.Methods.{is_finite_of}
 use Rattle.float.specs.Units.{Finite, units_of}
-use Rattle.float.proofs.Bits.{of_true}
+use Rattle.float.proofs.Bits.{of_true, nan_is}
 use Rattle.decode.specs.Exponent.{regular_of}
 use Rattle.decode.specs.Shape.{Normal, Decoded}
-use Rattle.decode.specs.declared.Digits.{Digits}
+use Rattle.decode.specs.declared.digits.Digits.{Digits}
 use Rattle.std.specs.Prelude.{Some, None}
-use Rattle.decode.proofs.Fields.{units_pos, Pattern, not_top, normal, fraction_is}
+use Rattle.decode.proofs.Fields.{units_pos, Pattern, pattern, not_top, normal, fraction_is, shifted}
 
 no_product : (a b : ℕ) → 0 < a * b → a * b ≡ 0 → ⊥
 no_product a b h e = omega arith
@@ -31,8 +30,8 @@ first_zero (suc m) u h e = absurd (no_product (suc m) u (mul-pos (zero-lt-suc m)
 
 -- ---- a comparison with zero
 
-pub zero_is : (x : Float) → eq x (fin false 0 (pos 0)) ≡ true → (s : Bool) × (k : ℤ) × (x ≡ fin s 0 k)
-unfolding eq
+pub zero_is : (x : Float) → eq x zero64 ≡ true → (s : Bool) × (k : ℤ) × (x ≡ fin s 0 k)
+unfolding eq of_bits
 zero_is nan e = absurd (false≢true e)
 zero_is (inf s) e = absurd (false≢true e)
 zero_is (fin s m k) e =
@@ -46,8 +45,8 @@ zero_is (fin s m k) e =
 zero_test : (s : Bool) (k : ℤ) → level s (0 * up k * 1) false (0 * down k) ≡ level s 0 false 0
 zero_test s k = ap₂ (λ (a b : ℕ). level s a false b) (mul-one (0 * up k) ∙ zero-mul (up k)) (zero-mul (down k))
 
-pub not_zero : (s : Bool) (k : ℤ) → eq (fin s 0 k) (fin false 0 (pos 0)) ≡ false → ⊥
-unfolding eq
+pub not_zero : (s : Bool) (k : ℤ) → eq (fin s 0 k) zero64 ≡ false → ⊥
+unfolding eq of_bits
 not_zero true k e = absurd (false≢true (sym e ∙ zero_test true k))
 not_zero false k e = absurd (false≢true (sym e ∙ zero_test false k))
 
@@ -56,7 +55,7 @@ pub some_units : (x : Float) → Finite x → ne x zero64 ≡ true → 0 < units
 unfolding is_finite_of ne of_bits
 some_units nan F h = absurd (false≢true F.finite)
 some_units (inf s) F h = absurd (false≢true F.finite)
-some_units (fin s zero e) F h = absurd (not_zero s e (not-true (eq (fin s 0 e) (fin false 0 (pos 0))) h))
+some_units (fin s zero e) F h = absurd (not_zero s e (not-true (eq (fin s 0 e) zero64) h))
 some_units (fin s (suc m) e) F h = units_pos s (suc m) e (of_true F.held) (zero-lt-suc m)
 
 -- ---- a regular value
@@ -90,24 +89,20 @@ decoded_digits x n h = record {
 
 -- ---- what it reads from the pattern b of an x without its sign
 
-pub nan_none : (x : Float) → ne x x ≡ true → Decoded x None
-nan_none x e =
-    subst (λ (y : Float). Decoded y None) (sym (differs_from_itself x (subst T (sym e) tt)))
-    (record { regular = λ r. absurd (false≢true r); other = λ r. refl })
+pub nan_none : (x : Float) → is_nan x ≡ true → Decoded x None
+nan_none x e = subst (λ (y : Float). Decoded y None) (nan_is x e) (record { regular = λ r. absurd (false≢true r); other = λ r. refl })
 
-pub self_not_nan : (x : Float) → ne x x ≡ false → T (not (is_nan x))
-unfolding ne is_nan
-self_not_nan nan e = absurd (false≢true (sym e))
-self_not_nan (inf s) e = tt
-self_not_nan (fin s m k) e = tt
+pub no_nan : (x : Float) → is_nan x ≡ false → T (not (is_nan x))
+no_nan x e = subst (λ (b : Bool). T (not b)) (sym e) tt
 
 module _ (x : Float) (f : fits binary64 x ≡ true) (b : ℕ) (p : Pattern x b) where
   pub top_none : b / 2 ^ 52 ≡ 2047 → Decoded x None
   top_none t = ⊎_elim (λ i. decoded_none x f i.1) (λ h. absurd (not_top _ _ _ b h.2 h.3 t)) p
 
-  pub field_digits : (b / 2 ^ 52 ≡ 2047 → ⊥) → (b / 2 ^ 52 ≡ 0 → ⊥) → Decoded x (Some (record { w = 2 ^ 52 + b % 2 ^ 52; k = b / 2 ^ 52 + 51 }))
-  field_digits t z =
-      ⊎_elim (λ i. absurd (t (let e : b / 2 ^ 52 ≡ 2047 = omega (arith, i.0) in e))) (λ h. decoded_digits x (record { w = 2 ^ 52 + b % 2 ^ 52; k = b / 2 ^ 52 + 51 }) (normal _ _ _ b h.2 h.3 z)) p
+  pub field_digits : (b / 2 ^ 52 ≡ 2047 → ⊥) → (b / 2 ^ 52 ≡ 0 → ⊥) → (n : Digits) → n.w ≡ 2 ^ 52 + b % 2 ^ 52 → n.k ≡ b / 2 ^ 52 + 51 → Decoded x (Some n)
+  field_digits t z n W K =
+      ⊎_elim (λ i. absurd (t (let e : b / 2 ^ 52 ≡ 2047 = omega (arith, i.0) in e)))
+      (λ h. decoded_digits x n (rw (W, K) (normal _ _ _ b h.2 h.3 z))) p
 
   units_are : b / 2 ^ 52 ≡ 0 → b % 2 ^ 52 ≡ units_of x
   units_are z = ⊎_elim (λ i. absurd (let e : ⊥ = omega (arith, i.0) in e)) (λ h. fraction_is _ _ _ b h.2 h.3 z) p
@@ -150,8 +145,8 @@ not_below_zero a k h = no_less a (subst (λ (x : ℕ). a < x) (zero-mul k) h)
     no_less a h = omega arith
 
 -- below zero: minus infinity, or finite
-pub negative_view : (x : Float) → lt x (fin false 0 (pos 0)) ≡ true → (x ≡ inf true) ⊎ ((m : ℕ) × (e : ℤ) × (x ≡ fin true (suc m) e))
-unfolding lt
+pub negative_view : (x : Float) → lt x zero64 ≡ true → (x ≡ inf true) ⊎ ((m : ℕ) × (e : ℤ) × (x ≡ fin true (suc m) e))
+unfolding lt of_bits
 negative_view nan t = absurd (false≢true t)
 negative_view (inf true) t = inl refl
 negative_view (inf false) t = absurd (false≢true t)
@@ -161,8 +156,8 @@ negative_view (fin true (suc m) e) t = inr (m, e, refl)
 negative_view (fin false m e) t = absurd (not_below_zero (m * up e * 1) (down e) (ltb→lt (m * up e * 1) (0 * down e) (subst T (sym t) tt)))
 
 -- not below zero, and regular: finite and above zero
-pub positive_view : (x : Float) → lt x (fin false 0 (pos 0)) ≡ false → regular_of x ≡ true → (m : ℕ) × (e : ℤ) × (x ≡ fin false (suc m) e)
-unfolding lt
+pub positive_view : (x : Float) → lt x zero64 ≡ false → regular_of x ≡ true → (m : ℕ) × (e : ℤ) × (x ≡ fin false (suc m) e)
+unfolding lt of_bits
 positive_view nan t r = absurd (false≢true r)
 positive_view (inf s) t r = absurd (false≢true r)
 positive_view (fin s zero e) t r = absurd (false≢true r)
@@ -175,10 +170,13 @@ positive_view (fin true (suc m) e) t r =
 positive_view (fin false (suc m) e) t r = (m, e, refl)
 
 -- not below zero, no zero and not regular: NaN or infinity
-pub special_view : (x : Float) → lt x (fin false 0 (pos 0)) ≡ false → eq x (fin false 0 (pos 0)) ≡ false → regular_of x ≡ false → (x ≡ nan) ⊎ (x ≡ inf false)
-unfolding lt
+pub special_view : (x : Float) → lt x zero64 ≡ false → eq x zero64 ≡ false → regular_of x ≡ false → (x ≡ nan) ⊎ (x ≡ inf false)
+unfolding lt of_bits
 special_view nan t z r = inl refl
 special_view (inf true) t z r = absurd (false≢true (sym t))
 special_view (inf false) t z r = inr refl
 special_view (fin s zero e) t z r = absurd (not_zero s e z)
 special_view (fin s (suc m) e) t z r = absurd (false≢true (sym r ∙ lt-ltb 0 (suc m) (zero-lt-suc m)))
+
+-- what `normal_of` rests on
+pub ruleset read = (pattern, shifted, nan_none, no_nan, top_none, field_digits, fraction_none, fraction_digits)

@@ -10,11 +10,12 @@ use lib.Pow.{pow-add, pow_pos, pow_mono}
 use lib.IntN.{pos, negsuc, ◌-ℤ◌}
 use lib.Ieee.{Float, fin, nan, inf, up, down, minus, size, eq}
 use lib.Ieee.Digits.{size-lt, size-le}
+use Rattle.float.specs.Literals.{zero64}
 use Rattle.float.specs.Units.{units_of}
 use Rattle.decode.specs.Exponent.{exponent_of, regular_of}
 use Rattle.decode.specs.Shape.{Normal}
-use Rattle.decode.proofs.Class.{zero_is, not_zero}
-use Rattle.decode.proofs.Difference.{minus_is}
+use Rattle.decode.proofs.Class.{zero_is, not_zero, decoded_irregular, decoded_regular, decoded_normal}
+use Rattle.decode.proofs.Difference.{minus_is, machine_fits, machine_is}
 
 pub size_exact : (n j : ℕ) → 2 ^ j ≤ n → n < 2 ^ suc j → size n ≡ suc j
 size_exact n j lo hi =
@@ -36,16 +37,19 @@ exponent_is nan w k e h = absurd (false≢true e)
 exponent_is (inf s) w k e h = absurd (false≢true e)
 exponent_is (fin s m e) w k r h = ap (λ (z : ℕ). minus z 1075) (size_of_normal (units_of (fin s m e)) w k h) ∙ minus_is 1073 k
 
-pub exponent_zero : (x : Float) → eq x (fin false 0 (pos 0)) ≡ true → exponent_of x ≡ negsuc 1074
+pub exponent_zero : (x : Float) → eq x zero64 ≡ true → exponent_of x ≡ negsuc 1074
 unfolding exponent_of size
 exponent_zero x e =
     let z = zero_is x e in
     ap exponent_of z.2
     ∙ ap (λ (n : ℕ). minus (size n) 1075) (ap (λ (a : ℕ). a * 2 ^ 1074 / down z.1) (zero-mul (up z.1)) ∙ zero-div (down z.1))
 
-pub exponent_irregular : (x : Float) → eq x (fin false 0 (pos 0)) ≡ false → regular_of x ≡ false → exponent_of x ≡ pos 1024
+pub exponent_irregular : (x : Float) → eq x zero64 ≡ false → regular_of x ≡ false → exponent_of x ≡ pos 1024
 unfolding exponent_of
 exponent_irregular nan a b = refl
 exponent_irregular (inf s) a b = refl
 exponent_irregular (fin s zero k) a b = absurd (not_zero s k a)
 exponent_irregular (fin s (suc m) k) a b = absurd (false≢true (sym b ∙ lt-ltb 0 (suc m) (zero-lt-suc m)))
+
+-- what `exponent` rests on
+pub ruleset exponents = (decoded_irregular, decoded_regular, decoded_normal, exponent_zero, exponent_irregular, exponent_is, machine_fits, machine_is)

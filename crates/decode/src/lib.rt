@@ -6,19 +6,17 @@ ghost use Rattle.std.specs.Prelude.{◌≡◌};
 ghost use Rattle.decode.specs.Exponent.{exponent_of};
 ghost use Rattle.decode.specs.Shape.{Decoded};
 
-// w * 2^k / 2^52 units of 2^-1074.
-#[derive(Clone, Copy)]
-pub struct Digits {
-    pub w: u64,
-    pub k: u64,
-}
+pub use digits::Digits;
+
+mod digits;
 
 // The digits of a finite x that is not zero, all 53 of them. Below 2^-1022 the leading zeros of the 52-bit fraction say how far they
 // are shifted. None for a zero, an infinity and a NaN.
+#[tactic(auto, using(crate::proofs::Class::read))]
 pub fn normal_of(x: f64) -> Option<Digits>
     ensures { Decoded x result }
 {
-    if x != x {
+    if float::is_nan(x) {
         return None;
     }
     let b = f64::to_bits(x) % 0x8000_0000_0000_0000;
@@ -43,7 +41,9 @@ pub fn normal_of(x: f64) -> Option<Digits>
     })
 }
 
-// The exponent of x: the greatest k with 2^k <= |x|. 1024 for an infinity and a NaN, -1075 for a zero.
+// The exponent of x: the greatest k with 2^k <= |x|. 1024 for an infinity and a NaN, -1075 for a zero. (No Option: it is the
+// Rust's function and C's, and these two stand above and below all others.)
+#[tactic(auto, using(crate::proofs::Highest::exponents))]
 pub fn exponent(x: f64) -> i32
     ensures { result ≡ exponent_of x }
 {

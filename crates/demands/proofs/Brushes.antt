@@ -10,8 +10,12 @@ use lib.ListN.{length, get_or, length-map}
 use lib.Seq.{length-take-le}
 use lib.IntN.{ℤ}
 use lib.Ieee.{Float}
+use Rattle.std.specs.Prelude.{Result, Ok, Err}
 use Rattle.facts.specs.Cond.{either_way}
 use Rattle.facts.specs.Lists.{AllOf, all_snoc}
+use Rattle.refusals.specs.declared.Refusal.{Refusal}
+use Rattle.refusals.specs.Refusals.{number_of, outcome_of, and_then}
+use Rattle.refusals.proofs.Numbers.{number_bounds}
 use Rattle.float.specs.Literals.{zero64}
 use Rattle.float.specs.Methods.{is_finite_of, max_of}
 use Rattle.scaled.specs.declared.Scaled.{Scaled}
@@ -24,25 +28,28 @@ use Rattle.roots.proofs.Laws.{list_roots}
 use Rattle.finish.specs.Finish.{Ordered, ordered_of, polished_at, polished_of, is_near_of, join_of, joined_from, joined_of, finish_of}
 use Rattle.poly.specs.declared.Solved.{Solved}
 use Rattle.factorize.specs.Factorize.{factorize_of}
-use Rattle.poly.specs.Coefficients.{zeros_of, refusal_of, poly_of}
-use Rattle.poly.specs.Solve.{candidates_of, finished_of, solve_of}
-use Rattle.poly.specs.RealRoots.{unscaled_of, unscaled_all, answer_of, real_roots_of}
+use Rattle.poly.specs.Coefficients.{zeros_of, counted_of, refusal_of, poly_of}
+use Rattle.poly.specs.Solve.{candidates_of, finished_of, solve_of, solved_in}
+use Rattle.poly.specs.RealRoots.{unscaled_of, unscaled_all, answer_of, real_roots_of, roots_in}
 use Rattle.poly.specs.Conditions.{Exactly}
 use Rattle.asking.specs.Asking.{Asking, done, ask, Stage, asks, ended, answered, places_asked, walked, left_by}
 use Rattle.asking.proofs.Feeding.{finish}
 use Rattle.touching.specs.declared.Replies.{Replies}
 use Rattle.touching.specs.Replies.{replies_of}
 use Rattle.touching.specs.Walk.{RepliesFit}
-use Rattle.inquiry.specs.Inquiry.{shown, seen_at, seen_of, asking}
-use Rattle.inquiry.specs.Start.{real_roots_touching, real_roots_touching_of, places_touching_of, start_of, given, shown_after_of}
+use Rattle.inquiry.specs.declared.Inquiry.{Inquiry}
+use Rattle.inquiry.specs.declared.Asked.{Asked}
+use Rattle.inquiry.specs.Inquiry.{shown, list_in, is_question, seen_at, seen_of, asking}
+use Rattle.inquiry.specs.Start.{real_roots_touching, real_roots_touching_of, places_touching_of, fresh_by, start_of, inquiry_in, given, shown_after_of}
 use Rattle.inquiry.proofs.Sound.{sound_is, sound_holds}
-use Rattle.inquiry.proofs.Fresh.{start_sound, start_asks}
+use Rattle.inquiry.proofs.Fresh.{solved_asks, start_sound, start_number, start_asks}
+use Rattle.inquiry.proofs.Loop.{refused_asks}
 use Rattle.inquiry.proofs.Theorem.{has_seen}
 use Rattle.trig_quartic.specs.declared.TrigEquation.{TrigEquation}
-use Rattle.crank.specs.Crank.{trig_quartic_of, solve_trig_of, front_in, crank_start_of, crank_shown_of, crank_of}
-use Rattle.crank.proofs.Front.{same_asking}
-use Rattle.crank.proofs.Answer as answers
-use Rattle.trig_quartic.specs.Crank.{crank_front_of}
+use Rattle.crank.specs.declared.CrankInquiry.{CrankInquiry}
+use Rattle.crank.specs.Crank.{trig_quartic_of, solve_trig_of, crank_start_of, crank_in, crank_shown_of, crank_of, crank_roots_in}
+use Rattle.crank.proofs.Front as front
+use Rattle.crank.proofs.Answer.{answer_by}
 use Rattle.contact.specs.declared.Path.{Path}
 use Rattle.contact.specs.declared.Circle.{Circle}
 use Rattle.contact.specs.Contact.{made_of, pin_contact_of}
@@ -53,7 +60,7 @@ use Rattle.listing.specs.Words.{letter_of}
 use Rattle.listing.specs.Lines.{place_text, root_text}
 use Rattle.demands.specs.Formed.{Formed, unasked, chains_formed, roots_formed, reply_in, unformed}
 use Rattle.demands.specs.Example.{ascii}
-use Rattle.demands.specs.Demands.{HasKind, KindsBy, NeverBrush, Kinds}
+use Rattle.demands.specs.Demands.{HasKind, KindsBy, NeverBrush, shown_in, crank_shown_in, Kinds}
 use Rattle.demands.proofs.Formed.{numbered, or_true, some_yes, kinded, formed_so}
 use Rattle.demands.proofs.Once.{formed_once}
 
@@ -171,12 +178,15 @@ plain_unscaled e (r ∷ l) = go (is_finite_of (unscaled_of e r.value)) (plain_un
     go true h = (refl, h)
     go false h = h
 
-plain_list : (coeffs : List Float) (tol : Float) → NeverBrush (list_of (real_roots_of coeffs tol).roots)
+plain_list : (coeffs : List Float) (tol : Float) → NeverBrush (list_of (roots_in (real_roots_of coeffs tol)))
 unfolding real_roots_of answer_of
-plain_list coeffs tol =
-    let s = solve_of coeffs tol in
-    let l = unscaled_all s.poly.e (list_of s.roots) in
-    never_brush (list_of (roots_of l)) (subst (AllOf Plain) (sym (list_roots l)) (plain_unscaled s.poly.e (list_of s.roots)))
+plain_list coeffs tol = go (solve_of coeffs tol)
+  where
+    go : (r : Result Solved Refusal) → NeverBrush (list_of (roots_in (and_then r (λ s. Ok (answer_of s)))))
+    go (Ok s) =
+        let l = unscaled_all s.poly.e (list_of s.roots) in
+        never_brush (list_of (roots_of l)) (subst (AllOf Plain) (sym (list_roots l)) (plain_unscaled s.poly.e (list_of s.roots)))
+    go (Err refusal) = never_brush [] tt
 
 -- ---- what `finish` gives
 plain_kept : (out : List RealRoot) (r : RealRoot) → AllOf Plain out → Plain r → AllOf Plain (kept out r)
@@ -209,11 +219,17 @@ plain_finished poly c tol =
     let polished = polished_of 4 poly (ordered_of c) in
     subst (AllOf Plain) (sym (list_roots (joined_of poly tol polished))) (plain_runs poly tol polished (plain_polished 4 poly (ordered_of c)))
 
-plain_solved : (coeffs : List Float) (tol : Float) → AllOf Plain (list_of (solve_of coeffs tol).roots)
+plain_solved : (coeffs : List Float) (tol : Float) → AllOf Plain (list_of (solved_in (solve_of coeffs tol)).roots)
 unfolding solve_of finished_of
-plain_solved coeffs tol =
-    either_way (λ (s : Solved). AllOf Plain (list_of s.roots)) (eqb (refusal_of coeffs) 0)
-    (plain_finished (poly_of coeffs) (candidates_of (poly_of coeffs) (zeros_of coeffs) (factorize_of (poly_of coeffs) 0) (max_of tol zero64)).0 (max_of tol zero64)) tt
+plain_solved coeffs tol = go (counted_of coeffs)
+  where
+    go : (r : Result ℕ Refusal)
+        → AllOf Plain (list_of (solved_in (and_then r (λ n. Ok (finished_of (poly_of coeffs) (zeros_of coeffs) (max_of tol zero64))))).roots)
+    go (Ok n) =
+        let poly = poly_of coeffs in
+        let least = max_of tol zero64 in
+        plain_finished poly (candidates_of poly (zeros_of coeffs) (factorize_of poly 0) least).0 least
+    go (Err refusal) = tt
 
 -- ---- replies in a list, read in their order
 abbrev value_by : {A : Type 0} → A → Stage A → A
@@ -233,7 +249,7 @@ numbered_walked reply (r ∷ rs) n (ask x k) a left h e =
 
 module _ (replies : List Bool) (coeffs : List Float) (tol : Float) where
   abbrev solved : Solved
-  solved = solve_of coeffs tol
+  solved = solved_in (solve_of coeffs tol)
 
   abbrev roots : List Formed
   roots = roots_formed (reply_in replies) solved
@@ -241,12 +257,11 @@ module _ (replies : List Bool) (coeffs : List Float) (tol : Float) where
   -- the list is what is formed, with kinds
   list_formed : (l : List RealRoot) (left : List Bool) → walked replies (real_roots_touching coeffs tol) ≡ ended l left
       → (l ≡ map (kinded (reply_in replies)) roots) × ((chains_formed (reply_in replies) solved).0 ≤ length replies)
-  unfolding start_of
   list_formed l left e =
       let reply = reply_in replies in
-      let t = asking (start_of coeffs tol).inquiry in
+      let t = asking (fresh_by solved) in
       let so = formed_so reply solved.poly solved.tol (list_of solved.roots) (pair_list_of solved.pairs) (plain_solved coeffs tol) in
-      let run = numbered_walked reply replies 0 t l left (λ i. ap reply (omega arith)) (ap (walked replies) (start_asks coeffs tol) ∙ e) in
+      let run = numbered_walked reply replies 0 t l left (λ i. ap reply (omega arith)) (ap (walked replies) (solved_asks coeffs tol) ∙ e) in
       (sym run.0 ∙ ap (λ (u : ℕ × List RealRoot). u.1) so, omega (arith, run.1, ap (λ (u : ℕ × List RealRoot). u.0) so))
 
   kinds_by : (l : List RealRoot) (left : List Bool) → walked replies (real_roots_touching coeffs tol) ≡ ended l left → KindsBy replies coeffs tol l
@@ -266,31 +281,65 @@ module _ (replies : List Bool) (coeffs : List Float) (tol : Float) where
 
 -- ---- an inquiry with these replies: where nothing is asked, the list
 seen_kinds : (replies : List Bool) (coeffs : List Float) (tol : Float) (s : Stage (List RealRoot)) → walked replies (real_roots_touching coeffs tol) ≡ s
-    → (seen_at s).asked.asking ≡ false → KindsBy replies coeffs tol (list_of (seen_at s).asked.list)
+    → is_question (seen_at s).asked ≡ false → KindsBy replies coeffs tol (list_of (list_in (seen_at s).asked))
 unfolding shown
 seen_kinds replies coeffs tol (asks x) e h = unlike cc
 seen_kinds replies coeffs tol (ended l left) e h = rw (list_roots l) (kinds_by replies coeffs tol l left e)
 
-given_seen : (rs : Replies) (coeffs : List Float) (tol : Float) → RepliesFit rs
-    → seen_of (given (start_of coeffs tol).inquiry rs) ≡ seen_at (walked (replies_of rs) (real_roots_touching coeffs tol))
-given_seen rs coeffs tol fits =
-    let q = (start_of coeffs tol).inquiry in
-    let s = sound_is q (start_sound coeffs tol) in
-    has_seen (real_roots_touching coeffs tol) (given q rs) (replies_of rs) (record {
-      asks_it = start_asks coeffs tol;
-      has = refl;
-      array = fits.0;
-      count = sym (length-take-le rs.count rs.reply (omega (arith, fits.0, fits.1)));
-      sound =
-          sound_holds (given q rs)
-          (record { degree = s.degree; replies = fits.1; roots = s.roots; pairs = s.pairs; counted = s.counted; total = s.total });
-    })
+-- where nothing is asked from the start, as where it is refused, no root
+nothing_kinds : (replies : List Bool) (coeffs : List Float) (tol : Float) → real_roots_touching coeffs tol ≡ done [] → KindsBy replies coeffs tol []
+unfolding walked
+nothing_kinds replies coeffs tol e = kinds_by replies coeffs tol [] replies (ap (walked replies) e)
 
-given_kinds : (rs : Replies) (coeffs same : List Float) (tol : Float) → real_roots_touching coeffs tol ≡ real_roots_touching same tol → RepliesFit rs
-    → (let shown = (seen_of (given (start_of coeffs tol).inquiry rs)).asked in shown.asking ≡ false → KindsBy (replies_of rs) same tol (list_of shown.list))
-given_kinds rs coeffs same tol e fits =
-    let is = given_seen rs coeffs tol fits ∙ ap (λ (t : Asking (List RealRoot)). seen_at (walked (replies_of rs) t)) e in
-    rw is (seen_kinds (replies_of rs) same tol (walked (replies_of rs) (real_roots_touching same tol)) refl)
+module _ (rs : Replies) (fits : RepliesFit rs) (coeffs : List Float) (tol : Float) where
+  abbrev started : Inquiry
+  started = inquiry_in (start_of coeffs tol)
+
+  given_seen : seen_of (given started rs) ≡ seen_at (walked (replies_of rs) (real_roots_touching coeffs tol))
+  given_seen =
+      let s = sound_is started (start_sound coeffs tol) in
+      has_seen (real_roots_touching coeffs tol) (given started rs) (replies_of rs) (record {
+        asks_it = start_asks coeffs tol;
+        has = refl;
+        array = fits.0;
+        count = sym (length-take-le rs.count rs.reply (omega (arith, fits.0, fits.1)));
+        sound =
+            sound_holds (given started rs)
+            (record { degree = s.degree; replies = fits.1; roots = s.roots; pairs = s.pairs; counted = s.counted; total = s.total });
+      })
+
+  abbrev KindsOf : Asked → Type 0
+  KindsOf shown = is_question shown ≡ false → KindsBy (replies_of rs) coeffs tol (list_of (list_in shown))
+
+  given_kinds : (q : Inquiry) → q ≡ started → KindsOf (seen_of (given q rs)).asked
+  given_kinds q is =
+      let seen = ap (λ (p : Inquiry). seen_of (given p rs)) is ∙ given_seen in
+      rw seen (seen_kinds (replies_of rs) coeffs tol (walked (replies_of rs) (real_roots_touching coeffs tol)) refl)
+
+  inquiry_kinds : KindsOf (shown_in (shown_after_of coeffs tol rs))
+  unfolding shown_after_of
+  inquiry_kinds = go (start_of coeffs tol) refl
+    where
+      go : (r : Result Inquiry Refusal) → start_of coeffs tol ≡ r → KindsOf (shown_in (and_then r (λ q. Ok (seen_of (given q rs)))))
+      go (Ok q) e = given_kinds q (ap inquiry_in (sym e))
+      go (Err refusal) e =
+          let n : number_of refusal ≡ refusal_of coeffs = ap outcome_of (sym e) ∙ start_number coeffs tol in
+          let some = ne_eqb (refusal_of coeffs) 0 (λ z. omega (arith, z, n, number_bounds refusal)) in
+          λ h. nothing_kinds (replies_of rs) coeffs tol (refused_asks coeffs tol some)
+
+crank_inquiry_kinds : (rs : Replies) (fits : RepliesFit rs) (confusion : Float) (trig : TrigEquation)
+    → KindsOf rs fits (trig_quartic_of trig) confusion (crank_shown_in (crank_shown_of confusion trig rs))
+unfolding crank_shown_of
+crank_inquiry_kinds rs fits confusion trig = go (crank_start_of confusion trig) refl
+  where
+    go : (r : Result CrankInquiry Refusal) → crank_start_of confusion trig ≡ r
+        → KindsOf rs fits (trig_quartic_of trig) confusion (crank_shown_in (and_then r (λ c. Ok (record { k = c.k; seen = seen_of (given c.inquiry rs) }))))
+    go (Ok c) e =
+        given_kinds rs fits (trig_quartic_of trig) confusion c.inquiry
+        (ap (λ (r : Result CrankInquiry Refusal). (crank_in r).inquiry) (sym e) ∙ front.same_inquiry trig confusion)
+    go (Err refusal) e =
+        let n : outcome_of (crank_start_of confusion trig) ≡ number_of refusal = ap outcome_of e in
+        λ h. nothing_kinds (replies_of rs) (trig_quartic_of trig) confusion (front.refused_nothing trig confusion (omega (arith, n, number_bounds refusal)))
 
 -- ---- every question replied no
 plain_no : (places : List Float) (l : List ℕ) → some_yes (reply_in (map (λ (x : Float). false) places)) l ≡ false
@@ -313,18 +362,14 @@ never_yes coeffs tol =
     let places = places_asked (λ x. false) t in
     let replies = map (λ (x : Float). false) places in
     subst (AllOf Plain) (sym (list_formed replies coeffs tol (answered (λ x. false) t) [] (finish (λ x. false) t)).0)
-    (plain_kinded places (roots_formed (reply_in replies) (solve_of coeffs tol)))
+    (plain_kinded places (roots_formed (reply_in replies) (solved_in (solve_of coeffs tol))))
 
-crank_kinds : (confusion : Float) (trig : TrigEquation) → NeverBrush (list_of (crank_of confusion trig).roots)
-unfolding crank_of
-crank_kinds confusion trig = go (eqb (crank_start_of confusion trig).number 0)
-  where
-    l : List RealRoot
-    l = (solve_trig_of (λ k u. false) confusion trig).1
-
-    go : (b : Bool) → NeverBrush (list_of (cond b (answers.listed confusion trig) (answers.refused confusion trig)).roots)
-    go true = never_brush (list_of (roots_of l)) (subst (AllOf Plain) (sym (list_roots l)) (never_yes (trig_quartic_of trig) confusion))
-    go false = never_brush [] tt
+crank_kinds : (confusion : Float) (trig : TrigEquation) → NeverBrush (list_of (crank_roots_in (crank_of confusion trig)))
+crank_kinds confusion trig =
+    let l = (solve_trig_of (λ k u. false) confusion trig).1 in
+    answer_by confusion trig (λ a. NeverBrush (list_of (crank_roots_in a)))
+    (λ z. never_brush (list_of (roots_of l)) (subst (AllOf Plain) (sym (list_roots l)) (never_yes (trig_quartic_of trig) confusion)))
+    (λ refusal e. never_brush [] tt)
 
 -- ---- fed by a function; a contact
 fed_kinds : (touches : Float → Bool) (coeffs : List Float) (tol : Float)
@@ -333,23 +378,22 @@ fed_kinds touches coeffs tol =
     let t = real_roots_touching coeffs tol in
     kinds_by (map touches (places_asked touches t)) coeffs tol (answered touches t) [] (finish touches t)
 
-contact_kinds : (confusion : Float) (path : Path) (circle : Circle) → (pin_contact_of confusion path circle).number ≡ 0
+contact_kinds : (confusion : Float) (path : Path) (circle : Circle) → outcome_of (pin_contact_of confusion path circle) ≡ 0
     → (let touches = contact.replies_of confusion path circle in
     KindsBy (map touches (places_touching_of touches (made_of path circle) confusion)) (made_of path circle) confusion
-    (list_of (pin_contact_of confusion path circle).roots))
+    (list_of (roots_in (pin_contact_of confusion path circle))))
 contact_kinds confusion path circle e =
     let touches = contact.replies_of confusion path circle in
     rw ((contacts confusion path circle).list e, list_roots (real_roots_touching_of touches (made_of path circle) confusion))
     (fed_kinds touches (made_of path circle) confusion)
 
 pub kinds : Kinds
-unfolding shown_after_of crank_shown_of crank_start_of root_text ascii
+unfolding root_text ascii
 kinds = record {
   list = plain_list;
   fed = fed_kinds;
-  inquiry = λ rs coeffs tol. given_kinds rs coeffs coeffs tol refl;
-  crank_inquiry = λ rs confusion trig.
-      given_kinds rs (front_in (crank_front_of trig)).q (trig_quartic_of trig) confusion (same_asking trig confusion);
+  inquiry = λ rs coeffs tol fits. inquiry_kinds rs fits coeffs tol;
+  crank_inquiry = λ rs confusion trig fits. crank_inquiry_kinds rs fits confusion trig;
   crank = crank_kinds;
   contact = contact_kinds;
   line = λ r. sym (append_assoc (place_text r.value) (32 ∷ decimal r.multiplicity) (32 ∷ letter_of r.kind ∷ []));

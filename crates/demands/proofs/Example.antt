@@ -4,6 +4,7 @@ use mathlib.Core.List.{List, []}
 use Prim.Native.Nat.{ℕ, ◌<◌}
 use lib.ListN.{length}
 use borrow.Author.Tests.{lt-ltb}
+use Rattle.refusals.specs.declared.Refusal.TheVariants.{FileTooLong}
 use Rattle.roots.specs.Roots.{kind_of}
 use Rattle.text.specs.Digits.{decimal}
 use Rattle.records.specs.declared.Kind.TheVariants.{Unknown}
@@ -22,7 +23,7 @@ unfolding listing
 empty = refl
 
 -- the line depends on nothing in the file
-only_line : (s : List ℕ) → line_of 0 s 0 (ended_of Unknown 9 s) ≡ ascii "0 -- refused 9\n"
+only_line : (s : List ℕ) → line_of 0 s 0 (ended_of Unknown FileTooLong s) ≡ ascii "0 -- refused 9\n"
 unfolding line_of decimal ascii
 only_line s = refl
 

@@ -8,6 +8,7 @@ use lib.Dec.{ltb}
 use lib.ListN.{length, get_or, take, drop, length-append}
 use lib.Seq.{take_all, drop-append_seam}
 use Rattle.facts.specs.Cond.{either_way}
+use Rattle.refusals.specs.declared.Refusal.TheVariants.{Cut}
 use Rattle.float.specs.Bytes.{f64_at}
 use Rattle.text.specs.Digits.{decimal}
 use Rattle.records.specs.declared.Kind.TheVariants.{Formula}
@@ -37,9 +38,9 @@ module _ (s : List ℕ) (marked : kind_at s 0 ≡ Formula) (two : 2 ≤ length s
       let from : 0 + size ≡ size = omega arith in
       sym read ∙ simp (le-ltb (length s - 0) 3 (omega arith), le-ltb (length s - 0) size (omega arith)) (ap (whole_of Formula) from)
 
-  cut_off : length s < size → record_at s 0 ≡ ended_of Formula 7 s
+  cut_off : length s < size → record_at s 0 ≡ ended_of Formula Cut s
   unfolding formula_record held_of
-  cut_off h = sym read ∙ either_way (λ (r : Record). r ≡ ended_of Formula 7 s) (ltb (length s - 0) 3) refl (simp (lt-ltb (length s - 0) size (omega arith)))
+  cut_off h = sym read ∙ either_way (λ (r : Record). r ≡ ended_of Formula Cut s) (ltb (length s - 0) 3) refl (simp (lt-ltb (length s - 0) size (omega arith)))
 
 -- ---- a whole record
 module _ (tolerance text : List ℕ) (eight : length tolerance ≡ 8) (short : length text ≤ 255) where
@@ -73,14 +74,14 @@ module _ (s : List ℕ) (byte : get_or s 0 0 ≤ 255) (cut : length s < 9 + get_
   abbrev cut_file : List ℕ
   cut_file = 84 ∷ 88 ∷ s
 
-  cut_found : record_at cut_file 0 ≡ ended_of Formula 7 cut_file
+  cut_found : record_at cut_file 0 ≡ ended_of Formula Cut cut_file
   unfolding kind_at
   cut_found = cut_off cut_file refl (omega arith) (omega arith)
 
-  cut_line : line_of 1 cut_file 0 (ended_of Formula 7 cut_file) ≡ ascii "1 TX refused 7\n"
+  cut_line : line_of 1 cut_file 0 (ended_of Formula Cut cut_file) ≡ ascii "1 TX refused 7\n"
   unfolding line_of head_of words_of decimal ascii
   cut_line = refl
 
   pub formula_cut : listing (ascii "TX" ++ s) ≡ ascii "1 TX refused 7\n"
   unfolding ascii
-  formula_cut = one_line cut_file (ended_of Formula 7 cut_file) (omega arith) (omega arith) cut_found (omega arith) ∙ cut_line
+  formula_cut = one_line cut_file (ended_of Formula Cut cut_file) (omega arith) (omega arith) cut_found (omega arith) ∙ cut_line

@@ -6,6 +6,8 @@ use Prim.Native.Nat.{◌-◌, ◌≤◌}
 use native.Mathlib.Omega.{arith}
 use lib.Dec.{lit≤}
 use lib.Ieee.{nan, lt, eq, is_nan, of_bits}
+use Rattle.std.specs.Prelude.{Result}
+use Rattle.refusals.specs.declared.Refusal.{Refusal}
 use Rattle.float.specs.Methods.{is_sign_negative_of, total_le_of}
 use Rattle.float.specs.Units.{units_of}
 use Rattle.order.specs.Order.{falling_of}
@@ -22,19 +24,19 @@ use Rattle.factorize.specs.Factorize.{factorize_of}
 use Rattle.factorize.proofs.Degree.{degrees_add}
 use Rattle.accuracy.proofs.Polishing.{polishing}
 use Rattle.roots.specs.declared.RealRoot.{RealRoot}
+use Rattle.roots.specs.declared.Roots.{Roots}
 use Rattle.roots.specs.Roots.{list_of, roots_of}
 use Rattle.roots.specs.Listed.{blank}
 use Rattle.finish.specs.Finish.{by_value, finish_of}
 use Rattle.finish.proofs.Simple.{simple_polished}
-use Rattle.poly.specs.declared.Answer.{Answer}
 use Rattle.poly.specs.Coefficients.{zeros_of}
-use Rattle.poly.specs.Solve.{candidates_of, finished_of, solve_of}
+use Rattle.poly.specs.Solve.{candidates_of, finished_of, solve_of, solved_in}
+use Rattle.poly.specs.RealRoots.{roots_in}
 use Rattle.poly.proofs.Refusals.{trimmed_is, number_most, has_no_root, stands_for, answered_is}
 use Rattle.poly.proofs.Sums.{answer_within, answer_fits}
 use Rattle.poly.proofs.Small.{solved_small}
 use Rattle.asking.specs.Asking.{Asking, answered}
-use Rattle.inquiry.specs.Start.{start_of}
-use Rattle.inquiry.proofs.Fresh.{start_number, start_asks}
+use Rattle.inquiry.proofs.Fresh.{solved_asks, start_number}
 use Rattle.inquiry.proofs.Theorem.{start_fed, start_most, start_list}
 use Rattle.crank.proofs.Theorem.{cranks}
 use Rattle.contact.specs.Contact.{made_of}
@@ -157,17 +159,16 @@ simple_roots = record {
   polynomial = λ coeffs tol e. rw (answered_is coeffs tol e);
   found = λ coeffs tol e. rw (answered_is coeffs tol e);
   polished = λ coeffs tol H e n k.
-      let s = solve_of coeffs tol in
+      let s = solved_in (solve_of coeffs tol) in
       let small = solved_small coeffs tol H e in
       simple_polished n s.poly (candidates_of s.poly (zeros_of coeffs) (factorize_of s.poly 0) s.tol).0 k small.0 small.1;
 }
 
 pin_contacts : PinContacts
-unfolding start_of
 pin_contacts = record {
   every = contacts;
   through_the_list = λ confusion path circle e.
-      let asks = start_asks (made_of path circle) confusion in
+      let asks = solved_asks (made_of path circle) confusion in
       (contacts confusion path circle).list e ∙ ap (λ (t : Asking (List RealRoot)). roots_of (answered (replies_of confusion path circle) t)) (sym asks);
   polished = λ confusion path circle e.
       let all = contacts confusion path circle in simple_roots.polished (made_of path circle) confusion all.doubles (all.solved e);
@@ -180,7 +181,7 @@ typed_formulas = record {
   every = formulas;
   polished = λ s tol e. simple_roots.polished (handed_on (formula_of s)) tol (formula_doubles s) (formula_solved s tol e);
   kinds = λ s tol.
-      answered_by_list (λ (a : Answer). NeverBrush (list_of a.roots)) s tol (λ n h k l. absurd (omega (arith, l))) (λ cs h. kinds.list cs tol);
+      answered_by_list (λ (a : Result Roots Refusal). NeverBrush (list_of (roots_in a))) s tol (λ n h k l. absurd (omega (arith, l))) (λ cs h. kinds.list cs tol);
   line = formula_line;
   cut = formula_cut;
   order = refl;

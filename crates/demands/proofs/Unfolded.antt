@@ -34,7 +34,7 @@ use Rattle.critical.specs.Critical.{critical_next, critical_point_of, extremum_o
 use Rattle.push.specs.Quadratic.{quadratic_roots_of, push_factor, push_quadratic_of}
 use Rattle.polish.specs.Polish.{polish_next, polish_of}
 use Rattle.finish.specs.Finish.{by_value, ordered_at, ordered_of, polished_at, polished_of, is_near_of, joined_from, joined_of, finish_of}
-use Rattle.poly.specs.Coefficients.{trimmed_from, trimmed_of, zeros_of, refusal_by, middle_at, middle_of, poly_of}
+use Rattle.poly.specs.Coefficients.{trimmed_from, trimmed_of, zeros_of, counted_by, middle_at, middle_of, poly_of}
 use Rattle.poly.specs.Solve.{zero_roots_of, candidates_of, finished_of, solve_of}
 use Rattle.poly.specs.RealRoots.{unscaled_all, answer_of, real_roots_of}
 use Rattle.asking.specs.Asking.{answered}
@@ -80,7 +80,7 @@ scaling = 0
 unfoldable pub solving : ℕ
 unfolding kept paired magnitude_step magnitude_of budget_of base_of within_band_of critical_next critical_point_of extremum_of quadratic_roots_of
     push_factor push_quadratic_of polish_next polish_of by_value ordered_at ordered_of polished_at polished_of is_near_of joined_from joined_of finish_of
-    trimmed_from trimmed_of zeros_of refusal_by middle_at middle_of poly_of zero_roots_of candidates_of finished_of solve_of unscaled_all answer_of real_roots_of
+    trimmed_from trimmed_of zeros_of counted_by middle_at middle_of poly_of zero_roots_of candidates_of finished_of solve_of unscaled_all answer_of real_roots_of
 solving = 0
 
 -- an inquiry, a quadratic and a crank

@@ -1,6 +1,6 @@
 -- What is promised, as theorems about the definitions: the customer's demands (document 00) and the claims of documents 01 and 02, in their words. Statements
 -- only; proofs/Proved.antt has the proof of `Demands`, the last of them.
-use Rattle.std.specs.Prelude.{◌≡◌, ◌⊎◌, Bool, true, false, cond, ◌&&◌, ℕ, suc, ◌+◌, ◌-◌, ◌*◌, ◌^◌, ◌≤◌, ◌<◌, ltb, ℤ, pos, negsuc, ◌*ℤ◌, ◌≤ℤ◌, length, take, get_or, Float, Ok}
+use Rattle.std.specs.Prelude.{◌≡◌, ◌⊎◌, Bool, true, false, cond, ◌&&◌, ℕ, suc, ◌+◌, ◌-◌, ◌*◌, ◌^◌, ◌≤◌, ◌<◌, ltb, ℤ, pos, negsuc, ◌*ℤ◌, ◌≤ℤ◌, length, take, get_or, Float, Result, Ok}
 use mathlib.Core.List.{List, [], ◌∷◌, ◌++◌, map, Memᴰ}
 use Rattle.std.specs.Float.{nan, inf, fin, binary64}
 use Rattle.std.specs.Float.Ieee.{up, down, lt, fits}
@@ -31,22 +31,27 @@ use Rattle.polish.specs.Polish.{polish_of}
 use Rattle.accuracy.specs.Claims.{at_most, AllAtMost, Polished}
 use Rattle.finish.specs.Finish.{by_value, Ordered, nowhere, ordered_of, polished_of, joined_of}
 use Rattle.poly.specs.Coefficients.{trimmed_of, zeros_of, refusal_of, degree_left, poly_of}
-use Rattle.poly.specs.Solve.{candidates_of, solve_of}
-use Rattle.poly.specs.RealRoots.{real_roots_of}
+use Rattle.poly.specs.Solve.{candidates_of, solve_of, solved_in}
+use Rattle.poly.specs.RealRoots.{real_roots_of, roots_in}
 use Rattle.poly.specs.Conditions.{Trimmed, AllDoubles, AllFinite, SomeNotFinite, Exactly}
 use Rattle.solution.specs.declared.QuadraticSolution.{QuadraticSolution}
 use Rattle.solution.specs.Solution.{number_of, values_of}
-use Rattle.refusals.specs.Refusals.{outcome_of}
+use Rattle.refusals.specs.declared.Refusal.{Refusal}
+use Rattle.refusals.specs.Refusals.{outcome_of, value_or}
 use Rattle.equation.specs.Quadratic.{solve_quadratic_of, quadratic_of, places_in}
 use Rattle.asking.specs.Asking.{answered}
 use Rattle.touching.specs.declared.Replies.{Replies}
 use Rattle.touching.specs.Touching.{chained, touching}
 use Rattle.touching.specs.Replies as given
 use Rattle.touching.specs.Walk.{RepliesFit}
-use Rattle.inquiry.specs.Start.{real_roots_touching_of, places_touching_of, start_of, shown_after_of}
+use Rattle.inquiry.specs.declared.Asked.{Asked}
+use Rattle.inquiry.specs.declared.Seen.{Seen}
+use Rattle.inquiry.specs.Inquiry.{list_in, is_question, unseen}
+use Rattle.inquiry.specs.Start.{real_roots_touching_of, places_touching_of, start_of, inquiry_in, shown_after_of}
 use Rattle.inquiry.specs.Claims.{Fed}
 use Rattle.trig_quartic.specs.declared.TrigEquation.{TrigEquation}
-use Rattle.crank.specs.Crank.{trig_quartic_of, crank_shown_of, crank_of}
+use Rattle.crank.specs.declared.CrankShown.{CrankShown}
+use Rattle.crank.specs.Crank.{trig_quartic_of, crank_shown_of, crank_of, crank_roots_in}
 use Rattle.crank.specs.Claims.{Cranks}
 use Rattle.contact.specs.declared.Path.{Path}
 use Rattle.contact.specs.declared.Circle.{Circle}
@@ -247,15 +252,15 @@ pub record Loops : Type 0 where
 -- length above 5'.
 pub record Lists : Type 0 where
   pub trimmed : (coeffs : List Float) → Trimmed coeffs (trimmed_of coeffs)
-  pub roots : (coeffs : List Float) (tol : Float) → Within (trimmed_of coeffs - 1) (list_of (real_roots_of coeffs tol).roots)
-  pub array : (coeffs : List Float) (tol : Float) → Fits (real_roots_of coeffs tol).roots
-  pub refused : (coeffs : List Float) (tol : Float) → 0 < (real_roots_of coeffs tol).number → (real_roots_of coeffs tol).roots ≡ no_roots
-  pub numbers : (coeffs : List Float) (tol : Float) → (real_roots_of coeffs tol).number ≤ 3
+  pub roots : (coeffs : List Float) (tol : Float) → Within (trimmed_of coeffs - 1) (list_of (roots_in (real_roots_of coeffs tol)))
+  pub array : (coeffs : List Float) (tol : Float) → Fits (roots_in (real_roots_of coeffs tol))
+  pub refused : (coeffs : List Float) (tol : Float) → 0 < outcome_of (real_roots_of coeffs tol) → roots_in (real_roots_of coeffs tol) ≡ no_roots
+  pub numbers : (coeffs : List Float) (tol : Float) → outcome_of (real_roots_of coeffs tol) ≤ 3
   pub zero : (coeffs : List Float) (tol : Float)
-      → Exactly ((real_roots_of coeffs tol).number ≡ 0) (AllFinite coeffs × (2 ≤ trimmed_of coeffs) × (trimmed_of coeffs ≤ 5))
-  pub one : (coeffs : List Float) (tol : Float) → Exactly ((real_roots_of coeffs tol).number ≡ 1) (SomeNotFinite coeffs)
-  pub two : (coeffs : List Float) (tol : Float) → Exactly ((real_roots_of coeffs tol).number ≡ 2) (AllFinite coeffs × (trimmed_of coeffs ≤ 1))
-  pub three : (coeffs : List Float) (tol : Float) → Exactly ((real_roots_of coeffs tol).number ≡ 3) (AllFinite coeffs × (5 < trimmed_of coeffs))
+      → Exactly (outcome_of (real_roots_of coeffs tol) ≡ 0) (AllFinite coeffs × (2 ≤ trimmed_of coeffs) × (trimmed_of coeffs ≤ 5))
+  pub one : (coeffs : List Float) (tol : Float) → Exactly (outcome_of (real_roots_of coeffs tol) ≡ 1) (SomeNotFinite coeffs)
+  pub two : (coeffs : List Float) (tol : Float) → Exactly (outcome_of (real_roots_of coeffs tol) ≡ 2) (AllFinite coeffs × (trimmed_of coeffs ≤ 1))
+  pub three : (coeffs : List Float) (tol : Float) → Exactly (outcome_of (real_roots_of coeffs tol) ≡ 3) (AllFinite coeffs × (5 < trimmed_of coeffs))
 
 -- ---- 'Contacts that only brush'
 
@@ -263,8 +268,8 @@ pub record Lists : Type 0 where
 -- and then nothing is asked. 'At most (degree − 1) questions, 0 where the degree is 1, the degree being that left once trailing zeros are dropped.' Demand 1
 -- holds of the finished list.
 pub record Inquiries : Type 0 where
-  pub refusal : (coeffs : List Float) (tol : Float) → (start_of coeffs tol).number ≡ refusal_of coeffs
-  pub fed : (touches : Float → Bool) (coeffs : List Float) (tol : Float) → Fed touches (start_of coeffs tol).inquiry coeffs tol
+  pub refusal : (coeffs : List Float) (tol : Float) → outcome_of (start_of coeffs tol) ≡ refusal_of coeffs
+  pub fed : (touches : Float → Bool) (coeffs : List Float) (tol : Float) → Fed touches (inquiry_in (start_of coeffs tol)) coeffs tol
   pub questions : (touches : Float → Bool) (coeffs : List Float) (tol : Float) → length (places_touching_of touches coeffs tol) ≤ degree_left coeffs - 1
   pub roots : (touches : Float → Bool) (coeffs : List Float) (tol : Float) → Within (degree_left coeffs) (real_roots_touching_of touches coeffs tol)
 
@@ -311,13 +316,13 @@ pub record Polishing : Type 0 where
 -- The places with which the roots come to polishing, in order, each with its multiplicity and its gap. All that begins with `solve_of`, as a list does, has
 -- these.
 abbrev pub places_of : List Float → Float → List Ordered
-places_of coeffs tol = let s = solve_of coeffs tol in ordered_of (candidates_of s.poly (zeros_of coeffs) (factorize_of s.poly 0) s.tol).0
+places_of coeffs tol = let s = solved_in (solve_of coeffs tol) in ordered_of (candidates_of s.poly (zeros_of coeffs) (factorize_of s.poly 0) s.tol).0
 
 -- 'A simple root comes to polishing with multiplicity 1. First is the place it comes with, last the one where the loop leaves it.' Whatever the number of
 -- turns n, the k-th place is not worsened where it comes with multiplicity 1; that the coefficients are at most 2 in size is no premise.
 abbrev pub NotWorsened : List Float → Float → Type 0
 NotWorsened coeffs tol =
-    let s = solve_of coeffs tol in
+    let s = solved_in (solve_of coeffs tol) in
     (n k : ℕ) → let first = get_or (places_of coeffs tol) k nowhere in let last = get_or (polished_of n s.poly (places_of coeffs tol)) k blank in
     first.multiplicity ≡ 1 → at_most four64 first.value ≡ true → at_most four64 last.value ≡ true
     → Polished s.poly.f s.poly.d first.value last.value
@@ -325,10 +330,10 @@ NotWorsened coeffs tol =
 -- The same of every answer: what is found are these places, each polished by at most four turns, and then joined. The polynomial is the list's, scaled, 'with
 -- those zeros removed'.
 pub record SimpleRoots : Type 0 where
-  pub polynomial : (coeffs : List Float) (tol : Float) → let s = solve_of coeffs tol in s.number ≡ 0 → s.poly ≡ poly_of coeffs
-  pub found : (coeffs : List Float) (tol : Float) → let s = solve_of coeffs tol in s.number ≡ 0
-      → s.roots ≡ roots_of (joined_of s.poly s.tol (polished_of 4 s.poly (places_of coeffs tol)))
-  pub polished : (coeffs : List Float) (tol : Float) → AllDoubles coeffs → (solve_of coeffs tol).number ≡ 0 → NotWorsened coeffs tol
+  pub polynomial : (coeffs : List Float) (tol : Float) → outcome_of (solve_of coeffs tol) ≡ 0 → (solved_in (solve_of coeffs tol)).poly ≡ poly_of coeffs
+  pub found : (coeffs : List Float) (tol : Float) → outcome_of (solve_of coeffs tol) ≡ 0
+      → let s = solved_in (solve_of coeffs tol) in s.roots ≡ roots_of (joined_of s.poly s.tol (polished_of 4 s.poly (places_of coeffs tol)))
+  pub polished : (coeffs : List Float) (tol : Float) → AllDoubles coeffs → outcome_of (solve_of coeffs tol) ≡ 0 → NotWorsened coeffs tol
 
 -- ---- condition 4 on every contract: 'The entries marked P form one small table, shown from the definitions by one fact about all its rows.'
 
@@ -355,10 +360,10 @@ pub record HallFile : Type 0 where
 -- one such record.
 pub record PinContacts : Type 0 where
   pub every : (confusion : Float) (path : Path) (circle : Circle) → Contacts confusion path circle
-  pub through_the_list : (confusion : Float) (path : Path) (circle : Circle) → (pin_contact_of confusion path circle).number ≡ 0
-      → let s = solve_of (made_of path circle) confusion in (pin_contact_of confusion path circle).roots
+  pub through_the_list : (confusion : Float) (path : Path) (circle : Circle) → outcome_of (pin_contact_of confusion path circle) ≡ 0
+      → let s = solved_in (solve_of (made_of path circle) confusion) in roots_in (pin_contact_of confusion path circle)
       ≡ roots_of (answered (replies_of confusion path circle) (touching s.poly s.tol (list_of s.roots) (pair_list_of s.pairs)))
-  pub polished : (confusion : Float) (path : Path) (circle : Circle) → (pin_contact_of confusion path circle).number ≡ 0
+  pub polished : (confusion : Float) (path : Path) (circle : Circle) → outcome_of (pin_contact_of confusion path circle) ≡ 0
       → NotWorsened (made_of path circle) confusion
   pub line : (s : List ℕ) → length s ≡ 80
       → let file = ascii "PC" ++ s in listing file ≡ ascii "1 PC " ++ (polynomial_text (contact_at file 0) ++ ascii "\n")
@@ -377,35 +382,42 @@ pub record HasKind (replies : List Bool) (f : Formed) (r : RealRoot) : Type 0 wh
 -- These are the roots of a run with these replies, each with its kind. `once`: every question of the run that was replied yes helped to form one chain, once,
 -- and no other question helped to form any; the roots are the chains whose place is finite in x.
 pub record KindsBy (replies : List Bool) (coeffs : List Float) (tol : Float) (roots : List RealRoot) : Type 0 where
-  pub length_is : length roots ≡ length (roots_formed (reply_in replies) (solve_of coeffs tol))
+  pub length_is : length roots ≡ length (roots_formed (reply_in replies) (solved_in (solve_of coeffs tol)))
   pub kinds : (k : ℕ) → k < length roots
-      → HasKind replies (get_or (roots_formed (reply_in replies) (solve_of coeffs tol)) k unformed) (get_or roots k blank)
-  pub asked : (chains_formed (reply_in replies) (solve_of coeffs tol)).0 ≤ length replies
-  pub once : (i : ℕ) → let run = chains_formed (reply_in replies) (solve_of coeffs tol) in
+      → HasKind replies (get_or (roots_formed (reply_in replies) (solved_in (solve_of coeffs tol))) k unformed) (get_or roots k blank)
+  pub asked : (chains_formed (reply_in replies) (solved_in (solve_of coeffs tol))).0 ≤ length replies
+  pub once : (i : ℕ) → let run = chains_formed (reply_in replies) (solved_in (solve_of coeffs tol)) in
       times_of i run.1 ≡ cond (ltb i run.0 && reply_in replies i) 1 0
 
 -- 'crossing where its total multiplicity is 1, .. flat otherwise': no reply has helped to form these roots
 abbrev pub NeverBrush : List RealRoot → Type 0
 NeverBrush roots = (k : ℕ) → k < length roots → HasKind [] (unasked (get_or roots k blank)) (get_or roots k blank)
 
+-- what is shown; where a start is refused, nothing is asked, and no root is listed
+abbrev pub shown_in : Result Seen Refusal → Asked
+shown_in shown = (value_or unseen shown).asked
+
+abbrev pub crank_shown_in : Result CrankShown Refusal → Asked
+crank_shown_in shown = (value_or (record { k = 0; seen = unseen }) shown).seen.asked
+
 -- 'The kind follows the root everywhere': to the list, which never has a brush; to an inquiry's finished list, fed by a function or with whatever replies, and
 -- to a crank's; to the record TG, whose questions are all replied no and which never has a brush either; and to a contact. 'The lines for PL, TG and PC print
 -- it as c, b or f after the multiplicity and a blank.'
 pub record Kinds : Type 0 where
-  pub list : (coeffs : List Float) (tol : Float) → NeverBrush (list_of (real_roots_of coeffs tol).roots)
+  pub list : (coeffs : List Float) (tol : Float) → NeverBrush (list_of (roots_in (real_roots_of coeffs tol)))
   pub fed : (touches : Float → Bool) (coeffs : List Float) (tol : Float)
       → KindsBy (map touches (places_touching_of touches coeffs tol)) coeffs tol (real_roots_touching_of touches coeffs tol)
   pub inquiry : (replies : Replies) (coeffs : List Float) (tol : Float) → RepliesFit replies
-      → let shown = (shown_after_of coeffs tol replies).seen.asked in shown.asking ≡ false
-      → KindsBy (given.replies_of replies) coeffs tol (list_of shown.list)
+      → let shown = shown_in (shown_after_of coeffs tol replies) in is_question shown ≡ false
+      → KindsBy (given.replies_of replies) coeffs tol (list_of (list_in shown))
   pub crank_inquiry : (replies : Replies) (confusion : Float) (trig : TrigEquation) → RepliesFit replies
-      → let shown = (crank_shown_of confusion trig replies).seen.asked in shown.asking ≡ false
-      → KindsBy (given.replies_of replies) (trig_quartic_of trig) confusion (list_of shown.list)
-  pub crank : (confusion : Float) (trig : TrigEquation) → NeverBrush (list_of (crank_of confusion trig).roots)
-  pub contact : (confusion : Float) (path : Path) (circle : Circle) → (pin_contact_of confusion path circle).number ≡ 0
+      → let shown = crank_shown_in (crank_shown_of confusion trig replies) in is_question shown ≡ false
+      → KindsBy (given.replies_of replies) (trig_quartic_of trig) confusion (list_of (list_in shown))
+  pub crank : (confusion : Float) (trig : TrigEquation) → NeverBrush (list_of (crank_roots_in (crank_of confusion trig)))
+  pub contact : (confusion : Float) (path : Path) (circle : Circle) → outcome_of (pin_contact_of confusion path circle) ≡ 0
       → let touches = replies_of confusion path circle in
       KindsBy (map touches (places_touching_of touches (made_of path circle) confusion)) (made_of path circle) confusion
-      (list_of (pin_contact_of confusion path circle).roots)
+      (list_of (roots_in (pin_contact_of confusion path circle)))
   pub line : (r : RealRoot) → root_text r ≡ (place_text r.value ++ (32 ∷ decimal r.multiplicity)) ++ (32 ∷ letter_of r.kind ∷ [])
   pub letters : letter_of Crossing ∷ letter_of Brush ∷ letter_of Flat ∷ [] ≡ ascii "cbf"
 
@@ -420,8 +432,8 @@ pub record Kinds : Type 0 where
 -- bytes are missing, '7, fewer bytes than the record needs'. `rows` and `order`: what some texts come to, and the parts of one.
 pub record TypedFormulas : Type 0 where
   pub every : (s : List ℕ) (tol : Float) → Formulas s tol
-  pub polished : (s : List ℕ) (tol : Float) → (formula_roots_of s tol).number ≡ 0 → NotWorsened (handed_on (formula_of s)) tol
-  pub kinds : (s : List ℕ) (tol : Float) → NeverBrush (list_of (formula_roots_of s tol).roots)
+  pub polished : (s : List ℕ) (tol : Float) → outcome_of (formula_roots_of s tol) ≡ 0 → NotWorsened (handed_on (formula_of s)) tol
+  pub kinds : (s : List ℕ) (tol : Float) → NeverBrush (list_of (roots_in (formula_roots_of s tol)))
   pub line : (tolerance text : List ℕ) → length tolerance ≡ 8 → length text ≤ 255
       → let file = ascii "TX" ++ (length text ∷ tolerance ++ text) in
       listing file ≡ ascii "1 TX " ++ (polynomial_text (formula_roots_of text (f64_at file 3)) ++ ascii "\n")

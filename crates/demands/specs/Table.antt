@@ -1,7 +1,9 @@
 -- Document 01's entries marked P: calls, each with the answer that the paper states. Definitions only.
-use Rattle.std.specs.Prelude.{false, cond, List, [], ◌∷◌, ℕ, ◌-◌, eqb, ℤ, pos, length, Float}
+use Rattle.std.specs.Prelude.{false, List, [], ◌∷◌, ℕ, ◌-◌, ℤ, pos, length, Float, Result, Ok, Err}
 use Rattle.std.specs.Float.{nan, inf, fin}
 use Rattle.std.specs.Float.Ieee.{neg, minus}
+use Rattle.refusals.specs.declared.Refusal.{Refusal}
+use Rattle.refusals.specs.Refusals.{number_of}
 use Rattle.float.specs.Literals.{one64, two64, three64}
 use Rattle.float.specs.Dyadic.{◌/2^◌}
 use Rattle.sqrt.specs.Root.{sqrt_of}
@@ -10,6 +12,7 @@ use Rattle.angle.specs.Third.{third_angle_of}
 use Rattle.log2.specs.Log.{log2_grid_of}
 use Rattle.scaled.specs.Scaled.{scaled_of}
 use Rattle.roots.specs.declared.RealRoot.{RealRoot}
+use Rattle.roots.specs.declared.Roots.{Roots}
 use Rattle.roots.specs.Roots.{root, list_of}
 use Rattle.poly.specs.RealRoots.{real_roots_of}
 
@@ -29,6 +32,11 @@ pub data RowAnswer : Type 0 where
   roots : List RealRoot → RowAnswer
   refused : ℕ → RowAnswer
 
+-- the roots, or the number of the refusal
+abbrev pub list_answer : Result Roots Refusal → RowAnswer
+list_answer (Ok l) = roots (list_of l)
+list_answer (Err refusal) = refused (number_of refusal)
+
 -- what the definitions give
 unfoldable pub row_answer_of : Call → RowAnswer
 unfolding sqrt_of cbrt_of third_angle_of log2_grid_of scaled_of real_roots_of
@@ -37,7 +45,7 @@ row_answer_of (cube_root x) = number (cbrt_of x)
 row_answer_of (third_angle v) = pair (third_angle_of v).cos (third_angle_of v).sin
 row_answer_of (logarithm x) = number (log2_grid_of x)
 row_answer_of (exponent a) = power (scaled_of a (length a - 1)).e
-row_answer_of (list coeffs tol) = let r = real_roots_of coeffs tol in cond (eqb r.number 0) (roots (list_of r.roots)) (refused r.number)
+row_answer_of (list coeffs tol) = list_answer (real_roots_of coeffs tol)
 
 -- a call and its answer
 pub record Row : Type 0 where

@@ -7,7 +7,6 @@ use borrow.Author.Tests.{lt-ltb}
 use lib.ListN.{get_or}
 use lib.Ieee.{Float, nan}
 use Rattle.quartic.specs.declared.QuarticFactor.{QuarticFactor}
-use Rattle.isolated.specs.declared.Disc.{Disc}
 use Rattle.isolated.specs.declared.Pairing.{Pairing}
 use Rattle.isolated.specs.Isolated.{disc_of, isolated_of, isolated_root_of}
 use Rattle.factors.specs.declared.Factors.{Factors}

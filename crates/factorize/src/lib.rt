@@ -16,13 +16,15 @@ fn cubic_factors(b: f64, c: f64, d: f64) -> factors::Factors
         .push_quad(k.e, k.f)
 }
 
-// Factors, and the discriminants of the quadratic ones.
+// Factors, and the discriminants of the quadratic ones: beside the factors, not in them, since Factors is the Rust's, and those that are merged or large have
+// no discriminants yet.
 #[derive(Clone, Copy)]
 pub struct Rooted {
     pub f: factors::Factors,
     pub disc: [isolated::Disc; 2],
 }
 
+#[tactic(auto, unfolding(crate::specs::Discs::disc_at))]
 fn disc_at(f: factors::Factors, i: usize) -> isolated::Disc
     requires { i < 2 }
     ensures { result ≡ disc_at f i }
@@ -41,10 +43,11 @@ fn disc_at(f: factors::Factors, i: usize) -> isolated::Disc
 fn with_discs(f: factors::Factors) -> Rooted
     ensures { result ≡ rooted_of f }
 {
-    let disc = [disc_at(f, 0), disc_at(f, 1)];
+    let disc = std::array::from_fn(|i| disc_at(f, i));
     Rooted { f, disc }
 }
 
+#[tactic(auto, using(crate::proofs::Ways::quartics))]
 fn quartic_factors(b: f64, c: f64, d: f64, e: f64) -> Rooted
     ensures { result ≡ rooted_of (quartic_factors_of b c d e) }
 {
@@ -72,6 +75,7 @@ fn quartic_factors(b: f64, c: f64, d: f64, e: f64) -> Rooted
 }
 
 // The factors at this scale.
+#[tactic(auto, unfolding(crate::specs::Factorize::out_of))]
 fn out_of(g: [f64; 5], d: usize) -> Rooted
     ensures { result ≡ rooted_of (out_of g d) }
 {
@@ -85,7 +89,7 @@ fn out_of(g: [f64; 5], d: usize) -> Rooted
 }
 
 // A quadratic needs no second scaling: its roots are accurate each.
-#[tactic(auto, using(crate::proofs::Ways::stops_deep, crate::proofs::Ways::stops_small))]
+#[tactic(auto, using(crate::proofs::Ways::ways, crate::proofs::Sizes::sizes))]
 pub fn factorize_rooted(sc: scaled::Scaled, depth: u32) -> Rooted
     requires { sc.d ≤ 4 }
     ensures { result ≡ rooted_of (factorize_of sc depth) }
@@ -114,6 +118,7 @@ pub fn factorize_rooted(sc: scaled::Scaled, depth: u32) -> Rooted
     with_discs(quotient::merged(large, inner.f, sub.e))
 }
 
+#[tactic(auto, using(crate::proofs::Discs::the_factors))]
 pub fn factorize(sc: scaled::Scaled, depth: u32) -> factors::Factors
     requires { sc.d ≤ 4 }
     ensures { result ≡ factorize_of sc depth }

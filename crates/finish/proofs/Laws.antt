@@ -2,18 +2,19 @@
 use mathlib.Core.Path.{◌≡◌, sym, ap, ◌∙◌}
 use mathlib.Core.Bool.{Bool}
 use mathlib.Core.List.{List, map}
-use Prim.Native.Nat.{ℕ, zero, suc, ◌+◌, ◌-◌, ◌<◌}
+use Prim.Native.Nat.{ℕ, zero, suc, ◌+◌, ◌≤◌}
 use native.Mathlib.Numerals.{add-one}
 use native.Mathlib.Omega.{arith}
 use lib.ListN.{length, drop, drop_of_length-le}
 use lib.Seq.{drop-cons}
 use Rattle.facts.specs.Arrays.{fill_from, from_fn}
+use Rattle.facts.specs.Lists.{length_mapped}
 use Rattle.facts.specs.Sort.{sorted_by}
 use Rattle.facts.proofs.Sort.{length_sorted, sum_sorted}
 use Rattle.float.specs.Methods.{total_le_of}
 use Rattle.scaled.specs.declared.Scaled.{Scaled}
 use Rattle.roots.specs.Roots.{list_of}
-use Rattle.roots.specs.Listed.{blank, Fits, multiplicities}
+use Rattle.roots.specs.Listed.{blank, multiplicities}
 use Rattle.roots.specs.declared.Roots.{Roots}
 use Rattle.roots.proofs.Laws.{length_list}
 use Rattle.roots.specs.declared.RealRoot.{RealRoot}
@@ -35,14 +36,13 @@ sum_polished n poly c =
     sum_placed n poly (sorted_by before c) 0 (length c) (omega (arith, length_sorted before c)) ∙ sum_sorted before (λ (r : RealRoot). r.multiplicity) c
 
 -- ---- the two steps together
-pub placed_list : (poly : Scaled) (c : Roots) (o p : List RealRoot) (n : ℕ) → Fits c → o ≡ by_value (list_of c) → n ≡ c.len
-    → p ≡ polished_of 4 poly (from_fn n (ordered_at o)) → p ≡ polished_of 4 poly (ordered_of (list_of c))
-unfolding ordered_of
-placed_list poly c o p n f a b e =
-    e
-    ∙ ap (λ (l : List RealRoot). polished_of 4 poly (from_fn n (ordered_at l))) a
-    ∙ ap (λ (k : ℕ). polished_of 4 poly (from_fn k (ordered_at (by_value (list_of c))))) (b ∙ sym (length_list c f))
+module _ (poly : Scaled) (c : Roots) (f : length c.root ≡ 4) (few : c.len ≤ 4) where
+  pub placed_list : polished_of 4 poly (from_fn c.len (ordered_at (by_value (list_of c)))) ≡ polished_of 4 poly (ordered_of (list_of c))
+  unfolding ordered_of
+  placed_list = ap (λ (k : ℕ). polished_of 4 poly (from_fn k (ordered_at (by_value (list_of c))))) (sym (length_list c (f, few)))
 
-pub placed_bound : (poly : Scaled) (c : Roots) (p : List RealRoot) (most : ℕ) → p ≡ polished_of 4 poly (ordered_of (list_of c))
-    → multiplicities (list_of c) < most → multiplicities p < most
-placed_bound poly c p most e h = rw (e, sum_polished 4 poly (list_of c)) h
+  pub placed_sum : multiplicities (polished_of 4 poly (from_fn c.len (ordered_at (by_value (list_of c))))) ≡ multiplicities (list_of c)
+  placed_sum = ap multiplicities placed_list ∙ sum_polished 4 poly (list_of c)
+
+-- What the function's proof rests on.
+pub ruleset placed = (length_mapped, placed_list, placed_sum)

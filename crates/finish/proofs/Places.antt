@@ -12,7 +12,7 @@ use lib.Seq.{take-suc, get_or-take, length-take-le}
 use lib.Ieee.{Float, binary64, sub}
 use Rattle.facts.specs.Arrays.{fill_from, from_fn}
 use Rattle.facts.specs.Cond.{if_taken, if_left, either_way}
-use Rattle.facts.specs.Lists.{drop_next}
+use Rattle.facts.specs.Lists.{drop_next, length_mapped}
 use Rattle.facts.specs.Sort.{inserted_by, inserted_all, sorted_by}
 use Rattle.facts.proofs.Sort.{length_sorted}
 use Rattle.float.specs.Literals.{inf64}
@@ -20,6 +20,7 @@ use Rattle.float.specs.Methods.{min_of, total_le_of}
 use Rattle.scaled.specs.declared.Scaled.{Scaled}
 use Rattle.roots.specs.Roots.{list_of}
 use Rattle.roots.specs.Listed.{blank, Fits}
+use Rattle.roots.proofs.Laws.{length_list}
 use Rattle.roots.specs.declared.RealRoot.{RealRoot}
 use Rattle.roots.specs.declared.Roots.{Roots}
 use Rattle.finish.specs.Finish.{value_at, by_value, below_of, above_of, ordered_at, polished_at, polished_of}
@@ -50,11 +51,20 @@ module _ (a x : RealRoot) (l : List RealRoot) where
   unfolding inserted_by
   put_before t = simp t
 
-  -- behind the first, where rest has x put among the others
-  pub put_behind : (rest : List RealRoot) → total_le_of a.value x.value ≡ true → rest ≡ inserted x l
-      → a ∷ places_of (suc (length l)) rest ≡ inserted x (a ∷ l)
+  -- behind the first, with x put among the others
+  put_behind : total_le_of a.value x.value ≡ true → inserted x (a ∷ l) ≡ a ∷ places_of (suc (length l)) (inserted x l)
   unfolding inserted_by
-  put_behind rest t e = simp t (ap (λ (m : List RealRoot). a ∷ m) (read_all rest (suc (length l)) (ap length e ∙ length_inserted x l) ∙ e))
+  put_behind t = simp t (ap (λ (m : List RealRoot). a ∷ m) (sym (read_all (inserted x l) (suc (length l)) (length_inserted x l))))
+
+module _ (a b c x : RealRoot) where
+  pub behind_first : total_le_of a.value x.value ≡ true
+      → inserted x (a ∷ b ∷ []) ≡ a ∷ get_or (inserted x (b ∷ [])) 0 blank ∷ get_or (inserted x (b ∷ [])) 1 blank ∷ []
+  behind_first t = put_behind a x (b ∷ []) t
+
+  pub behind_first_of_three : total_le_of a.value x.value ≡ true
+      → inserted x (a ∷ b ∷ c ∷ [])
+      ≡ a ∷ get_or (inserted x (b ∷ c ∷ [])) 0 blank ∷ get_or (inserted x (b ∷ c ∷ [])) 1 blank ∷ get_or (inserted x (b ∷ c ∷ [])) 2 blank ∷ []
+  behind_first_of_three t = put_behind a x (b ∷ c ∷ []) t
 
 -- ---- in order: k places, and then one more
 sorted_snoc : {A : Type 0} (before : A → A → Bool) (s l : List A) (x : A) → inserted_all before s (l ++ x ∷ []) ≡ inserted_by before x (inserted_all before s l)
@@ -72,7 +82,7 @@ module _ (l : List RealRoot) where
   length_of_sorted k s h e = ap length e ∙ length_sorted _ (take k l) ∙ length-take-le k l h
 
   -- one place more, and the first by itself
-  pub next_sorted : (k : ℕ) {s t : List RealRoot} → k < length l → Sorted k s → t ≡ inserted (get_or l k blank) (places_of k s) → Sorted (k + 1) t
+  next_sorted : (k : ℕ) {s t : List RealRoot} → k < length l → Sorted k s → t ≡ inserted (get_or l k blank) (places_of k s) → Sorted (k + 1) t
   unfolding by_value sorted_by
   next_sorted k {s} h e f =
       f
@@ -80,9 +90,23 @@ module _ (l : List RealRoot) where
       ∙ sym (sorted_snoc _ [] (take k l) (get_or l k blank))
       ∙ ap by_value (sym (take-suc l k blank h) ∙ ap (λ (j : ℕ). take j l) (sym (add-one k)))
 
-  pub first_sorted : 0 < length l → Sorted 1 (get_or l 0 blank ∷ [])
+  first_sorted : 0 < length l → Sorted 1 (get_or l 0 blank ∷ [])
   unfolding by_value sorted_by inserted_all inserted_by
   first_sorted h = next_sorted 0 {s = []} h refl refl
+
+  -- two places, three and four
+  module _ (four : length l ≡ 4) where
+    pub two_sorted : by_value (take 2 l) ≡ inserted (get_or l 1 blank) (get_or l 0 blank ∷ [])
+    two_sorted = sym (next_sorted 1 (omega arith) (first_sorted (omega arith)) refl)
+
+    pub three_sorted : by_value (take 3 l)
+        ≡ inserted (get_or l 2 blank) (get_or (by_value (take 2 l)) 0 blank ∷ get_or (by_value (take 2 l)) 1 blank ∷ [])
+    three_sorted = sym (next_sorted 2 (omega arith) refl refl)
+
+    pub four_sorted : by_value (take 4 l)
+        ≡ inserted (get_or l 3 blank)
+        (get_or (by_value (take 3 l)) 0 blank ∷ get_or (by_value (take 3 l)) 1 blank ∷ get_or (by_value (take 3 l)) 2 blank ∷ [])
+    four_sorted = sym (next_sorted 3 (omega arith) refl refl)
 
 -- all places that count
 pub few_sorted : (l : List RealRoot) → length l < 2 → l ≡ by_value l
@@ -151,3 +175,8 @@ all_polished poly o h e =
     ap (take o.len) e
     ∙ taken_made (place_polished poly o) (polished_in poly o) o.len 4 0 h (λ j l. rw (lt-ltb j o.len (omega arith)))
     ∙ sym (map_filled (polished_at 4 poly) (ordered_at (list_of o)) 0 o.len)
+
+-- What the functions' proofs rest on.
+pub ruleset places = (length_mapped, length_list, put_before, behind_first, behind_first_of_three, two_sorted, three_sorted, four_sorted, few_sorted, places_sorted)
+
+pub ruleset gaps = (length_mapped, length_list, below_first, below_next, above_last, above_next)

@@ -7,6 +7,7 @@ use native.Mathlib.Nat.{le_refl}
 use native.Mathlib.Omega.{arith}
 use lib.ListN.{get_or, take, drop}
 use lib.Ieee.{Float}
+use Rattle.facts.specs.Lists.{length_mapped}
 use Rattle.scaled.specs.declared.Scaled.{Scaled}
 use Rattle.roots.specs.Roots.{list_of, roots_of, no_roots, kept, kept_in}
 use Rattle.roots.specs.Listed.{blank, Fits, multiplicities}
@@ -73,21 +74,25 @@ module _ (poly : Scaled) (tol : Float) where
       }
 
 -- one place more, and after the last
-module _ {poly : Scaled} {tol : Float} {p : Roots} {k : ℕ} {run : Run} where
+module _ (poly : Scaled) (tol : Float) (p : Roots) (k : ℕ) (run : Run) where
   pub joins_both : k < p.len → Joining poly tol p k run → run.at.multiplicity + (get_or p.root k blank).multiplicity < 2 ^ 32
   joins_both h w = omega (arith, sum_left poly tol p k w.fits h, w.adds)
 
-  pub joins_next : {next : Run} → k < p.len → Joining poly tol p k run → next ≡ next_run poly run (get_or p.root k blank) tol
-      → Joining poly tol p (k + 1) next
+  abbrev more : Run
+  more = next_run poly run (get_or p.root k blank) tol
+
+  pub next_whole : k < p.len → Joining poly tol p k run → runs_of poly tol more (drop (k + 1) (list_of p)) ≡ roots_of (joined_of poly tol (list_of p))
   unfolding runs_of
-  joins_next h w e =
-      rw e
-      (record {
-        fits = w.fits;
-        whole = sym (ap (runs_of poly tol run) (roots_cons p k w.fits h)) ∙ w.whole;
-        adds = omega (arith, sum_left poly tol p k w.fits h, next_sum poly tol run (get_or p.root k blank), w.adds);
-      })
+  next_whole h w = sym (ap (runs_of poly tol run) (roots_cons p k w.fits h)) ∙ w.whole
+
+  pub next_adds : k < p.len → Joining poly tol p k run → more.at.multiplicity + multiplicities (drop (k + 1) (list_of p)) < 2 ^ 32
+  next_adds h w = omega (arith, sum_left poly tol p k w.fits h, next_sum poly tol run (get_or p.root k blank), w.adds)
 
   pub joins_last : p.len ≤ k → Joining poly tol p k run → kept_in run.out run.at ≡ roots_of (joined_of poly tol (list_of p))
   unfolding runs_of
   joins_last h w = sym (ap (runs_of poly tol run) (roots_nil p k w.fits h)) ∙ w.whole
+
+-- What the functions' proofs rest on.
+pub ruleset next = (next_joined, next_ended)
+
+pub ruleset runs = (length_mapped, joined_none, joins_first, joins_both, next_whole, next_adds, joins_last)

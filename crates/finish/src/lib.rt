@@ -6,14 +6,29 @@
 ghost use Rattle.std.specs.Prelude.{◌≡◌, [], ◌∷◌, ◌+◌, ◌^◌, ◌≤◌, ◌<◌, take};
 ghost use Rattle.facts.specs.Arrays.{from_fn};
 ghost use Rattle.float.specs.Methods.{min_of};
-ghost use Rattle.roots.specs.Roots.{list_of, roots_of, kept_in};
+ghost use Rattle.roots.specs.Roots.{list_of, roots_of};
 ghost use Rattle.roots.specs.Listed.{multiplicities};
 ghost use Rattle.finish.specs.Finish.{by_value, below_of, above_of, ordered_at, polished_at, polished_of, is_near_of, join_of, joined_of, finish_of};
 ghost use Rattle.finish.specs.Places.{inserted, place_of, place_polished};
-ghost use Rattle.finish.specs.Run.{next_run, Joining};
+ghost use Rattle.finish.specs.Run.{next_run};
 
 use roots::{RealRoot, Roots};
 use scaled::Scaled;
+
+// A scaled polynomial, and the tolerance of its band.
+#[derive(Clone, Copy)]
+struct Banded {
+    poly: Scaled,
+    tol: f64,
+    ghost degree: { poly.d ≤ 4 },
+}
+
+// Places in order.
+#[derive(Clone, Copy)]
+struct Placed {
+    roots: Roots,
+    ghost few: { roots.len ≤ 4 },
+}
 
 // The places of the runs that have ended, and the run at hand.
 #[derive(Clone, Copy)]
@@ -24,6 +39,7 @@ struct Run {
 
 // The root x put behind those of the places before it that stand before it, ties among them: one, two and three.
 // No one function over any number of places n says this, since the result's length, n + 1, is no const argument.
+#[tactic(auto, unfolding(facts::specs::Sort::inserted_by))]
 fn behind_one(a: RealRoot, x: RealRoot) -> [RealRoot; 2]
     ensures { result ≡ inserted x (a ∷ []) }
 {
@@ -33,6 +49,7 @@ fn behind_one(a: RealRoot, x: RealRoot) -> [RealRoot; 2]
     [x, a]
 }
 
+#[tactic(auto, using(crate::proofs::Places::places))]
 fn behind_two(a: RealRoot, b: RealRoot, x: RealRoot) -> [RealRoot; 3]
     ensures { result ≡ inserted x (a ∷ b ∷ []) }
 {
@@ -43,6 +60,7 @@ fn behind_two(a: RealRoot, b: RealRoot, x: RealRoot) -> [RealRoot; 3]
     [x, a, b]
 }
 
+#[tactic(auto, using(crate::proofs::Places::places))]
 fn behind_three(a: RealRoot, b: RealRoot, c: RealRoot, x: RealRoot) -> [RealRoot; 4]
     ensures { result ≡ inserted x (a ∷ b ∷ c ∷ []) }
 {
@@ -54,12 +72,14 @@ fn behind_three(a: RealRoot, b: RealRoot, c: RealRoot, x: RealRoot) -> [RealRoot
 }
 
 // The first two places in order, the first three and the first four.
+#[tactic(auto, using(crate::proofs::Places::places))]
 fn first_two(c: Roots) -> [RealRoot; 2]
     ensures { result ≡ by_value (take 2 c.root) }
 {
     behind_one(c.root[0], c.root[1])
 }
 
+#[tactic(auto, using(crate::proofs::Places::places))]
 fn first_three(c: Roots) -> [RealRoot; 3]
     ensures { result ≡ by_value (take 3 c.root) }
 {
@@ -67,6 +87,7 @@ fn first_three(c: Roots) -> [RealRoot; 3]
     behind_two(two[0], two[1], c.root[2])
 }
 
+#[tactic(auto, using(crate::proofs::Places::places))]
 fn first_four(c: Roots) -> [RealRoot; 4]
     ensures { result ≡ by_value (take 4 c.root) }
 {
@@ -74,6 +95,8 @@ fn first_four(c: Roots) -> [RealRoot; 4]
     behind_three(three[0], three[1], three[2], c.root[3])
 }
 
+// (By hand: std's stable sort takes a heap. Each place by its number, so that the compiler keeps the roots in registers.)
+#[tactic(auto, using(crate::proofs::Places::places))]
 pub fn ordered(c: Roots) -> Roots
     requires { c.len ≤ 4 }
     ensures { (list_of result ≡ by_value (list_of c)) × (result.len ≡ c.len) }
@@ -102,82 +125,31 @@ pub fn ordered(c: Roots) -> Roots
     }
 }
 
-// There is no neighbour below the first place and above the last.
-fn below(o: Roots, k: usize) -> f64
-    requires { (o.len ≤ 4) × (k < o.len) }
-    ensures { result ≡ below_of (list_of o) k }
-{
-    if k > 0 {
-        let here = o.root[k];
-        let there = o.root[k - 1];
-        return here.value - there.value;
+impl Placed {
+    // The distance to the nearer neighbour: there is none below the first place and above the last.
+    #[tactic(auto, using(crate::proofs::Places::gaps))]
+    fn gap(self, k: usize) -> f64
+        requires { k < self.roots.len }
+        ensures { result ≡ min_of (below_of (list_of self.roots) k) (above_of (list_of self.roots) k) }
+    {
+        let o = self.roots;
+        let here = o.root[k].value;
+        let below = if k > 0 {
+            here - o.root[k - 1].value
+        } else {
+            f64::INFINITY
+        };
+        let above = if k + 1 < o.len {
+            o.root[k + 1].value - here
+        } else {
+            f64::INFINITY
+        };
+        float::min(below, above)
     }
-    float::infinity()
-}
-
-fn above(o: Roots, k: usize) -> f64
-    requires { (o.len ≤ 4) × (k < o.len) }
-    ensures { result ≡ above_of (list_of o) k }
-{
-    if k + 1 < o.len {
-        let here = o.root[k];
-        let there = o.root[k + 1];
-        return there.value - here.value;
-    }
-    float::infinity()
-}
-
-fn gap(o: Roots, k: usize) -> f64
-    requires { (o.len ≤ 4) × (k < o.len) }
-    ensures { result ≡ min_of (below_of (list_of o) k) (above_of (list_of o) k) }
-{
-    float::min(below(o, k), above(o, k))
-}
-
-// A root at this gap from its nearest neighbour, polished where it is simple.
-#[tactic(auto, unfolding(crate::specs::Finish::polished_at))]
-fn polished_by(poly: Scaled, r: RealRoot, gap: f64) -> RealRoot
-    requires { poly.d ≤ 4 }
-    ensures { result ≡ polished_at 4 poly (place_of r gap) }
-{
-    if r.multiplicity != 1 {
-        return RealRoot::new(r.value, r.multiplicity);
-    }
-    let y = polish::polish(poly.polynomial(), r.value, gap);
-    RealRoot::new(y, 1)
-}
-
-// Place k, where it counts.
-fn place_polished(poly: Scaled, o: Roots, k: usize) -> RealRoot
-    requires poly_d_high { poly.d ≤ 4 }
-    requires o_len_high { o.len ≤ 4 }
-    requires k_high { k < 4 }
-    ensures { result ≡ place_polished poly o k }
-{
-    if k < o.len {
-        return polished_by(poly, o.root[k], gap(o, k));
-    }
-    o.root[k]
-}
-
-fn polished(poly: Scaled, o: Roots) -> Roots
-    requires poly_d_high { poly.d ≤ 4 }
-    requires o_len_high { o.len ≤ 4 }
-    ensures { (list_of result ≡ polished_of 4 poly (from_fn o.len (ordered_at (list_of o)))) × (result.len ≡ o.len) }
-{
-    let root = std::array::from_fn(|k| place_polished(poly, o, k));
-    Roots { root, len: o.len }
-}
-
-// Whether the next place is within the band of y.
-fn is_near(poly: Scaled, y: f64, next: f64, tol: f64) -> bool
-    requires { poly.d ≤ 4 }
-    ensures { result ≡ is_near_of poly y next tol }
-{
-    band::within_band(poly, 0.5 * (next - y), 0.5 * (next + y), tol)
 }
 
 // The mean of two places, weighted by their multiplicities.
+#[tactic(auto, unfolding(crate::specs::Finish::join_of))]
 fn join(a: RealRoot, b: RealRoot) -> RealRoot
     requires { a.multiplicity + b.multiplicity < 2 ^ 32 }
     ensures { result ≡ join_of a b }
@@ -187,63 +159,95 @@ fn join(a: RealRoot, b: RealRoot) -> RealRoot
     RealRoot::new(sum / total as f64, total)
 }
 
-// The next place b joins the run, or ends it and begins the next one.
-fn next_run(poly: Scaled, run: Run, b: RealRoot, tol: f64) -> Run
-    requires poly_d_high { poly.d ≤ 4 }
-    requires sum_high { run.at.multiplicity + b.multiplicity < 2 ^ 32 }
-    ensures { result ≡ next_run poly run b tol }
-{
-    let out = run.out;
-    let a = run.at;
-    if is_near(poly, a.value, b.value, tol) {
-        let at = join(a, b);
-        return Run { out, at };
+impl Banded {
+    // A root at this gap from its nearest neighbour, polished where it is simple.
+    #[tactic(auto, unfolding(crate::specs::Finish::polished_at))]
+    fn polished_by(self, r: RealRoot, gap: f64) -> RealRoot
+        ensures { result ≡ polished_at 4 self.poly (place_of r gap) }
+    {
+        if r.multiplicity != 1 {
+            return RealRoot::new(r.value, r.multiplicity);
+        }
+        let y = polish::polish(self.poly.polynomial(), r.value, gap);
+        RealRoot::new(y, 1)
     }
-    let more = out.keep_root(a);
-    Run { out: more, at: b }
-}
 
-// Place k comes next.
-fn run_at(poly: Scaled, run: Run, p: Roots, k: usize, tol: f64) -> Run
-    requires poly_d_high { poly.d ≤ 4 }
-    requires joining { (p.len ≤ 4) × (k < p.len) × Joining poly tol p k run }
-    ensures { Joining poly tol p (k + 1) result }
-{
-    next_run(poly, run, p.root[k], tol)
-}
-
-// The last run ends.
-fn ended(run: Run) -> Roots
-    ensures { result ≡ kept_in run.out run.at }
-{
-    let out = run.out;
-    out.keep_root(run.at)
-}
-
-fn joined(poly: Scaled, p: Roots, tol: f64) -> Roots
-    requires poly_d_high { poly.d ≤ 4 }
-    requires p_fits { (p.len ≤ 4) × (multiplicities (list_of p) < 2 ^ 32) }
-    ensures { result ≡ roots_of (joined_of poly tol (list_of p)) }
-{
-    let none = Roots::none();
-    if p.len == 0 {
-        return none;
+    // Place k, where it counts.
+    #[tactic(auto, using(crate::proofs::Places::polished_is))]
+    fn place_polished(self, o: Placed, k: usize) -> RealRoot
+        requires { k < 4 }
+        ensures { result ≡ place_polished self.poly o.roots k }
+    {
+        if k < o.roots.len {
+            return self.polished_by(o.roots.root[k], o.gap(k));
+        }
+        o.roots.root[k]
     }
-    let at = p.root[0];
-    let mut run = Run { out: none, at };
-    for k in 1..p.len {
-        run = run_at(poly, run, p, k, tol);
+
+    fn polished(self, o: Placed) -> Placed
+        ensures { (list_of result.roots ≡ polished_of 4 self.poly (from_fn o.roots.len (ordered_at (list_of o.roots))))
+            × (result.roots.len ≡ o.roots.len) }
+    {
+        let root = std::array::from_fn(|k| self.place_polished(o, k));
+        let roots = Roots {
+            root,
+            len: o.roots.len,
+        };
+        Placed { roots }
     }
-    ended(run)
+
+    // Whether the next place is within the band of y.
+    #[tactic(auto, unfolding(crate::specs::Finish::is_near_of))]
+    fn is_near(self, y: f64, next: f64) -> bool
+        ensures { result ≡ is_near_of self.poly y next self.tol }
+    {
+        band::within_band(self.poly, 0.5 * (next - y), 0.5 * (next + y), self.tol)
+    }
+
+    // The next place b joins the run, or ends it and begins the next one.
+    #[tactic(auto, using(crate::proofs::Runs::next))]
+    fn next_run(self, run: Run, b: RealRoot) -> Run
+        requires { run.at.multiplicity + b.multiplicity < 2 ^ 32 }
+        ensures { result ≡ next_run self.poly run b self.tol }
+    {
+        let out = run.out;
+        let a = run.at;
+        if self.is_near(a.value, b.value) {
+            let at = join(a, b);
+            return Run { out, at };
+        }
+        let more = out.keep_root(a);
+        Run { out: more, at: b }
+    }
+
+    #[tactic(auto, using(crate::proofs::Runs::runs))]
+    fn joined(self, placed: Placed) -> Roots
+        requires { multiplicities (list_of placed.roots) < 2 ^ 32 }
+        ensures { result ≡ roots_of (joined_of self.poly self.tol (list_of placed.roots)) }
+    {
+        let none = Roots::none();
+        let p = placed.roots;
+        if p.len == 0 {
+            return none;
+        }
+        let at = p.root[0];
+        let mut run = Run { out: none, at };
+        for k in 1..p.len {
+            run = self.next_run(run, p.root[k]);
+        }
+        let out = run.out;
+        out.keep_root(run.at)
+    }
 }
 
 // The u32 sums do not overflow: what the candidates' multiplicities add up to is a u32.
+#[tactic(auto, using(crate::proofs::Laws::placed), unfolding(crate::specs::Finish::finish_of))]
 pub fn finish(poly: Scaled, c: Roots, tol: f64) -> Roots
     requires poly_d_high { poly.d ≤ 4 }
     requires c_fits { (c.len ≤ 4) × (multiplicities (list_of c) < 2 ^ 32) }
     ensures { result ≡ roots_of (finish_of poly (list_of c) tol) }
 {
-    let o = ordered(c);
-    let p = polished(poly, o);
-    joined(poly, p, tol)
+    let b = Banded { poly, tol };
+    let o = Placed { roots: ordered(c) };
+    b.joined(b.polished(o))
 }

@@ -1,7 +1,7 @@
 -- Writing eight bytes, and reading them back.
 use mathlib.Core.Path.{◌≡◌, refl, sym, ap, ◌∙◌}
 use mathlib.Core.List.{List, [], ◌∷◌, ◌++◌, append_assoc}
-use Prim.Native.Nat.{ℕ, zero, suc, ◌+◌, ◌-◌, ◌/◌, ◌%◌, ◌^◌, ◌<◌, ◌≤◌}
+use Prim.Native.Nat.{ℕ, zero, suc, ◌+◌, ◌/◌, ◌^◌, ◌<◌, ◌≤◌}
 use native.Mathlib.Nat.{mod-add-div, mod-eq_of_lt, add-zero}
 use native.Mathlib.Omega.{arith}
 use mir.Syntax.{w64}
@@ -12,7 +12,7 @@ use lib.ListN.{length, take, drop, get_or, set, length-set}
 use lib.Seq.{sets, sets-eq, drop-drop, get_or-set_same, get_or-set_other}
 use lib.Ieee.{Float, binary64, fits, of_bits, to_bits}
 use lib.Ieee.Bits.{of_bits-to_bits}
-use Rattle.float.specs.Bytes.{u64_at, f64_at, low_bytes, bytes_of}
+use Rattle.float.specs.Bytes.{u64_at, f64_at, bytes_of}
 use Rattle.float.proofs.Bits.{bits_below}
 
 -- ---- writing

@@ -147,13 +147,13 @@ le_floor x t o l = go (leb 8192 t) refl
         (round_whole binary64 true (suc (8192 - suc t)) (omega arith))
         (λ p g v. down_is p g (suc (8192 - suc t)) v (omega arith) (omega arith) x ∙ ap (λ (y : ℕ). leb y (floor_of x)) e)
 
--- the same of a d that has this value, as code has it
-module _ (x : Float) (t : ℕ) (d : Float) (e : d ≡ of_int binary64 (minus t 8192)) (o : 0 < t) (l : t < 16384) where
-  pub reached : le d x ≡ true → t ≤ floor_of x
-  reached h = leb-true _ _ (sym (le_floor x t o l) ∙ ap (λ (y : Float). le y x) (sym e) ∙ h)
+-- what a test of it says
+module _ (x : Float) (t : ℕ) (o : 0 < t) (l : t < 16384) where
+  pub reached : le (of_int binary64 (minus t 8192)) x ≡ true → t ≤ floor_of x
+  reached h = leb-true _ _ (sym (le_floor x t o l) ∙ h)
 
-  pub missed : le d x ≡ false → floor_of x < t
-  missed h = leb-false _ _ (sym (le_floor x t o l) ∙ ap (λ (y : Float). le y x) (sym e) ∙ h)
+  pub missed : le (of_int binary64 (minus t 8192)) x ≡ false → floor_of x < t
+  missed h = leb-false _ _ (sym (le_floor x t o l) ∙ h)
 
 pub floor_below : (x : Float) → floor_of x < 16384
 unfolding floor_of

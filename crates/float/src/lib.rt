@@ -25,6 +25,7 @@ pub fn is_nan(x: f64) -> bool
 }
 
 // 0 - x where x is at most 0, so that -0 gives +0: one test, where std's makes two.
+#[tactic(auto, using(crate::proofs::Own::abs_less, crate::proofs::Own::abs_more))]
 pub fn abs(x: f64) -> f64
     ensures { result ≡ abs_of x }
 {
@@ -57,6 +58,7 @@ pub fn is_sign_negative(x: f64) -> bool
 }
 
 // std's takes no NaN for y.
+#[tactic(auto, using(crate::proofs::Zero::sign_on, crate::proofs::Zero::sign_off))]
 pub fn copysign(x: f64, y: f64) -> f64
     ensures { result ≡ copysign_of x y }
 {
@@ -71,12 +73,14 @@ fn pick(second: bool, x: f64, y: f64) -> f64
     if second || is_nan(x) { y } else { x }
 }
 
+#[tactic(auto, unfolding(crate::specs::Methods::min_of))]
 pub fn min(x: f64, y: f64) -> f64
     ensures { result ≡ min_of x y }
 {
     pick(y < x, x, y)
 }
 
+#[tactic(auto, unfolding(crate::specs::Methods::max_of))]
 pub fn max(x: f64, y: f64) -> f64
     ensures { result ≡ max_of x y }
 {
@@ -101,6 +105,7 @@ pub fn total_le(x: f64, y: f64) -> bool
 }
 
 // The five powers written out: std's makes a loop of them.
+#[tactic(auto, unfolding(crate::specs::Methods::powi_of))]
 pub fn powi(v: f64, n: usize) -> f64
     requires { n ≤ 4 }
     ensures { result ≡ powi_of v n }
@@ -115,21 +120,21 @@ pub fn powi(v: f64, n: usize) -> f64
 }
 
 // (p - q) as f64, where the Rust has an i32.
+#[tactic(auto, using(crate::proofs::Whole::difference_fits, crate::proofs::Whole::difference_is, crate::proofs::Whole::difference_exact))]
 pub fn difference(p: u64, q: u64) -> f64
     requires p_high { p ≤ 2 ^ 53 }
     requires q_high { q ≤ 2 ^ 53 }
     ensures { result ≡ of_int binary64 (minus p q) }
 {
-    if q <= p {
-        return (p - q) as f64;
-    }
-    -((q - p) as f64)
+    (p as i64 - q as i64) as f64
 }
 
 // x rounded down, and 8192. It lies between low and high, and each turn halves what is left. (std's floor answers a double, of any size.)
+#[tactic(auto, using(crate::proofs::RoundDown::reached, crate::proofs::RoundDown::missed, crate::proofs::RoundDown::floor_below))]
 pub fn floor(x: f64) -> u64
     ensures { result ≡ floor_of x }
 {
+    // (A while over two bounds: what is found so far is said of both, and the cut at 16383 is the upper one.)
     let mut low: u64 = 0;
     let mut high: u64 = 16384;
     while low + 1 < high {
@@ -144,6 +149,7 @@ pub fn floor(x: f64) -> u64
 }
 
 // A NaN's pattern, the sign taken off, is above infinity's.
+#[tactic(auto, using(crate::proofs::Bits::above_infinity, crate::proofs::Bits::up_to_infinity, crate::proofs::Bits::nan_pattern))]
 pub fn from_bits(n: u64) -> f64
     ensures { result ≡ of_bits binary64 n }
 {
@@ -154,6 +160,7 @@ pub fn from_bits(n: u64) -> f64
 }
 
 // f64::to_bits has no value at NaN.
+#[tactic(auto, using(crate::proofs::Bits::bits_of_nan))]
 pub fn to_bits(x: f64) -> u64
     ensures { result ≡ to_bits binary64 x }
 {
@@ -172,6 +179,7 @@ pub fn u64_at(s: &[u8], at: usize) -> u64
 }
 
 // n into the eight bytes from at on, lowest first.
+#[tactic(auto, using(crate::proofs::Bytes::le_bytes, crate::proofs::Bytes::length_bytes, crate::proofs::Bytes::stored))]
 pub fn put_u64(out: &mut [u8], at: usize, n: u64)
     requires { at + 8 ≤ length out.old }
     ensures { out.new ≡ sets out.old at (bytes_of n) }
@@ -179,6 +187,7 @@ pub fn put_u64(out: &mut [u8], at: usize, n: u64)
     out[at..at + 8].copy_from_slice(&n.to_le_bytes());
 }
 
+#[tactic(auto, unfolding(crate::specs::Bytes::f64_at))]
 pub fn f64_at(s: &[u8], at: usize) -> f64
     requires { at + 8 ≤ length s.now }
     ensures { result ≡ f64_at s.now at }

@@ -5,9 +5,9 @@ use mathlib.Core.List.{List, [], ◌∷◌, ◌++◌}
 use mathlib.Core.Logic.{⊎_elim}
 use mathlib.Core.Option.{Option, none, some}
 use Prim.Native.Nat.{ℕ, ◌+◌, ◌≤◌, ◌<◌}
-use lib.Dec.{leb, ltb, eqb}
+use lib.Dec.{ltb, eqb}
 use lib.ListN.{length, get_or, drop, drop_of_length-le}
-use borrow.Author.Tests.{ltb-true, leb-true, lt-ltb, le-ltb}
+use borrow.Author.Tests.{ltb-true, lt-ltb, le-ltb}
 use Rattle.algebra.specs.NatOrder.{le_or_lt}
 use Rattle.facts.specs.Cond.{first_holds, second_holds}
 use Rattle.facts.specs.Lists.{drop_next}
@@ -33,12 +33,6 @@ digit_inside s i e = ltb-true i (length s) (first_holds (ltb i (length s)) (is_d
 pub digit_is : (s : List ℕ) (i : ℕ) → digit_at s i ≡ true → is_digit (get_or s i 0) ≡ true
 unfolding digit_at
 digit_is s i e = second_holds (ltb i (length s)) (is_digit (get_or s i 0)) e
-
-pub digit_low : (s : List ℕ) (i : ℕ) → digit_at s i ≡ true → 48 ≤ get_or s i 0
-digit_low s i e = let b = get_or s i 0 in leb-true 48 b (first_holds (leb 48 b) (leb b 57) (digit_is s i e))
-
-pub digit_high : (s : List ℕ) (i : ℕ) → digit_at s i ≡ true → get_or s i 0 ≤ 57
-digit_high s i e = let b = get_or s i 0 in leb-true b 57 (second_holds (leb 48 b) (leb b 57) (digit_is s i e))
 
 -- ---- a byte
 after_at : (s : List ℕ) (i b : ℕ) → after b (drop i s) ≡ cond (is_at s i b) (some (drop (i + 1) s)) none

@@ -5,15 +5,14 @@ use mathlib.Core.List.{List, [], ◌∷◌}
 use mathlib.Core.Logic.{⊎_elim}
 use mathlib.Core.Option.{Option}
 use Prim.Native.Nat.{ℕ, suc, ◌+◌, ◌-◌, ◌*◌, ◌^◌, ◌≤◌, ◌<◌}
-use native.Mathlib.Nat.{le_refl, lt_of_lt_of_le, pow-le-pow_right}
 use native.Mathlib.Omega.{arith}
-use lib.Dec.{T, leb, lit≤}
+use lib.Dec.{T, leb}
 use lib.ListN.{length, get_or, drop, drop_of_length-le}
 use lib.IntN.{pos}
 use borrow.Author.Tests.{le-leb, lt-leb}
 use Rattle.algebra.specs.NatOrder.{le_or_lt}
 use Rattle.facts.specs.Lists.{drop_next}
-use Rattle.parts.specs.Value.{exact, limited, power_of}
+use Rattle.parts.specs.Value.{limited, power_of}
 use Rattle.parts.specs.Part.{value_in}
 use Rattle.formula.specs.declared.cursor.Cursor.{Cursor}
 use Rattle.formula.specs.Grammar.{is_digit, all_digits, is_number, Number, Power, plain, power, Sum, Factor, number, letter, bracket}
@@ -22,7 +21,7 @@ use Rattle.formula.specs.Expansion.{powered_of, factor_of}
 use Rattle.formula.specs.Reading.{Read, fails, reads, if_some, digits_of, behind_digits, checked}
 use Rattle.formula.specs.Reading.{read_digit, read_power, read_number, read_unit}
 use Rattle.std.specs.Prelude as Prelude
-use Rattle.std.specs.Prelude.{Some, None}
+use Rattle.std.specs.Prelude.{Some, None, Ok}
 use Rattle.formula.specs.Readers.{is_at, digit_at, Digit, Ahead, Based, Closed, Powered}
 use Rattle.formula.proofs.Bytes.{at_inside, digit_inside, digit_is, after_true, after_false, no_digit}
 use Rattle.formula.proofs.Bytes.{digits_true, digits_false, behind_true, behind_false}
@@ -121,26 +120,6 @@ pub record Counted (s : List ℕ) (at i n : ℕ) : Type 0 where
   pub count : at + length (digits_of (drop at s)) ≡ i + length (digits_of (drop i s))
   pub behind : behind_digits (drop at s) ≡ behind_digits (drop i s)
 
-pub counted_none : (s : List ℕ) (at : ℕ) → at ≤ length s → Counted s at at 0
-counted_none s at h = record {
-  low = le_refl at;
-  high = h;
-  few = omega arith;
-  below = subst (λ (k : ℕ). 0 < 10 ^ k) (sym none_yet) (lit≤ tt);
-  value = refl;
-  count = refl;
-  behind = refl;
-}
-  where
-    none_yet : at - at ≡ 0
-    none_yet = omega arith
-
-pub counted_small : (s : List ℕ) (at i n : ℕ) → Counted s at i n → n < 10 ^ 9
-counted_small s at i n w = lt_of_lt_of_le w.below (pow-le-pow_right (lit≤ tt) few)
-  where
-    few : i - at ≤ 9
-    few = omega (arith, w.few)
-
 pub counted_next : (s : List ℕ) (at i n d : ℕ) → Counted s at i n → (i - at ≡ 9 → ⊥) → digit_at s i ≡ true → (d ≡ get_or s i 0 - 48) × (d < 10)
     → Counted s at (i + 1) (10 * n + d)
 counted_next s at i n d w f e g = record {
@@ -221,7 +200,7 @@ module _ (s : List ℕ) (at : ℕ) where
   by_letter : Option (List ℕ) → Read Factor
   by_letter o = if_some o (read_number (drop at s)) (read_power letter)
 
-  pub unit_letter : is_at s at 116 ≡ true → (c : Cursor) → c.next ≡ at + 1 → value_in c.part ≡ exact (pos 0 ∷ pos 1 ∷ [])
+  pub unit_letter : is_at s at 116 ≡ true → (c : Cursor) → c.next ≡ at + 1 → value_in c.part ≡ Ok (pos 0 ∷ pos 1 ∷ [])
       → Ahead s at c × Based s (Some c) (read_unit (drop at s))
   unfolding factor_of by_letter
   unit_letter e c n v = (

@@ -9,11 +9,14 @@ use native.Mathlib.Omega.{arith}
 use lib.ListN.{get_or}
 use lib.IntN.{ℤ, pos, nat_abs}
 use Rattle.algebra.specs.NatOrder.{le_or_lt}
+use Rattle.std.specs.Prelude.{Ok, Err}
+use Rattle.refusals.specs.declared.Refusal.{Refusal}
+use Rattle.refusals.specs.declared.Refusal.TheVariants.{DegreeTooHigh, CoefficientTooLarge}
 use Rattle.parts.specs.declared.Operator.{Operator}
 use Rattle.parts.specs.declared.Operator.TheVariants.{Sum as Added, Difference, Product}
 use Rattle.parts.specs.Polynomial.{coefficient_of, trimmed}
 use Rattle.parts.specs.Products.{operator_of}
-use Rattle.parts.specs.Value.{Value, exact, refused, limited, joined, power_of}
+use Rattle.parts.specs.Value.{Value, limited, joined, power_of}
 use Rattle.parts.proofs.Trimmed.{limited_ways, made_trimmed}
 use Rattle.formula.specs.Grammar.{Sign, plus, minus, Power, plain, power, Sum, term, join, Term, factor, times, Factor, number, letter, bracket}
 use Rattle.formula.specs.Expansion.{powered_of, sum_of, term_of, factor_of}
@@ -53,17 +56,17 @@ module _ (Such : List ℤ → Type 0) where
 
 -- ---- a value by the parts it was made of, and the polynomial it would be with no limit
 abbrev pub Judged : List (List ℤ) → List ℤ → Value → Type 0
-Judged xs p (exact q) = AllMeet xs × Meets p × (q ≡ trimmed p)
-Judged xs p (refused n) = ((n ≡ 14) × FirstHigh xs) ⊎ ((n ≡ 15) × FirstLarge xs)
+Judged xs p (Ok q) = AllMeet xs × Meets p × (q ≡ trimmed p)
+Judged xs p (Err n) = ((n ≡ DegreeTooHigh) × FirstHigh xs) ⊎ ((n ≡ CoefficientTooLarge) × FirstLarge xs)
 
-refused_more : (xs ys : List (List ℤ)) (p q : List ℤ) (n : ℕ) → Judged xs p (refused n) → Judged (xs ++ ys) q (refused n)
+refused_more : (xs ys : List (List ℤ)) (p q : List ℤ) (n : Refusal) → Judged xs p (Err n) → Judged (xs ++ ys) q (Err n)
 refused_more xs ys p q n (inl w) = inl (w.0, first_more High xs ys w.1)
 refused_more xs ys p q n (inr w) = inr (w.0, first_more OnlyLarge xs ys w.1)
 
 judged_after : (xs ys : List (List ℤ)) (p : List ℤ) (v : Value) → AllMeet xs → Judged ys p v → Judged (xs ++ ys) p v
-judged_after xs ys p (exact q) h w = (all_join xs ys h w.0, w.1, w.2)
-judged_after xs ys p (refused n) h (inl w) = inl (w.0, first_after High xs ys h w.1)
-judged_after xs ys p (refused n) h (inr w) = inr (w.0, first_after OnlyLarge xs ys h w.1)
+judged_after xs ys p (Ok q) h w = (all_join xs ys h w.0, w.1, w.2)
+judged_after xs ys p (Err n) h (inl w) = inl (w.0, first_after High xs ys h w.1)
+judged_after xs ys p (Err n) h (inr w) = inr (w.0, first_after OnlyLarge xs ys h w.1)
 
 -- one part
 alone : (p : List ℤ) → Meets p → AllMeet (p ∷ [])
@@ -75,13 +78,13 @@ first_alone Such p s = (0, omega arith, s, λ j g. absurd (omega arith))
 limited_judged : (p : List ℤ) → Judged (p ∷ []) p (limited p)
 limited_judged p = limited_ways (Judged (p ∷ []) p) p high large meets
   where
-    high : (k : ℕ) → 5 ≤ k → (coefficient_of p k ≡ pos 0 → ⊥) → Judged (p ∷ []) p (refused 14)
+    high : (k : ℕ) → 5 ≤ k → (coefficient_of p k ≡ pos 0 → ⊥) → Judged (p ∷ []) p (Err DegreeTooHigh)
     high k l f = inl (refl, first_alone High p (k, omega arith, f))
 
-    large : ((k : ℕ) → 5 ≤ k → coefficient_of p k ≡ pos 0) → (k : ℕ) → 2 ^ 53 < nat_abs (coefficient_of p k) → Judged (p ∷ []) p (refused 15)
+    large : ((k : ℕ) → 5 ≤ k → coefficient_of p k ≡ pos 0) → (k : ℕ) → 2 ^ 53 < nat_abs (coefficient_of p k) → Judged (p ∷ []) p (Err CoefficientTooLarge)
     large z k l = inr (refl, first_alone OnlyLarge p ((k, omega arith), λ w. absurd (w.2 (z w.0 (omega (arith, w.1))))))
 
-    meets : ((k : ℕ) → 5 ≤ k → coefficient_of p k ≡ pos 0) → ((k : ℕ) → nat_abs (coefficient_of p k) ≤ 2 ^ 53) → Judged (p ∷ []) p (exact (trimmed p))
+    meets : ((k : ℕ) → 5 ≤ k → coefficient_of p k ≡ pos 0) → ((k : ℕ) → nat_abs (coefficient_of p k) ≤ 2 ^ 53) → Judged (p ∷ []) p (Ok (trimmed p))
     meets z s = let m : Meets p = (λ w. w.2 (z w.0 (omega (arith, w.1))), λ w. omega (arith, w.1, s w.0)) in (alone p m, m, refl)
 
 -- ---- joins
@@ -90,20 +93,20 @@ module _ (op : Operator) (xs : List (List ℤ)) (p q : List ℤ) where
   made = operator_of op p q
 
   -- the right operand needs no part of its own here
-  join_last : (v : Value) (s : List ℤ) → Judged xs p v → s ≡ trimmed q → Judged (xs ++ made ∷ []) made (joined (operator_of op) v (exact s))
+  join_last : (v : Value) (s : List ℤ) → Judged xs p v → s ≡ trimmed q → Judged (xs ++ made ∷ []) made (joined (operator_of op) v (Ok s))
   unfolding joined
-  join_last (refused n) s h e = refused_more xs (made ∷ []) p made n h
-  join_last (exact r) s h e =
+  join_last (Err n) s h e = refused_more xs (made ∷ []) p made n h
+  join_last (Ok r) s h e =
       let same : limited (operator_of op r s) ≡ limited made = ap₂ (λ (a b : List ℤ). limited (operator_of op a b)) h.2 e ∙ made_trimmed op p q in
       judged_after xs (made ∷ []) made (limited (operator_of op r s)) h.0 (subst⁻¹ (Judged (made ∷ []) made) same (limited_judged made))
 
 join_judged : (op : Operator) (xs ys : List (List ℤ)) (p q : List ℤ) (v w : Value) → Judged xs p v → Judged ys q w
     → Judged (xs ++ ys ++ operator_of op p q ∷ []) (operator_of op p q) (joined (operator_of op) v w)
 unfolding joined
-join_judged op xs ys p q (refused n) w h g = refused_more (xs ++ ys) (operator_of op p q ∷ []) p (operator_of op p q) n (refused_more xs ys p p n h)
-join_judged op xs ys p q (exact r) (refused n) h g =
-    refused_more (xs ++ ys) (operator_of op p q ∷ []) q (operator_of op p q) n (judged_after xs ys q (refused n) h.0 g)
-join_judged op xs ys p q (exact r) (exact s) h g = join_last op (xs ++ ys) p q (exact r) s (all_join xs ys h.0 g.0, h.1, h.2) g.2
+join_judged op xs ys p q (Err n) w h g = refused_more (xs ++ ys) (operator_of op p q ∷ []) p (operator_of op p q) n (refused_more xs ys p p n h)
+join_judged op xs ys p q (Ok r) (Err n) h g =
+    refused_more (xs ++ ys) (operator_of op p q ∷ []) q (operator_of op p q) n (judged_after xs ys q (Err n) h.0 g)
+join_judged op xs ys p q (Ok r) (Ok s) h g = join_last op (xs ++ ys) p q (Ok r) s (all_join xs ys h.0 g.0, h.1, h.2) g.2
 
 sign_judged : (g : Sign) (xs ys : List (List ℤ)) (p q : List ℤ) (v w : Value) → Judged xs p v → Judged ys q w
     → Judged (xs ++ ys ++ sign_of g p q ∷ []) (sign_of g p q) (joined (sign_of g) v w)
@@ -124,11 +127,11 @@ one_meets = (high, large)
 
 repeated_judged : (xs : List (List ℤ)) (p : List ℤ) (v : Value) (k : ℕ) → Judged xs p v → Judged (xs ++ products p k) (repeated p k) (power_of v k)
 unfolding power_of
-repeated_judged xs p (refused n) k h = refused_more xs (products p k) p (repeated p k) n h
-repeated_judged xs p (exact q) zero h = (all_join xs [] h.0 all_none, one_meets, refl)
-repeated_judged xs p (exact q) (suc k) h =
-    subst (λ (ys : List (List ℤ)). Judged ys (repeated p (suc k)) (power_of (exact q) (suc k))) (append_assoc xs (products p k) (repeated p (suc k) ∷ []))
-    (join_last Product (xs ++ products p k) (repeated p k) p (power_of (exact q) k) q (repeated_judged xs p (exact q) k h) h.2)
+repeated_judged xs p (Err n) k h = refused_more xs (products p k) p (repeated p k) n h
+repeated_judged xs p (Ok q) zero h = (all_join xs [] h.0 all_none, one_meets, refl)
+repeated_judged xs p (Ok q) (suc k) h =
+    subst (λ (ys : List (List ℤ)). Judged ys (repeated p (suc k)) (power_of (Ok q) (suc k))) (append_assoc xs (products p k) (repeated p (suc k) ∷ []))
+    (join_last Product (xs ++ products p k) (repeated p k) p (power_of (Ok q) k) q (repeated_judged xs p (Ok q) k h) h.2)
 
 powered_judged : (a : Power) (xs : List (List ℤ)) (p : List ℤ) (v : Value) → Judged xs p v
     → Judged (xs ++ power_parts a p) (power_polynomial a p) (powered_of a v)
@@ -137,8 +140,8 @@ powered_judged (power d t) xs p v h = repeated_judged xs p v (d - 48) h
 
 -- a bracket is a part, like what is in it
 closed_judged : (xs : List (List ℤ)) (p : List ℤ) (v : Value) → Judged xs p v → Judged (xs ++ p ∷ []) p v
-closed_judged xs p (exact q) h = (all_join xs (p ∷ []) h.0 (alone p h.1), h.1, h.2)
-closed_judged xs p (refused n) h = refused_more xs (p ∷ []) p p n h
+closed_judged xs p (Ok q) h = (all_join xs (p ∷ []) h.0 (alone p h.1), h.1, h.2)
+closed_judged xs p (Err n) h = refused_more xs (p ∷ []) p p n h
 
 bracket_judged : (a : Power) (xs : List (List ℤ)) (p : List ℤ) (v : Value) → Judged xs p v
     → Judged (xs ++ p ∷ power_parts a p) (power_polynomial a p) (powered_of a v)
@@ -147,7 +150,7 @@ bracket_judged a xs p v h =
     (powered_judged a (xs ++ p ∷ []) p v (closed_judged xs p v h))
 
 -- ---- trees
-variable_judged : Judged (variable ∷ []) variable (exact variable)
+variable_judged : Judged (variable ∷ []) variable (Ok variable)
 unfolding limited
 variable_judged = limited_judged variable
 
@@ -166,7 +169,7 @@ mutual
 
   factor_judged : (a : Factor) → Judged (factor_parts a) (factor_polynomial a) (factor_of a)
   factor_judged (number n p) = powered_judged p (constant n ∷ []) (constant n) (limited (constant n)) (limited_judged (constant n))
-  factor_judged (letter p) = powered_judged p (variable ∷ []) variable (exact variable) variable_judged
+  factor_judged (letter p) = powered_judged p (variable ∷ []) variable (Ok variable) variable_judged
   factor_judged (bracket a p) = bracket_judged p (sum_parts a) (sum_polynomial a) (sum_of a) (sum_judged a)
 
 -- ---- each of the three stands for one of the three values
@@ -186,17 +189,17 @@ high_or_large xs w u = ⊎_elim (λ l. ⊎_elim same before (eq-or-lt_of_le l)) 
     before l = (u.3 w.0 l).0 w.2
 
 module _ (xs : List (List ℤ)) (p : List ℤ) where
-  pub all_exact : (v : Value) → Judged xs p v → AllMeet xs → Meets p × (v ≡ exact (trimmed p))
-  all_exact (exact q) w h = (w.1, ap exact w.2)
-  all_exact (refused n) (inl w) h = absurd (high_or_all xs w.1 h)
-  all_exact (refused n) (inr w) h = absurd (large_or_all xs w.1 h)
+  pub all_exact : (v : Value) → Judged xs p v → AllMeet xs → Meets p × (v ≡ Ok (trimmed p))
+  all_exact (Ok q) w h = (w.1, ap Ok w.2)
+  all_exact (Err n) (inl w) h = absurd (high_or_all xs w.1 h)
+  all_exact (Err n) (inr w) h = absurd (large_or_all xs w.1 h)
 
-  pub high_refused : (v : Value) → Judged xs p v → FirstHigh xs → v ≡ refused 14
-  high_refused (exact q) w h = absurd (high_or_all xs h w.0)
-  high_refused (refused n) (inl w) h = ap refused w.0
-  high_refused (refused n) (inr w) h = absurd (high_or_large xs h w.1)
+  pub high_refused : (v : Value) → Judged xs p v → FirstHigh xs → v ≡ Err DegreeTooHigh
+  high_refused (Ok q) w h = absurd (high_or_all xs h w.0)
+  high_refused (Err n) (inl w) h = ap Err w.0
+  high_refused (Err n) (inr w) h = absurd (high_or_large xs h w.1)
 
-  pub large_refused : (v : Value) → Judged xs p v → FirstLarge xs → v ≡ refused 15
-  large_refused (exact q) w h = absurd (large_or_all xs h w.0)
-  large_refused (refused n) (inl w) h = absurd (high_or_large xs w.1 h)
-  large_refused (refused n) (inr w) h = ap refused w.0
+  pub large_refused : (v : Value) → Judged xs p v → FirstLarge xs → v ≡ Err CoefficientTooLarge
+  large_refused (Ok q) w h = absurd (large_or_all xs h w.0)
+  large_refused (Err n) (inl w) h = absurd (high_or_large xs w.1 h)
+  large_refused (Err n) (inr w) h = ap Err w.0

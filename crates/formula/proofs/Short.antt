@@ -9,7 +9,8 @@ use lib.ListN.{length, length-append}
 use lib.IntN.{ℤ, pos}
 use Rattle.algebra.specs.NatOrder.{le_or_lt}
 use Rattle.parts.specs.Polynomial.{coefficient_of, trimmed}
-use Rattle.parts.specs.Value.{Value, exact, refused}
+use Rattle.std.specs.Prelude.{Ok, Err}
+use Rattle.parts.specs.Value.{Value}
 use Rattle.parts.proofs.Coefficients.{trimmed_short}
 use Rattle.formula.specs.Grammar.{is_number, plain, power, Sum, term, join, Term, factor, times, Factor, number, letter, bracket}
 use Rattle.formula.specs.Grammar.{sign_byte, power_text, sum_text, term_text, factor_text, Derives}
@@ -65,12 +66,12 @@ short_linear (term (times a b)) h = absurd (omega (arith, join_length (term_text
 short_linear (join a g b) h = absurd (omega (arith, join_length (sum_text a) (term_text b) (sign_byte g), sum_length a, term_length b))
 
 -- ---- how many coefficients a text has
-pub short_text : (s : List ℕ) (p : List ℤ) → formula_of s ≡ exact p → length p ≤ length s + 2
+pub short_text : (s : List ℕ) (p : List ℤ) → formula_of s ≡ Ok p → length p ≤ length s + 2
 short_text s p e = subst Few e (go (way s))
   where
     Few : Value → Type 0
-    Few (exact q) = length q ≤ length s + 2
-    Few (refused n) = Unit {0}
+    Few (Ok q) = length q ≤ length s + 2
+    Few (Err n) = Unit {0}
 
     of_tree : (a : Sum) → Derives s a → Meets (sum_polynomial a) → length (trimmed (sum_polynomial a)) ≤ length s + 2
     of_tree a d m = ⊎_elim

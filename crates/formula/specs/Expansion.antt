@@ -1,7 +1,7 @@
 -- What a formula expands to: a polynomial, or 14 or 15 for the first part, from the left and from the inside, that is refused. Definitions only.
-use Rattle.std.specs.Prelude.{◌-◌}
+use Rattle.std.specs.Prelude.{◌-◌, Ok}
 use Rattle.parts.specs.Polynomial.{multiplied}
-use Rattle.parts.specs.Value.{Value, exact, limited, joined, power_of}
+use Rattle.parts.specs.Value.{Value, limited, joined, power_of}
 use Rattle.formula.specs.Grammar.{Power, plain, power, Sum, term, join, Term, factor, times, Factor, number, letter, bracket}
 use Rattle.formula.specs.Parts.{sign_of, constant, variable}
 
@@ -23,5 +23,5 @@ unfoldable mutual
 
   pub factor_of : Factor → Value
   factor_of (number n p) = powered_of p (limited (constant n))
-  factor_of (letter p) = powered_of p (exact variable)
+  factor_of (letter p) = powered_of p (Ok variable)
   factor_of (bracket a p) = powered_of p (sum_of a)

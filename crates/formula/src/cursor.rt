@@ -1,12 +1,10 @@
 // What the readers have read.
-ghost use Rattle.parts.specs.Part.{Sound};
-
 use parts::Part;
+use refusals::Refusal;
 
-// Where what is left begins, and what was read.
+// Where what is left begins, and what was read, or its refusal: what is no sum is refused before that, so reading goes on.
 #[derive(Clone, Copy)]
 pub struct Cursor {
     pub next: usize,
-    pub part: Part,
-    ghost sound: { Sound part },
+    pub part: Result<Part, Refusal>,
 }

@@ -5,22 +5,22 @@
 ghost use Rattle.std.specs.Prelude.{◌≡◌, ◌≤◌, length, drop, IfSome};
 ghost use Rattle.std.specs.Float.{binary64};
 ghost use Rattle.std.specs.Float.Ieee.{of_int};
-ghost use Rattle.parts.specs.Value.{refused as refusedAs};
-ghost use Rattle.parts.specs.Part.{coefficient_in, value_in, Sound};
+ghost use Rattle.parts.specs.Polynomial.{trimmed};
+ghost use Rattle.parts.specs.Part.{coefficient_in, value_in};
 ghost use Rattle.formula.specs.Expansion.{sum_of, term_of, factor_of};
 ghost use Rattle.formula.specs.Reading.{read_sum, read_term, read_factor, read_unit, read_number};
-ghost use Rattle.formula.specs.Formula.{answered_of, expand_of};
+ghost use Rattle.formula.specs.Formula.{formula_of, expanded_of, expand_of};
 ghost use Rattle.formula.specs.Readers.{is_at, sign_operator, Digit, Ahead, Reads, Based, Closed, Powered, Joined};
 
 use cursor::Cursor;
 use parts::{Operator, Part};
+use refusals::Refusal;
 
 mod cursor;
 
-// Coefficients for the list operation, and how many; or nothing but the number under which the text is refused, where that is not 0.
+// Coefficients for the list operation, and how many: a C function hands out both, and nothing here has a heap.
 #[derive(Clone, Copy)]
 pub struct Expanded {
-    pub number: u32,
     pub len: usize,
     pub coeffs: [f64; 5],
 }
@@ -69,6 +69,7 @@ fn number(s: &[u8], at: usize) -> Option<Cursor>
 {
     let mut n: u64 = 0;
     let mut i = at;
+    // (A while: it ends on the byte that is read, and at the tenth digit.)
     while let Some(d) = digit(s, i) {
         if i - at == 9 {
             return None;
@@ -81,7 +82,7 @@ fn number(s: &[u8], at: usize) -> Option<Cursor>
     }
     Some(Cursor {
         next: i,
-        part: parts::number(n),
+        part: Ok(parts::number(n)),
     })
 }
 
@@ -94,7 +95,7 @@ fn unit(s: &[u8], at: usize) -> Option<Cursor>
     if is_at(s, at, b't') {
         return Some(Cursor {
             next: at + 1,
-            part: parts::letter(),
+            part: Ok(parts::letter()),
         });
     }
     number(s, at)
@@ -108,8 +109,10 @@ fn closed(s: &[u8], inner: Cursor) -> Option<Cursor>
 {
     let at = inner.next;
     if is_at(s, at, b')') {
-        let part = inner.part;
-        return Some(Cursor { next: at + 1, part });
+        return Some(Cursor {
+            next: at + 1,
+            ..inner
+        });
     }
     None
 }
@@ -125,10 +128,9 @@ fn powered(s: &[u8], base: Cursor) -> Option<Cursor>
         return Some(base);
     }
     let d = digit(s, at + 1)?;
-    let part = base.part;
     Some(Cursor {
         next: at + 2,
-        part: parts::power(part, d),
+        part: parts::power(base.part, d),
     })
 }
 
@@ -139,22 +141,24 @@ fn joined(op: Operator, left: Cursor, right: Cursor) -> Cursor
     ensures { Joined op left right result }
 {
     let mut part = right.part;
-    let a = left.part;
-    part = parts::join(op, a, part);
+    part = parts::join(op, left.part, part);
     Cursor {
         next: right.next,
         part,
     }
 }
 
-// ---- the readers: a sum reads terms, a term factors, and a factor in brackets a sum, from a place on
+// ---- the readers: a sum reads terms, a term factors, and a factor in brackets a sum, from a place on. (A text and a place, not what is left of it: a slice in
+// each cursor takes more of the stack, for each open bracket, and a text may open 255.)
 
+// (A sum and a term by themselves, as document 02 has them: one loop over a reader would be handed functions of its own cycle.)
 #[cycle(factor_sum_term)]
 fn sum(s: &[u8], at: usize) -> Option<Cursor>
     requires { at ≤ length s.now }
     ensures { Reads read_sum sum_of 3 s.now at result }
 {
     let mut left = term(s, at)?;
+    // (A while: it goes on as long as a sign is read.)
     while let Some(op) = operator_at(s, left.next) {
         let right = term(s, left.next + 1)?;
         left = joined(op, left, right);
@@ -168,6 +172,7 @@ fn term(s: &[u8], at: usize) -> Option<Cursor>
     ensures { Reads read_term term_of 2 s.now at result }
 {
     let mut left = factor(s, at)?;
+    // (A while: it goes on as long as a star is read.)
     while is_at(s, left.next, b'*') {
         let right = factor(s, left.next + 1)?;
         left = joined(Operator::Product, left, right);
@@ -193,46 +198,34 @@ fn factor(s: &[u8], at: usize) -> Option<Cursor>
 
 // Exactly, since no coefficient is above 2^53 in size.
 fn float_at(a: Part, k: usize) -> f64
-    requires { Sound a }
     ensures { result ≡ of_int binary64 (coefficient_in a k) }
 {
-    let c = parts::entry(a, k);
-    float::difference(c.up, c.down)
-}
-
-fn refused(number: u32) -> Expanded
-    ensures { result ≡ answered_of (refusedAs number) }
-{
-    Expanded {
-        number,
-        len: 0,
-        coeffs: [0.0; 5],
-    }
+    parts::entry(a, k) as f64
 }
 
 fn answered(a: Part) -> Expanded
-    requires { Sound a }
-    ensures { result ≡ answered_of (value_in a) }
+    ensures { result ≡ expanded_of (trimmed a.coeffs) }
 {
-    if a.number != 0 {
-        return refused(a.number);
-    }
     Expanded {
-        number: 0,
         len: parts::len(a),
         coeffs: std::array::from_fn(|k| float_at(a, k)),
     }
 }
 
-pub fn expand(s: &[u8]) -> Expanded
+// A sum that is all of the text.
+#[tactic(auto, using(crate::proofs::Whole::text_unread, crate::proofs::Whole::text_read))]
+fn value(s: &[u8]) -> Result<Part, Refusal>
+    ensures { value_in result ≡ formula_of s.now }
+{
+    match sum(s, 0) {
+        Some(all) if all.next == s.len() => all.part,
+        _ => Err(Refusal::NotASum),
+    }
+}
+
+#[tactic(auto, unfolding(crate::specs::Formula::answered_of, crate::specs::Formula::expand_of))]
+pub fn expand(s: &[u8]) -> Result<Expanded, Refusal>
     ensures { result ≡ expand_of s.now }
 {
-    let Some(all) = sum(s, 0) else {
-        return refused(refusals::NOT_A_SUM);
-    };
-    if all.next < s.len() {
-        return refused(refusals::NOT_A_SUM);
-    }
-    let part = all.part;
-    answered(part)
+    Ok(answered(value(s)?))
 }

@@ -6,13 +6,18 @@ use Prim.Native.Nat.{ℕ, ◌≤◌, ◌<◌}
 use native.Mathlib.Omega.{arith}
 use lib.IntN.{ℤ}
 use lib.Ieee.{Float}
+use Rattle.std.specs.Prelude as Prelude
+use Rattle.std.specs.Prelude.{Ok, Err}
+use Rattle.refusals.specs.declared.Refusal.{Refusal}
+use Rattle.refusals.specs.declared.Refusal.TheVariants.{NotASum, DegreeTooHigh, CoefficientTooLarge}
+use Rattle.refusals.specs.Refusals.{number_of, outcome_of}
+use Rattle.roots.specs.declared.Roots.{Roots}
 use Rattle.roots.specs.Roots.{no_roots}
-use Rattle.poly.specs.declared.Answer.{Answer}
-use Rattle.poly.specs.RealRoots.{real_roots_of}
+use Rattle.poly.specs.RealRoots.{roots_in, real_roots_of}
 use Rattle.poly.specs.Conditions.{Exactly}
 use Rattle.poly.proofs.Refusals.{number_most, has_no_root}
 use Rattle.parts.specs.Polynomial.{trimmed}
-use Rattle.parts.specs.Value.{Value, exact, refused}
+use Rattle.parts.specs.Value.{Value}
 use Rattle.formula.specs.Grammar.{Sum, Derives}
 use Rattle.formula.specs.Parts.{sum_polynomial, sum_parts, Meets, AllMeet, FirstHigh, FirstLarge}
 use Rattle.formula.specs.Formula.{formula_of, answered_of, expand_of}
@@ -26,21 +31,25 @@ use Rattle.formula_roots.proofs.Solved.{handed, formula_within, answered_by_list
 use Rattle.formula_roots.proofs.Doubles.{result_of, list_two, list_zero, list_number}
 
 module _ (s : List ℕ) (tol : Float) where
-  abbrev answer : Answer
+  abbrev answer : Prelude.Result Roots Refusal
   answer = formula_roots_of s tol
 
+  -- its number, 0 for roots
+  abbrev number : ℕ
+  number = outcome_of answer
+
   -- ---- by what the text is worth
-  refused_answer : (n : ℕ) → formula_of s ≡ refused n → answer.number ≡ n
+  refused_answer : (n : Refusal) → formula_of s ≡ Err n → number ≡ number_of n
   unfolding formula_roots_of
-  refused_answer n e = ap (λ (v : Value). (solved_of v tol).number) e
+  refused_answer n e = ap (λ (v : Value). outcome_of (solved_of v tol)) e
 
-  refused_expand : (n : ℕ) → formula_of s ≡ refused n → (expand_of s).number ≡ n
+  refused_expand : (n : Refusal) → formula_of s ≡ Err n → outcome_of (expand_of s) ≡ number_of n
   unfolding expand_of answered_of
-  refused_expand n e = ap (λ (v : Value). (answered_of v).number) e
+  refused_expand n e = ap (λ (v : Value). outcome_of (answered_of v)) e
 
-  exact_expand : (p : List ℤ) → formula_of s ≡ exact p → (expand_of s).number ≡ 0
+  exact_expand : (p : List ℤ) → formula_of s ≡ Ok p → outcome_of (expand_of s) ≡ 0
   unfolding expand_of answered_of
-  exact_expand p e = ap (λ (v : Value). (answered_of v).number) e
+  exact_expand p e = ap (λ (v : Value). outcome_of (answered_of v)) e
 
   -- the polynomial p goes to the list operation
   abbrev coeffs : List Float
@@ -49,111 +58,111 @@ module _ (s : List ℕ) (tol : Float) where
   abbrev Listed : List ℤ → Type 0
   Listed p = Result p coeffs × (answer ≡ real_roots_of coeffs tol)
 
-  listed : (p : List ℤ) → Meets p → formula_of s ≡ exact (trimmed p) → Listed p
+  listed : (p : List ℤ) → Meets p → formula_of s ≡ Ok (trimmed p) → Listed p
   unfolding formula_roots_of solved_of
   listed p m e = subst⁻¹ (λ (v : Value). Result p (handed_on v) × (solved_of v tol ≡ real_roots_of (handed_on v) tol)) e (result_of p m, refl)
 
-  list_most : (p : List ℤ) → Listed p → answer.number ≤ 3
-  list_most p w = subst⁻¹ (λ (x : Answer). x.number ≤ 3) w.1 (number_most coeffs tol)
+  list_most : (p : List ℤ) → Listed p → number ≤ 3
+  list_most p w = subst⁻¹ (λ (x : Prelude.Result Roots Refusal). outcome_of x ≤ 3) w.1 (number_most coeffs tol)
 
   -- ---- a tree whose parts all meet the limits
-  worth : (a : Sum) → Derives s a → AllMeet (sum_parts a) → Meets (sum_polynomial a) × (formula_of s ≡ exact (trimmed (sum_polynomial a)))
+  worth : (a : Sum) → Derives s a → AllMeet (sum_parts a) → Meets (sum_polynomial a) × (formula_of s ≡ Ok (trimmed (sum_polynomial a)))
   worth a d h = all_exact (sum_parts a) (sum_polynomial a) (formula_of s) (derived_judged s a d) h
 
   goes_on : (a : Sum) → Derives s a → AllMeet (sum_parts a) → Listed (sum_polynomial a)
   goes_on a d h = let w = worth a d h in listed (sum_polynomial a) w.0 w.1
 
-  reached : Exactly ((expand_of s).number ≡ 0) ((a : Sum) × Derives s a × AllMeet (sum_parts a))
+  reached : Exactly (outcome_of (expand_of s) ≡ 0) ((a : Sum) × Derives s a × AllMeet (sum_parts a))
   reached = record { where_it_holds = λ w. exact_expand (trimmed (sum_polynomial w.0)) (worth w.0 w.1 w.2).1; only_there = go (way s) }
     where
-      go : Way s → (expand_of s).number ≡ 0 → (a : Sum) × Derives s a × AllMeet (sum_parts a)
-      go (no_sum f q) e = absurd (omega (arith, refused_expand 13 q, e))
-      go (high a d w q) e = absurd (omega (arith, refused_expand 14 q, e))
-      go (large a d w q) e = absurd (omega (arith, refused_expand 15 q, e))
+      go : Way s → outcome_of (expand_of s) ≡ 0 → (a : Sum) × Derives s a × AllMeet (sum_parts a)
+      go (no_sum f q) e = absurd (omega (arith, refused_expand NotASum q, e))
+      go (high a d w q) e = absurd (omega (arith, refused_expand DegreeTooHigh q, e))
+      go (large a d w q) e = absurd (omega (arith, refused_expand CoefficientTooLarge q, e))
       go (meets a d h m q) e = (a, d, h)
 
   -- ---- the numbers
-  thirteen : Exactly (answer.number ≡ 13) ((a : Sum) → Derives s a → ⊥)
+  thirteen : Exactly (number ≡ 13) ((a : Sum) → Derives s a → ⊥)
   thirteen = record { where_it_holds = at (way s); only_there = only (way s) }
     where
-      at : Way s → ((a : Sum) → Derives s a → ⊥) → answer.number ≡ 13
-      at (no_sum f q) g = refused_answer 13 q
+      at : Way s → ((a : Sum) → Derives s a → ⊥) → number ≡ 13
+      at (no_sum f q) g = refused_answer NotASum q
       at (high a d w q) g = absurd (g a d)
       at (large a d w q) g = absurd (g a d)
       at (meets a d h m q) g = absurd (g a d)
 
-      only : Way s → answer.number ≡ 13 → (a : Sum) → Derives s a → ⊥
+      only : Way s → number ≡ 13 → (a : Sum) → Derives s a → ⊥
       only (no_sum f q) e = f
-      only (high a d w q) e = absurd (omega (arith, refused_answer 14 q, e))
-      only (large a d w q) e = absurd (omega (arith, refused_answer 15 q, e))
+      only (high a d w q) e = absurd (omega (arith, refused_answer DegreeTooHigh q, e))
+      only (large a d w q) e = absurd (omega (arith, refused_answer CoefficientTooLarge q, e))
       only (meets a d h m q) e = absurd (omega (arith, list_most (sum_polynomial a) (listed (sum_polynomial a) m q), e))
 
-  fourteen : Exactly (answer.number ≡ 14) ((a : Sum) × Derives s a × FirstHigh (sum_parts a))
+  fourteen : Exactly (number ≡ 14) ((a : Sum) × Derives s a × FirstHigh (sum_parts a))
   fourteen = record { where_it_holds = at; only_there = only (way s) }
     where
-      at : ((a : Sum) × Derives s a × FirstHigh (sum_parts a)) → answer.number ≡ 14
-      at (a, d, w) = refused_answer 14 (high_refused (sum_parts a) (sum_polynomial a) (formula_of s) (derived_judged s a d) w)
+      at : ((a : Sum) × Derives s a × FirstHigh (sum_parts a)) → number ≡ 14
+      at (a, d, w) = refused_answer DegreeTooHigh (high_refused (sum_parts a) (sum_polynomial a) (formula_of s) (derived_judged s a d) w)
 
-      only : Way s → answer.number ≡ 14 → (a : Sum) × Derives s a × FirstHigh (sum_parts a)
-      only (no_sum f q) e = absurd (omega (arith, refused_answer 13 q, e))
+      only : Way s → number ≡ 14 → (a : Sum) × Derives s a × FirstHigh (sum_parts a)
+      only (no_sum f q) e = absurd (omega (arith, refused_answer NotASum q, e))
       only (high a d w q) e = (a, d, w)
-      only (large a d w q) e = absurd (omega (arith, refused_answer 15 q, e))
+      only (large a d w q) e = absurd (omega (arith, refused_answer CoefficientTooLarge q, e))
       only (meets a d h m q) e = absurd (omega (arith, list_most (sum_polynomial a) (listed (sum_polynomial a) m q), e))
 
-  fifteen : Exactly (answer.number ≡ 15) ((a : Sum) × Derives s a × FirstLarge (sum_parts a))
+  fifteen : Exactly (number ≡ 15) ((a : Sum) × Derives s a × FirstLarge (sum_parts a))
   fifteen = record { where_it_holds = at; only_there = only (way s) }
     where
-      at : ((a : Sum) × Derives s a × FirstLarge (sum_parts a)) → answer.number ≡ 15
-      at (a, d, w) = refused_answer 15 (large_refused (sum_parts a) (sum_polynomial a) (formula_of s) (derived_judged s a d) w)
+      at : ((a : Sum) × Derives s a × FirstLarge (sum_parts a)) → number ≡ 15
+      at (a, d, w) = refused_answer CoefficientTooLarge (large_refused (sum_parts a) (sum_polynomial a) (formula_of s) (derived_judged s a d) w)
 
-      only : Way s → answer.number ≡ 15 → (a : Sum) × Derives s a × FirstLarge (sum_parts a)
-      only (no_sum f q) e = absurd (omega (arith, refused_answer 13 q, e))
-      only (high a d w q) e = absurd (omega (arith, refused_answer 14 q, e))
+      only : Way s → number ≡ 15 → (a : Sum) × Derives s a × FirstLarge (sum_parts a)
+      only (no_sum f q) e = absurd (omega (arith, refused_answer NotASum q, e))
+      only (high a d w q) e = absurd (omega (arith, refused_answer DegreeTooHigh q, e))
       only (large a d w q) e = (a, d, w)
       only (meets a d h m q) e = absurd (omega (arith, list_most (sum_polynomial a) (listed (sum_polynomial a) m q), e))
 
   -- those of the list
-  of_the_list : (n : ℕ) → n ≤ 3 → (Such : List ℤ → Type 0) → ((p : List ℤ) → Result p coeffs → Exactly ((real_roots_of coeffs tol).number ≡ n) (Such p))
-      → Exactly (answer.number ≡ n) ((a : Sum) × Derives s a × AllMeet (sum_parts a) × Such (sum_polynomial a))
+  of_the_list : (n : ℕ) → n ≤ 3 → (Such : List ℤ → Type 0) → ((p : List ℤ) → Result p coeffs → Exactly (outcome_of (real_roots_of coeffs tol) ≡ n) (Such p))
+      → Exactly (number ≡ n) ((a : Sum) × Derives s a × AllMeet (sum_parts a) × Such (sum_polynomial a))
   of_the_list n l Such law = record { where_it_holds = at; only_there = only (way s) }
     where
-      at : ((a : Sum) × Derives s a × AllMeet (sum_parts a) × Such (sum_polynomial a)) → answer.number ≡ n
-      at (a, d, h, such) = let w = goes_on a d h in ap (λ (x : Answer). x.number) w.1 ∙ (law (sum_polynomial a) w.0).where_it_holds such
+      at : ((a : Sum) × Derives s a × AllMeet (sum_parts a) × Such (sum_polynomial a)) → number ≡ n
+      at (a, d, h, such) = let w = goes_on a d h in ap outcome_of w.1 ∙ (law (sum_polynomial a) w.0).where_it_holds such
 
-      only : Way s → answer.number ≡ n → (a : Sum) × Derives s a × AllMeet (sum_parts a) × Such (sum_polynomial a)
-      only (no_sum f q) e = absurd (omega (arith, refused_answer 13 q, e))
-      only (high a d w q) e = absurd (omega (arith, refused_answer 14 q, e))
-      only (large a d w q) e = absurd (omega (arith, refused_answer 15 q, e))
+      only : Way s → number ≡ n → (a : Sum) × Derives s a × AllMeet (sum_parts a) × Such (sum_polynomial a)
+      only (no_sum f q) e = absurd (omega (arith, refused_answer NotASum q, e))
+      only (high a d w q) e = absurd (omega (arith, refused_answer DegreeTooHigh q, e))
+      only (large a d w q) e = absurd (omega (arith, refused_answer CoefficientTooLarge q, e))
       only (meets a d h m q) e =
           let w = listed (sum_polynomial a) m q in
-          (a, d, h, (law (sum_polynomial a) w.0).only_there (sym (ap (λ (x : Answer). x.number) w.1) ∙ e))
+          (a, d, h, (law (sum_polynomial a) w.0).only_there (sym (ap outcome_of w.1) ∙ e))
 
-  two : Exactly (answer.number ≡ 2) ((a : Sum) × Derives s a × AllMeet (sum_parts a) × Constant (sum_polynomial a))
+  two : Exactly (number ≡ 2) ((a : Sum) × Derives s a × AllMeet (sum_parts a) × Constant (sum_polynomial a))
   two = of_the_list 2 (omega arith) Constant (λ p r. list_two p coeffs r tol)
 
-  zero : Exactly (answer.number ≡ 0) ((a : Sum) × Derives s a × AllMeet (sum_parts a) × Varying (sum_polynomial a))
+  zero : Exactly (number ≡ 0) ((a : Sum) × Derives s a × AllMeet (sum_parts a) × Varying (sum_polynomial a))
   zero = of_the_list 0 (omega arith) Varying (λ p r. list_zero p coeffs r tol)
 
-  no_other : (answer.number ≡ 0) ⊎ ((answer.number ≡ 2) ⊎ ((13 ≤ answer.number) × (answer.number ≤ 15)))
+  no_other : (number ≡ 0) ⊎ ((number ≡ 2) ⊎ ((13 ≤ number) × (number ≤ 15)))
   no_other = go (way s)
     where
-      go : Way s → (answer.number ≡ 0) ⊎ ((answer.number ≡ 2) ⊎ ((13 ≤ answer.number) × (answer.number ≤ 15)))
-      go (no_sum f q) = let e = refused_answer 13 q in inr (inr (omega arith, omega arith))
-      go (high a d w q) = let e = refused_answer 14 q in inr (inr (omega arith, omega arith))
-      go (large a d w q) = let e = refused_answer 15 q in inr (inr (omega arith, omega arith))
+      go : Way s → (number ≡ 0) ⊎ ((number ≡ 2) ⊎ ((13 ≤ number) × (number ≤ 15)))
+      go (no_sum f q) = let e = refused_answer NotASum q in inr (inr (omega arith, omega arith))
+      go (high a d w q) = let e = refused_answer DegreeTooHigh q in inr (inr (omega arith, omega arith))
+      go (large a d w q) = let e = refused_answer CoefficientTooLarge q in inr (inr (omega arith, omega arith))
       go (meets a d h m q) =
           let w = listed (sum_polynomial a) m q in
-          let is = ap (λ (x : Answer). x.number) w.1 in
+          let is = ap outcome_of w.1 in
           ⊎_elim (λ e. inl (is ∙ e)) (λ e. inr (inl (is ∙ e))) (list_number (sum_polynomial a) coeffs w.0 tol)
 
   -- ---- all of them
-  stopped : 0 < (expand_of s).number → answer.number ≡ (expand_of s).number
+  stopped : 0 < outcome_of (expand_of s) → number ≡ outcome_of (expand_of s)
   unfolding formula_roots_of solved_of expand_of answered_of
   stopped = go (formula_of s)
     where
-      go : (v : Value) → 0 < (answered_of v).number → (solved_of v tol).number ≡ (answered_of v).number
-      go (refused n) h = refl
-      go (exact p) h = absurd (omega arith)
+      go : (v : Value) → 0 < outcome_of (answered_of v) → outcome_of (solved_of v tol) ≡ outcome_of (answered_of v)
+      go (Ok p) h = absurd (omega arith)
+      go (Err n) h = refl
 
   pub formulas : Formulas s tol
   formulas = record {
@@ -166,5 +175,5 @@ module _ (s : List ℕ) (tol : Float) where
     stopped = stopped;
     roots = formula_within s tol;
     array = formula_fits s tol;
-    refused = answered_by_list (λ (x : Answer). 0 < x.number → x.roots ≡ no_roots) s tol (λ n l h. refl) (λ cs l. has_no_root cs tol);
+    refused = answered_by_list (λ (x : Prelude.Result Roots Refusal). 0 < outcome_of x → roots_in x ≡ no_roots) s tol (λ n l h. refl) (λ cs l. has_no_root cs tol);
   }

@@ -1,14 +1,17 @@
 -- What is claimed of formulas: request Three of document 02. Statements only; proofs/Theorem.antt has the proof, for texts of any bytes and any length, and for
 -- all bits of the tolerance. `Grammar` of formula has the trees and their texts, `Parts` what a tree stands for, with no limit, and its parts.
-use Rattle.std.specs.Prelude.{◌≡◌, true, false, List, ◌⊎◌, ℕ, suc, ◌≤◌, ◌<◌, length, get_or, take, ℤ, pos, negsuc, Float}
+use Rattle.std.specs.Prelude.{◌≡◌, true, false, List, ◌⊎◌, ℕ, suc, ◌≤◌, ◌<◌, length, get_or, take, replicate, ℤ, pos, negsuc, Float}
 use Rattle.std.specs.Float.{nan}
 use Rattle.std.specs.Float.Ieee.Exact.{HasValue}
+use Rattle.refusals.specs.Refusals.{outcome_of, value_or}
+use Rattle.float.specs.Literals.{zero64}
 use Rattle.roots.specs.Roots.{list_of, no_roots}
 use Rattle.roots.specs.Listed.{Within, Fits}
 use Rattle.poly.specs.Coefficients.{degree_left}
-use Rattle.poly.specs.RealRoots.{real_roots_of}
+use Rattle.poly.specs.RealRoots.{roots_in, real_roots_of}
 use Rattle.poly.specs.Conditions.{AllDoubles, Exactly}
 use Rattle.parts.specs.Polynomial.{coefficient_of, value_at}
+use Rattle.formula.specs.declared.Expanded.{Expanded}
 use Rattle.formula.specs.Grammar.{Sum, Derives}
 use Rattle.formula.specs.Parts.{sum_polynomial, sum_parts, AllMeet, FirstHigh, FirstLarge}
 use Rattle.formula.specs.Meaning.{sum_at}
@@ -48,22 +51,26 @@ pub record Result (p : List ℤ) (coeffs : List Float) : Type 0 where
   pub last : (k : ℕ) → length coeffs ≡ suc k → coefficient_of p k ≡ pos 0 → ⊥
   pub behind : (k : ℕ) → length coeffs ≤ k → coefficient_of p k ≡ pos 0
 
+-- what a text expands to, and nothing where it is refused
+abbrev pub expanded_in : List ℕ → Expanded
+expanded_in s = value_or (record { len = 0; coeffs = replicate 5 zero64 }) (expand_of s)
+
 -- What holds of every text.
 pub record Formulas (s : List ℕ) (tol : Float) : Type 0 where
   -- 'with one reading each'
   pub one_reading : (a b : Sum) → Derives s a → Derives s b → a ≡ b
-  pub numbers : Numbers s (formula_roots_of s tol).number
+  pub numbers : Numbers s (outcome_of (formula_roots_of s tol))
   -- 'Expansion is exact over whole numbers': the polynomial of a tree is worth, at every whole number, what the formula is
   pub exact : (a : Sum) (x : ℤ) → value_at (sum_polynomial a) x ≡ sum_at x a
   -- 'The texts that reach it are exactly those the grammar derives that meet the limits below'
-  pub reached : Exactly ((expand_of s).number ≡ 0) ((a : Sum) × Derives s a × AllMeet (sum_parts a))
+  pub reached : Exactly (outcome_of (expand_of s) ≡ 0) ((a : Sum) × Derives s a × AllMeet (sum_parts a))
   -- 'The result, zero being +0, goes to the list operation, whose answer or refusal prints'
   pub result : (a : Sum) → Derives s a → AllMeet (sum_parts a)
       → Result (sum_polynomial a) (handed_on (formula_of s)) × (formula_roots_of s tol ≡ real_roots_of (handed_on (formula_of s)) tol)
-  pub handed : take (expand_of s).len (expand_of s).coeffs ≡ handed_on (formula_of s)
+  pub handed : take (expanded_in s).len (expanded_in s).coeffs ≡ handed_on (formula_of s)
   -- a text that does not reach it is answered with its number
-  pub stopped : 0 < (expand_of s).number → (formula_roots_of s tol).number ≡ (expand_of s).number
+  pub stopped : 0 < outcome_of (expand_of s) → outcome_of (formula_roots_of s tol) ≡ outcome_of (expand_of s)
   -- demand 1; no root where it is refused
-  pub roots : Within (degree_left (handed_on (formula_of s))) (list_of (formula_roots_of s tol).roots)
-  pub array : Fits (formula_roots_of s tol).roots
-  pub refused : 0 < (formula_roots_of s tol).number → (formula_roots_of s tol).roots ≡ no_roots
+  pub roots : Within (degree_left (handed_on (formula_of s))) (list_of (roots_in (formula_roots_of s tol)))
+  pub array : Fits (roots_in (formula_roots_of s tol))
+  pub refused : 0 < outcome_of (formula_roots_of s tol) → roots_in (formula_roots_of s tol) ≡ no_roots

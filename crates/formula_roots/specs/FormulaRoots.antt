@@ -1,21 +1,21 @@
 -- The roots of a formula: request Three of document 02. Definitions only.
-use Rattle.std.specs.Prelude.{List, [], ℕ, Float}
-use Rattle.roots.specs.Roots.{no_roots}
-use Rattle.poly.specs.declared.Answer.{Answer}
+use Rattle.std.specs.Prelude.{List, [], ℕ, Float, Result, Ok, Err}
+use Rattle.refusals.specs.declared.Refusal.{Refusal}
+use Rattle.roots.specs.declared.Roots.{Roots}
 use Rattle.poly.specs.RealRoots.{real_roots_of}
-use Rattle.parts.specs.Value.{Value, exact, refused}
+use Rattle.parts.specs.Value.{Value}
 use Rattle.formula.specs.Formula.{formula_of, floats_of}
 
 -- 'The result, zero being +0, goes to the list operation'; of a refusal nothing does
 abbrev pub handed_on : Value → List Float
-handed_on (refused n) = []
-handed_on (exact p) = floats_of p
+handed_on (Ok p) = floats_of p
+handed_on (Err refusal) = []
 
--- 'whose answer or refusal prints like PL'; a refusal of the text has its number, and no root
-unfoldable pub solved_of : Value → Float → Answer
-solved_of (refused n) tol = record { number = n; roots = no_roots }
-solved_of (exact p) tol = real_roots_of (floats_of p) tol
+-- 'whose answer or refusal prints like PL'; a refusal of the text is the answer
+unfoldable pub solved_of : Value → Float → Result Roots Refusal
+solved_of (Ok p) tol = real_roots_of (floats_of p) tol
+solved_of (Err refusal) tol = Err refusal
 
-unfoldable pub formula_roots_of : List ℕ → Float → Answer
+unfoldable pub formula_roots_of : List ℕ → Float → Result Roots Refusal
 unfolding formula_of solved_of
 formula_roots_of s tol = solved_of (formula_of s) tol

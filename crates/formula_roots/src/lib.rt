@@ -6,23 +6,20 @@ ghost use Rattle.std.specs.Prelude.{◌≡◌};
 ghost use Rattle.roots.specs.Roots.{list_of};
 ghost use Rattle.roots.specs.Listed.{Within};
 ghost use Rattle.poly.specs.Coefficients.{degree_left};
+ghost use Rattle.poly.specs.RealRoots.{roots_in};
 ghost use Rattle.formula.specs.Formula.{formula_of};
 ghost use Rattle.formula_roots.specs.FormulaRoots.{handed_on, formula_roots_of};
 
-use poly::Answer;
+use refusals::Refusal;
+use roots::Roots;
 
 // 13, 14 and 15 are refused by the text; 2 by the list, as for any list.
 // Demand 1 holds of the answer: at most four finite roots, each counting at least once, together at most the degree left.
-pub fn formula_roots(text: &[u8], tol: f64) -> Answer
-    ensures { (result ≡ formula_roots_of text.now tol) × Within (degree_left (handed_on (formula_of text.now))) (list_of result.roots) }
+#[tactic(auto, using(crate::proofs::Solved::by_expand, crate::proofs::Solved::formula_within))]
+pub fn formula_roots(text: &[u8], tol: f64) -> Result<Roots, Refusal>
+    ensures { (result ≡ formula_roots_of text.now tol) × Within (degree_left (handed_on (formula_of text.now))) (list_of (roots_in result)) }
 {
-    let e = formula::expand(text);
-    if e.number != 0 {
-        return Answer {
-            number: e.number,
-            roots: roots::Roots::none(),
-        };
-    }
+    let e = formula::expand(text)?;
     let coeffs = e.coeffs;
     let len = e.len;
     poly::real_roots(&coeffs[..len], tol)

@@ -28,7 +28,7 @@ pub struct Derivs {
     pub d2: f64,
 }
 
-/// f[0] + f[1]*y + .. + f[d]*y^d.
+// f[0] + f[1]*y + .. + f[d]*y^d.
 #[derive(Clone, Copy)]
 pub struct Polynomial {
     pub f: [f64; 5],

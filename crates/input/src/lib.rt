@@ -10,7 +10,8 @@ ghost use Rattle.input.specs.Answers.{meaning_of};
 use std::io;
 use std::io::Read;
 
-// One byte more than a file may have, so that a longer one is seen to be longer.
+// One byte more than a file may have, so that a longer one is seen to be longer. (An array, since nothing here has a heap; a function, since a proof that
+// meets the array itself writes out its places.)
 pub fn buffer() -> [u8; 65537]
     ensures { 65537 ≡ length result }
 {
@@ -36,6 +37,7 @@ pub fn read_file<R: Read>(from: &mut R, buf: &mut [u8]) -> io::Result<usize>
     ensures end { IfOk result (λ n. n < length buf.new → IsAtEnd (R.remaining from.new)) }
 {
     let mut done = 0;
+    // (A while: it ends with the input, and std's read_to_end takes a Vec.)
     while done < buf.len() {
         let got = from.read(&mut buf[done..]);
         match meaning(got)? {

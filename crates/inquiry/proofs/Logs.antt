@@ -1,8 +1,11 @@
 -- Nothing that an inquiry shows depends on the logarithms of its polynomial.
-use mathlib.Core.Path.{◌≡◌, ap, ◌∙◌}
+use mathlib.Core.Path.{◌≡◌, refl, ap, ◌∙◌}
 use mathlib.Core.Bool.{cond}
 use mathlib.Core.List.{List}
 use lib.Ieee.{Float}
+use Rattle.std.specs.Prelude.{Result, Ok, Err}
+use Rattle.refusals.specs.declared.Refusal.{Refusal}
+use Rattle.refusals.specs.Refusals.{and_then}
 use Rattle.roots.specs.declared.RealRoot.{RealRoot}
 use Rattle.roots.specs.Roots.{list_of, pair_list_of}
 use Rattle.poly.specs.declared.Solved.{Solved}
@@ -12,6 +15,7 @@ use Rattle.asking.specs.Asking.{Asking, walked}
 use Rattle.touching.specs.declared.Replies.{Replies}
 use Rattle.touching.specs.Replies.{replies_of}
 use Rattle.touching.proofs.Logs.{same_touching}
+use Rattle.inquiry.specs.declared.Inquiry.{Inquiry}
 use Rattle.inquiry.specs.declared.Seen.{Seen}
 use Rattle.inquiry.specs.Inquiry.{sound_of, seen_at, unseen, seen_of}
 use Rattle.inquiry.specs.Start.{fresh_by, start_of, given, shown_after_of}
@@ -22,9 +26,21 @@ same_seen lg s rs =
     ap (λ (t : Asking (List RealRoot)). cond (sound_of (given (fresh_by s) rs)) (seen_at (walked (replies_of rs) t)) unseen)
     (same_touching lg s.poly s.tol (list_of s.roots) (pair_list_of s.pairs))
 
-pub shown_is : (coeffs : List Float) (tol : Float) (rs : Replies) (s : Solved) (seen : Seen) → ButLogs s (solve_of coeffs tol)
-    → seen ≡ seen_of (given (fresh_by s) rs) → record { number = s.number; seen = seen } ≡ shown_after_of coeffs tol rs
+solved_same : (lg : List Float) (rs : Replies) (r : Result Solved Refusal) → and_then (and_then r (λ s. Ok (relogged lg s))) (λ s. Ok (seen_of (given (fresh_by s) rs)))
+    ≡ and_then (and_then r (λ s. Ok (fresh_by s))) (λ q. Ok (seen_of (given q rs)))
+solved_same lg rs (Ok s) = ap (λ (seen : Seen). Ok seen) (same_seen lg s rs)
+solved_same lg rs (Err refusal) = refl
+
+pub shown_is : (coeffs : List Float) (tol : Float) (rs : Replies) (r : Result Solved Refusal) → ButLogs r (solve_of coeffs tol)
+    → and_then r (λ s. Ok (seen_of (given (fresh_by s) rs))) ≡ shown_after_of coeffs tol rs
 unfolding shown_after_of start_of
-shown_is coeffs tol rs s seen (lg, b) e =
-    let shown = e ∙ ap (λ (t : Solved). seen_of (given (fresh_by t) rs)) b ∙ same_seen lg (solve_of coeffs tol) rs in
-    λ i. record { number = (b i).number; seen = shown i }
+shown_is coeffs tol rs r (lg, b) = rw b (solved_same lg rs (solve_of coeffs tol))
+
+-- the two ways of `?`
+pub shown_refused : (coeffs : List Float) (tol : Float) (rs : Replies) (refusal : Refusal) {r : Result Seen Refusal} → ButLogs (Err refusal) (solve_of coeffs tol)
+    → r ≡ Err refusal → r ≡ shown_after_of coeffs tol rs
+shown_refused coeffs tol rs refusal b e = e ∙ shown_is coeffs tol rs (Err refusal) b
+
+pub shown_solved : (coeffs : List Float) (tol : Float) (rs : Replies) (s : Solved) (q : Inquiry) (seen : Seen) → ButLogs (Ok s) (solve_of coeffs tol)
+    → q ≡ given (fresh_by s) rs → seen ≡ seen_of q → Ok seen ≡ shown_after_of coeffs tol rs
+shown_solved coeffs tol rs s q seen b i e = ap (λ (t : Seen). Ok t) (e ∙ ap seen_of i) ∙ shown_is coeffs tol rs (Ok s) b

@@ -11,44 +11,60 @@ use lib.Dec.{eqb}
 use lib.ListN.{length, take, get_or}
 use lib.Seq.{take-length}
 use lib.Ieee.{Float, nan}
+use Rattle.std.specs.Prelude.{Result, Ok, Err}
+use Rattle.refusals.specs.declared.Refusal.{Refusal}
+use Rattle.refusals.specs.Refusals.{outcome_of, and_then}
 use Rattle.float.specs.Literals.{zero64}
+use Rattle.float.specs.Methods.{max_of}
 use Rattle.roots.specs.declared.RealRoot.{RealRoot}
 use Rattle.roots.specs.Roots.{list_of, pair_list_of, roots_of}
 use Rattle.poly.specs.declared.Solved.{Solved}
-use Rattle.poly.specs.Coefficients.{refusal_of}
-use Rattle.poly.specs.Solve.{solve_of}
-use Rattle.poly.specs.Brief.{ButLogs}
-use Rattle.poly.proofs.Refusals.{solved_number}
+use Rattle.poly.specs.Coefficients.{zeros_of, counted_of, refusal_of, poly_of}
+use Rattle.poly.specs.Solve.{finished_of, solve_of, solved_in}
+use Rattle.poly.specs.Brief.{relogged, ButLogs}
+use Rattle.poly.proofs.Refusals.{then_number, solved_number}
 use Rattle.asking.specs.Asking.{Asking, done, answered, places_asked, walked}
 use Rattle.asking.proofs.Feeding.{question, finish}
 use Rattle.touching.proofs.Logs.{same_touching}
 use Rattle.inquiry.specs.declared.Inquiry.{Inquiry}
 use Rattle.inquiry.specs.declared.Asked.{Asked}
-use Rattle.inquiry.specs.Inquiry.{sound_of, shown, asked_of, with_reply}
-use Rattle.inquiry.specs.Start.{real_roots_touching, fresh_by, start_of}
-use Rattle.inquiry.proofs.Fresh.{start_sound, start_asks}
-use Rattle.inquiry.proofs.Theorem.{Has, has_asked, has_more, map_take, length_map_take}
+use Rattle.inquiry.specs.declared.Asked.TheVariants.{Question, Finished}
+use Rattle.inquiry.specs.Inquiry.{sound_of, shown, asked_of, place_of, list_in, is_question, with_reply}
+use Rattle.inquiry.specs.Start.{touching_by, real_roots_touching, fresh_by}
+use Rattle.inquiry.proofs.Theorem.{Has, has_asked, has_more, map_take, length_map_take, solved_has}
 
 -- ---- the start, solved without logarithms
-pub brief_number : (coeffs : List Float) (tol : Float) (s : Solved) → ButLogs s (solve_of coeffs tol) → s.number ≡ refusal_of coeffs
-brief_number coeffs tol s (lg, b) = ap (λ (r : Solved). r.number) b ∙ solved_number coeffs tol
+pub brief_number : (coeffs : List Float) (tol : Float) (r : Result Solved Refusal) → ButLogs r (solve_of coeffs tol) → outcome_of r ≡ refusal_of coeffs
+brief_number coeffs tol r (lg, b) = ap outcome_of b ∙ then_number (relogged lg) (solve_of coeffs tol) ∙ solved_number coeffs tol
 
-pub brief_has : (coeffs : List Float) (tol : Float) (s : Solved) → ButLogs s (solve_of coeffs tol) → Has (real_roots_touching coeffs tol) [] (fresh_by s)
-unfolding start_of sound_of
-brief_has coeffs tol s (lg, b) =
-    let solved = solve_of coeffs tol in
-    subst⁻¹ (λ (r : Solved). Has (real_roots_touching coeffs tol) [] (fresh_by r)) b (record {
-      asks_it = same_touching lg solved.poly solved.tol (list_of solved.roots) (pair_list_of solved.pairs) ∙ start_asks coeffs tol;
+relogged_has : (t : Asking (List RealRoot)) (lg : List Float) (r : Result Solved Refusal) → Has t [] (fresh_by (solved_in r))
+    → Has t [] (fresh_by (solved_in (and_then r (λ s. Ok (relogged lg s)))))
+unfolding sound_of
+relogged_has t lg (Ok s) h =
+    record {
+      asks_it = same_touching lg s.poly s.tol (list_of s.roots) (pair_list_of s.pairs) ∙ h.asks_it;
       has = refl;
       array = refl;
       count = refl;
-      sound = start_sound coeffs tol;
-    })
+      sound = h.sound;
+    }
+relogged_has t lg (Err refusal) h = h
+
+pub brief_has : (coeffs : List Float) (tol : Float) (r : Result Solved Refusal) → ButLogs r (solve_of coeffs tol)
+    → Has (real_roots_touching coeffs tol) [] (fresh_by (solved_in r))
+brief_has coeffs tol r (lg, b) =
+    subst⁻¹ (λ (x : Result Solved Refusal). Has (real_roots_touching coeffs tol) [] (fresh_by (solved_in x))) b
+    (relogged_has (real_roots_touching coeffs tol) lg (solve_of coeffs tol) (solved_has coeffs tol))
 
 -- a refused list asks nothing
 pub refused_asks : (coeffs : List Float) (tol : Float) → eqb (refusal_of coeffs) 0 ≡ false → real_roots_touching coeffs tol ≡ done []
-unfolding real_roots_touching
-refused_asks coeffs tol h = rw h
+unfolding real_roots_touching solve_of
+refused_asks coeffs tol h = go (counted_of coeffs) h
+  where
+    go : (r : Result ℕ Refusal) → eqb (outcome_of r) 0 ≡ false
+        → touching_by (and_then r (λ n. Ok (finished_of (poly_of coeffs) (zeros_of coeffs) (max_of tol zero64)))) ≡ done []
+    go (Ok n) h = absurd (true≢false h)
+    go (Err refusal) h = refl
 
 -- ---- q has the replies of touches to the first questions of t, as many as it counts
 abbrev pub Along : (Float → Bool) → Asking (List RealRoot) → Inquiry → Type 0
@@ -69,33 +85,33 @@ module _ (touches : Float → Bool) (t : Asking (List RealRoot)) (few : length (
   shows : a ≡ shown (walked (map touches (take n xs)) t)
   shows = is ∙ has_asked t q (map touches (take n xs)) h.1
 
-  ends : n ≡ length xs → a ≡ record { asking = false; place = zero64; list = roots_of (answered touches t) }
+  ends : n ≡ length xs → a ≡ Finished (roots_of (answered touches t))
   unfolding shown
   ends e =
       shows ∙ ap (λ (k : ℕ). shown (walked (map touches (take k xs)) t)) e ∙ ap (λ (l : List Float). shown (walked (map touches l) t)) (take-length xs)
       ∙ ap shown (finish touches t)
 
-  asks_at : n < length xs → a ≡ record { asking = true; place = get_or xs n nan; list = roots_of [] }
+  asks_at : n < length xs → a ≡ Question (get_or xs n nan)
   unfolding shown
   asks_at less = shows ∙ ap shown (question touches t n less)
 
-  more : a.asking ≡ true → n < length xs
-  more on = ⊎_elim (λ e. absurd (true≢false (sym on ∙ ap (λ (b : Asked). b.asking) (ends e)))) (λ less. less) (eq-or-lt_of_le h.0)
+  more : is_question a ≡ true → n < length xs
+  more on = ⊎_elim (λ e. absurd (true≢false (sym on ∙ ap is_question (ends e)))) (λ less. less) (eq-or-lt_of_le h.0)
 
-  pub along_room : a.asking ≡ true → n < 3
+  pub along_room : is_question a ≡ true → n < 3
   along_room on = omega (arith, more on, few)
 
-  pub along_next : a.asking ≡ true → Along touches t (with_reply q (touches a.place))
+  pub along_next : is_question a ≡ true → Along touches t (with_reply q (touches (place_of a)))
   along_next on =
       let room = more on in
-      let place : a.place ≡ get_or xs n nan = ap (λ (b : Asked). b.place) (asks_at room) in
+      let place : place_of a ≡ get_or xs n nan = ap place_of (asks_at room) in
       let so_far = length_map_take touches xs n h.0 in
-      let more = has_more t q (map touches (take n xs)) (touches a.place) (omega (arith, so_far, few, room)) h.1 in
+      let more = has_more t q (map touches (take n xs)) (touches (place_of a)) (omega (arith, so_far, few, room)) h.1 in
       let is-more = ap (λ (k : ℕ). map touches (take k xs)) (add-one n) ∙ map_take touches xs n room
       ∙ ap (λ (x : Float). map touches (take n xs) ++ touches x ∷ []) (sym place) in
-      (omega (arith, room), subst⁻¹ (λ (rs : List Bool). Has t rs (with_reply q (touches a.place))) is-more more)
+      (omega (arith, room), subst⁻¹ (λ (rs : List Bool). Has t rs (with_reply q (touches (place_of a)))) is-more more)
 
-  pub along_end : a.asking ≡ false → a.list ≡ roots_of (answered touches t)
+  pub along_end : is_question a ≡ false → list_in a ≡ roots_of (answered touches t)
   along_end off =
-      ⊎_elim (λ e. ap (λ (b : Asked). b.list) (ends e)) (λ less. absurd (true≢false (sym (ap (λ (b : Asked). b.asking) (asks_at less)) ∙ off)))
+      ⊎_elim (λ e. ap list_in (ends e)) (λ less. absurd (true≢false (sym (ap is_question (asks_at less)) ∙ off)))
       (eq-or-lt_of_le h.0)

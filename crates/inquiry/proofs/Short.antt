@@ -2,6 +2,9 @@
 use mathlib.Core.Path.{◌≡◌, ap}
 use mathlib.Core.List.{List}
 use lib.Ieee.{Float}
+use Rattle.std.specs.Prelude.{Result, Ok}
+use Rattle.refusals.specs.declared.Refusal.{Refusal}
+use Rattle.refusals.specs.Refusals.{and_then}
 use Rattle.poly.specs.declared.Solved.{Solved}
 use Rattle.poly.specs.Short.{short_of}
 use Rattle.poly.proofs.Short.{short_solves}
@@ -9,4 +12,4 @@ use Rattle.inquiry.specs.Start.{fresh_by, start_of}
 
 pub short_starts : (coeffs : List Float) (tol : Float) → start_of (short_of coeffs) tol ≡ start_of coeffs tol
 unfolding start_of
-short_starts coeffs tol = ap (λ (s : Solved). record { number = s.number; inquiry = fresh_by s }) (short_solves coeffs tol)
+short_starts coeffs tol = ap (λ (r : Result Solved Refusal). and_then r (λ s. Ok (fresh_by s))) (short_solves coeffs tol)

@@ -1,5 +1,5 @@
 -- The list that an inquiry shows has at most four roots, which count at most four times, whatever the inquiry is; `see` shows it too.
-use mathlib.Core.Path.{◌≡◌, refl, subst}
+use mathlib.Core.Path.{◌≡◌, refl, sym, ap, ◌∙◌, subst, subst⁻¹}
 use mathlib.Core.Bool.{Bool, true, false, cond}
 use mathlib.Core.List.{List, []}
 use Prim.Native.Nat.{ℕ, ◌+◌, ◌-◌, ◌*◌, ◌≤◌, ◌<◌}
@@ -18,15 +18,15 @@ use Rattle.touching.proofs.Bound.{ListedIn, touching_within}
 use Rattle.inquiry.specs.declared.Inquiry.{Inquiry}
 use Rattle.inquiry.specs.declared.Asked.{Asked}
 use Rattle.inquiry.specs.declared.Seen.{Seen}
-use Rattle.inquiry.specs.Inquiry.{sound_of, asking, shown, nothing, seen_at, unseen, asked_of, seen_of}
+use Rattle.inquiry.specs.Inquiry.{sound_of, asking, shown, nothing, list_in, seen_at, unseen, asked_of, seen_of}
 use Rattle.inquiry.proofs.Sound.{sound_is}
 
-stage_fits : (d : ℕ) (X : Type 0) (s : Stage (List RealRoot)) → d ≤ 4 → AtStage X (ListedIn d) s → Fits (shown s).list
+stage_fits : (d : ℕ) (X : Type 0) (s : Stage (List RealRoot)) → d ≤ 4 → AtStage X (ListedIn d) s → Fits (list_in (shown s))
 unfolding shown
 stage_fits d X (asks x) four h = (refl, omega arith)
 stage_fits d X (ended l rs) four h = let each = length_counted l (counted l h.0) in let sum = h.1 in roots_fit l (omega arith)
 
-stage_within : (d : ℕ) (X : Type 0) (s : Stage (List RealRoot)) → d ≤ 4 → AtStage X (ListedIn d) s → Within 4 (list_of (shown s).list)
+stage_within : (d : ℕ) (X : Type 0) (s : Stage (List RealRoot)) → d ≤ 4 → AtStage X (ListedIn d) s → Within 4 (list_of (list_in (shown s)))
 unfolding shown
 stage_within d X (asks x) four h = within_more 0 4 [] (omega arith) within_none
 stage_within d X (ended l rs) four h =
@@ -55,11 +55,11 @@ shown_by P none each q = go (sound_of q) refl
         each d (length rs < most) (walked rs (asking q)) (omega arith)
         (walked_within (ListedIn d) rs most (asking q) (touching_within q.poly q.tol roots pairs))
 
-pub shown_fits : (q : Inquiry) → Fits (asked_of q).list
-shown_fits = shown_by (λ a. Fits a.list) (refl, omega arith) stage_fits
+pub shown_fits : (q : Inquiry) → Fits (list_in (asked_of q))
+shown_fits = shown_by (λ a. Fits (list_in a)) (refl, omega arith) stage_fits
 
-pub shown_within : (q : Inquiry) → Within 4 (list_of (asked_of q).list)
-shown_within = shown_by (λ a. Within 4 (list_of a.list)) (within_more 0 4 [] (omega arith) within_none) stage_within
+pub shown_within : (q : Inquiry) → Within 4 (list_of (list_in (asked_of q)))
+shown_within = shown_by (λ a. Within 4 (list_of (list_in a))) (within_more 0 4 [] (omega arith) within_none) stage_within
 
 pub asked_seen : (q : Inquiry) → asked_of q ≡ (seen_of q).asked
 unfolding asked_of seen_of
@@ -69,5 +69,11 @@ asked_seen q = go (sound_of q) (seen_at (walked (replies_of q.replies) (asking q
     go true s u = refl
     go false s u = refl
 
-pub seen_fits : (q : Inquiry) → Fits (seen_of q).asked.list
-seen_fits q = subst (λ (a : Asked). Fits a.list) (asked_seen q) (shown_fits q)
+pub seen_fits : (q : Inquiry) → Fits (list_in (seen_of q).asked)
+seen_fits q = subst (λ (a : Asked). Fits (list_in a)) (asked_seen q) (shown_fits q)
+
+-- what `ask` promises, of what `see` shows
+pub asked_within : (q : Inquiry) (s : Seen) → s ≡ seen_of q → (s.asked ≡ asked_of q) × Within 4 (list_of (list_in s.asked))
+asked_within q s h =
+    let e : s.asked ≡ asked_of q = ap (λ (t : Seen). t.asked) h ∙ sym (asked_seen q) in
+    (e, subst⁻¹ (λ (a : Asked). Within 4 (list_of (list_in a))) e (shown_within q))

@@ -42,6 +42,9 @@ module _ (l : List RealRoot) (d : RealRoot) (k n : ℕ) where
   unfolding counted_in
   count_end h = ap (counted_in n) (drop_of_length-le l {i = k} h)
 
+-- `counted_in`, by what is left of the roots and of the sum
+pub ruleset counts = (count_none, count_over, count_go, count_end)
+
 -- ---- what the tests say
 counted_is : (n : ℕ) (l : List RealRoot) → counted_in n l ≡ true → Counted l × (multiplicities l ≤ n)
 unfolding counted_in

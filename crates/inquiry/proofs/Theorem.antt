@@ -1,6 +1,6 @@
 -- Every claim about inquiries. An inquiry that was fed n replies has what it began with and those replies, and so shows the place number n of the Rust, or its
 -- list.
-use mathlib.Core.Path.{◌≡◌, refl, sym, ap, ◌∙◌, subst}
+use mathlib.Core.Path.{◌≡◌, refl, sym, ap, ◌∙◌, subst, subst⁻¹}
 use mathlib.Core.Bool.{Bool, true}
 use mathlib.Core.List.{List, [], ◌∷◌, ◌++◌, map}
 use Prim.Native.Nat.{ℕ, zero, suc, ◌+◌, ◌*◌, ◌-◌, ◌≤◌, ◌<◌}
@@ -17,7 +17,9 @@ use Rattle.roots.specs.Listed.{multiplicities, Within}
 use Rattle.roots.proofs.Laws.{length_pair_list}
 use Rattle.roots.proofs.Sums.{counted, length_counted}
 use Rattle.poly.specs.Coefficients.{degree_left}
-use Rattle.poly.specs.Solve.{solve_of}
+use Rattle.refusals.specs.Refusals.{value_or}
+use Rattle.poly.specs.declared.Solved.{Solved}
+use Rattle.poly.specs.Solve.{solve_of, solved_in}
 use Rattle.poly.proofs.Sums.{solved_shared, solved_fits}
 use Rattle.asking.specs.Asking.{Asking, answered, places_asked, walked, asks}
 use Rattle.asking.specs.Within.{EndsWithin, AtStage}
@@ -26,15 +28,14 @@ use Rattle.asking.proofs.Within.{answered_within, places_within, walked_within}
 use Rattle.touching.specs.Replies.{replies_of}
 use Rattle.touching.proofs.Bound.{ListedIn, touching_within}
 use Rattle.inquiry.specs.declared.Inquiry.{Inquiry}
-use Rattle.inquiry.specs.declared.Asked.{Asked}
 use Rattle.inquiry.specs.declared.Seen.{Seen}
-use Rattle.inquiry.specs.Inquiry.{sound_of, asking, shown, seen_at, unseen, asked_of, seen_of, with_reply, replied_of}
-use Rattle.inquiry.specs.Start.{real_roots_touching, start_of, fed}
+use Rattle.inquiry.specs.Inquiry.{sound_of, asking, shown, seen_at, unseen, asked_of, place_of, is_question, seen_of, with_reply, after}
+use Rattle.inquiry.specs.Start.{real_roots_touching, fresh_by, start_of, inquiry_in, fed}
 use Rattle.inquiry.specs.Claims.{Fed}
-use Rattle.inquiry.proofs.Sound.{Sound, sound_is, sound_holds}
+use Rattle.inquiry.proofs.Sound.{sound_is, sound_holds}
 use Rattle.inquiry.proofs.Shown.{asked_seen}
 use Rattle.inquiry.proofs.Questions.{reply_taken, reply_refused}
-use Rattle.inquiry.proofs.Fresh.{start_sound, start_asks}
+use Rattle.inquiry.proofs.Fresh.{solved_sound, solved_asks, start_is}
 
 -- ---- an inquiry with some replies
 -- p asks what t asks, has these replies, and is sound
@@ -79,13 +80,11 @@ has_more t p rs r room h =
     }
 
 has_reply : (t : Asking (List RealRoot)) (p : Inquiry) (rs : List Bool) (x : Float) (touches : Float → Bool) → length rs < 4 → Has t rs p → walked rs t ≡ asks x
-    → Has t (rs ++ touches x ∷ []) (replied_of p (touches (asked_of p).place)).inquiry
+    → Has t (rs ++ touches x ∷ []) (after p (touches (place_of (asked_of p))))
 unfolding shown
 has_reply t p rs x touches room h e =
     let s = has_asked t p rs h ∙ ap shown e in
-    let place : (asked_of p).place ≡ x = ap (λ (a : Asked). a.place) s in
-    let on : (asked_of p).asking ≡ true = ap (λ (a : Asked). a.asking) s in
-    rw (place, ← (reply_taken p (touches x) on)) (has_more t p rs (touches x) room h)
+    rw (ap place_of s, ← (reply_taken p (touches x) (ap is_question s))) (has_more t p rs (touches x) room h)
 
 -- ---- the first replies of a function
 pub map_take : (f : Float → Bool) (l : List Float) (n : ℕ) → n < length l → map f (take (suc n) l) ≡ map f (take n l) ++ f (get_or l n nan) ∷ []
@@ -122,35 +121,35 @@ module _ (touches : Float → Bool) (t : Asking (List RealRoot)) (q : Inquiry) (
 
 -- ---- the bounds
 module _ (coeffs : List Float) (tol : Float) where
+  abbrev s : Solved
+  s = solved_in (solve_of coeffs tol)
+
   abbrev most : ℕ
-  most = (length (list_of (solve_of coeffs tol).roots) + 2 * length (pair_list_of (solve_of coeffs tol).pairs)) - 1
+  most = (length (list_of s.roots) + 2 * length (pair_list_of s.pairs)) - 1
 
   abbrev total : ℕ
-  total = multiplicities (list_of (solve_of coeffs tol).roots) + 2 * length (pair_list_of (solve_of coeffs tol).pairs)
+  total = multiplicities (list_of s.roots) + 2 * length (pair_list_of s.pairs)
 
   bounds : EndsWithin most (real_roots_touching coeffs tol) (λ m l. ListedIn total l)
-  unfolding start_of
   bounds =
-      subst (λ (t : Asking (List RealRoot)). EndsWithin most t (λ m l. ListedIn total l)) (start_asks coeffs tol)
-      (touching_within (solve_of coeffs tol).poly (solve_of coeffs tol).tol (list_of (solve_of coeffs tol).roots) (pair_list_of (solve_of coeffs tol).pairs))
-
-  sound : Sound (start_of coeffs tol).inquiry
-  sound = sound_is (start_of coeffs tol).inquiry (start_sound coeffs tol)
+      subst (λ (t : Asking (List RealRoot)). EndsWithin most t (λ m l. ListedIn total l)) (solved_asks coeffs tol)
+      (touching_within s.poly s.tol (list_of s.roots) (pair_list_of s.pairs))
 
   -- at most R roots and P pairs, R + 2 P at most 4, and at most the degree
   sizes : (most ≤ 3) × (most ≤ degree_left coeffs - 1) × (total ≤ 4) × (total ≤ degree_left coeffs)
-  unfolding start_of
   sizes =
-      let s = solved_shared coeffs tol in
-      let each = length_counted (list_of (solve_of coeffs tol).roots) (counted (list_of (solve_of coeffs tol).roots) s.listed) in
-      let pairs = length_pair_list (solve_of coeffs tol).pairs (solved_fits coeffs tol).1 in
-      let four = sound.total in
-      let degree = s.sum in
+      let shared = solved_shared coeffs tol in
+      let each = length_counted (list_of s.roots) (counted (list_of s.roots) shared.listed) in
+      let pairs = length_pair_list s.pairs (solved_fits coeffs tol).1 in
+      let four = (sound_is (fresh_by s) (solved_sound coeffs tol)).total in
+      let degree = shared.sum in
       (omega (arith, each, pairs, four), omega (arith, each, degree), omega (arith, pairs, four), omega (arith, degree))
 
-  pub start_has : Has (real_roots_touching coeffs tol) [] (start_of coeffs tol).inquiry
-  unfolding start_of
-  start_has = record { asks_it = start_asks coeffs tol; has = refl; array = refl; count = refl; sound = start_sound coeffs tol }
+  pub solved_has : Has (real_roots_touching coeffs tol) [] (fresh_by s)
+  solved_has = record { asks_it = solved_asks coeffs tol; has = refl; array = refl; count = refl; sound = solved_sound coeffs tol }
+
+  pub start_has : Has (real_roots_touching coeffs tol) [] (inquiry_in (start_of coeffs tol))
+  start_has = subst⁻¹ (Has (real_roots_touching coeffs tol) []) (start_is coeffs tol) solved_has
 
   -- replies that lead to a question are at most two
   pub start_room : (rs : List Bool) (x : Float) → walked rs (real_roots_touching coeffs tol) ≡ asks x → length rs < 3
@@ -167,16 +166,17 @@ module _ (touches : Float → Bool) (coeffs : List Float) (tol : Float) where
   pub start_few : length (places_asked touches (real_roots_touching coeffs tol)) ≤ 3
   start_few = omega (arith, asked_most, (sizes coeffs tol).0)
 
-  pub start_fed : Fed touches (start_of coeffs tol).inquiry coeffs tol
+  pub start_fed : Fed touches (inquiry_in (start_of coeffs tol)) coeffs tol
   unfolding shown
   start_fed =
       let t = real_roots_touching coeffs tol in
-      let q = (start_of coeffs tol).inquiry in
+      let q = inquiry_in (start_of coeffs tol) in
+      let last = fed touches (length (places_asked touches t)) q in
       let end = ends_with touches t q (start_has coeffs tol) start_few ∙ ap shown (finish touches t) in
       record {
         question = asks_at touches t q (start_has coeffs tol) start_few;
         finished = end;
-        over = λ r. sym (reply_refused (fed touches (length (places_asked touches t)) q) r (ap (λ (a : Asked). a.asking) end));
+        over = λ r. let refused = sym (reply_refused last r (ap is_question end)) in (refused, ap (value_or last) refused);
       }
 
   pub start_list : Within (degree_left coeffs) (answered touches (real_roots_touching coeffs tol))

@@ -10,9 +10,10 @@ ghost use Rattle.asking.specs.Asking.{asks, walked};
 ghost use Rattle.touching.specs.Touching.{touching};
 ghost use Rattle.touching.specs.Replies.{replies_of};
 ghost use Rattle.touching.specs.Walk.{left_of, RepliesFit, Held};
-ghost use Rattle.inquiry.specs.Inquiry.{counted_in, sizes_fit, sound_of, over_by, seen_at, unseen, asked_of, seen_of, replied_of};
+ghost use Rattle.inquiry.specs.Inquiry.{counted_in, sizes_fit, sound_of, list_in, over_by, seen_at, unseen, asked_of, seen_of, replied_of};
 ghost use Rattle.inquiry.specs.Start.{fresh_by, start_of, given, shown_after_of};
 
+use refusals::Refusal;
 use touching::{Replies, Walker};
 
 // What `solve` and `finish` gave, in the scaled variable, the tolerance, and the replies.
@@ -25,76 +26,53 @@ pub struct Inquiry {
     pub replies: Replies,
 }
 
-// An inquiry, and 0; or the number of the refusal, and an inquiry that asks nothing and lists nothing.
-#[derive(Clone, Copy)]
-pub struct Started {
-    pub number: u32,
-    pub inquiry: Inquiry,
-}
-
 // A question about a place, or the finished list.
 #[derive(Clone, Copy)]
-pub struct Asked {
-    pub asking: bool,
-    pub place: f64,
-    pub list: roots::Roots,
+pub enum Asked {
+    Question(f64),
+    Finished(roots::Roots),
 }
 
-// What is shown; number is 0, or NOTHING_ASKED where a reply was not needed: the last one's, had they come one by one.
+// What is shown, and why the last reply is refused, had they come one by one: it was not needed.
 #[derive(Clone, Copy)]
 pub struct Seen {
-    pub number: u32,
     pub asked: Asked,
-}
-
-// The number of the start, 0 or that of its refusal, and what is shown.
-#[derive(Clone, Copy)]
-pub struct ShownAfter {
-    pub number: u32,
-    pub seen: Seen,
-}
-
-// The inquiry after a reply; number is 0, or NOTHING_ASKED where nothing was being asked.
-#[derive(Clone, Copy)]
-pub struct Replied {
-    pub number: u32,
-    pub inquiry: Inquiry,
+    pub refused: Option<Refusal>,
 }
 
 fn nothing() -> Seen
     ensures { result ≡ unseen }
 {
-    let asked = Asked {
-        asking: false,
-        place: 0.0,
-        list: roots::Roots::none(),
-    };
-    Seen { number: 0, asked }
+    Seen {
+        asked: Asked::Finished(roots::Roots::none()),
+        refused: None,
+    }
 }
 
+#[tactic(auto, unfolding(crate::specs::Inquiry::shown, crate::specs::Inquiry::over_by, asking::specs::Asking::left_by))]
 fn question(place: f64) -> Seen
     ensures { result ≡ seen_at (asks place) }
 {
-    let asked = Asked {
-        asking: true,
-        place,
-        list: roots::Roots::none(),
-    };
-    Seen { number: 0, asked }
+    Seen {
+        asked: Asked::Question(place),
+        refused: None,
+    }
 }
 
-// The last reply's number, where a walk ends after `used` of them.
-fn over(replies: Replies, used: usize) -> u32
+// Why the last reply is refused, where a walk ends after `used` of them.
+#[tactic(auto, using(touching::proofs::Lists::reply_cons, touching::proofs::Lists::reply_nil), unfolding(crate::specs::Inquiry::over_by))]
+fn over(replies: Replies, used: usize) -> Option<Refusal>
     requires { RepliesFit replies }
     ensures { result ≡ over_by (left_of replies used) }
 {
     if used < replies.count {
-        return refusals::NOTHING_ASKED;
+        return Some(Refusal::NothingAsked);
     }
-    0
+    None
 }
 
 // Each root counts at least once, and together they count at most `most` times.
+#[tactic(auto, using(crate::proofs::Sound::counts))]
 fn counted_in(most: usize, roots: roots::Roots) -> bool
     requires { Fits roots }
     ensures { result ≡ counted_in most (list_of roots) }
@@ -117,6 +95,7 @@ fn sizes_fit(d: usize, replies: usize, roots: usize, pairs: usize) -> bool
 }
 
 // The question, or the finished list, and whether every reply was needed.
+#[tactic(auto, using(crate::proofs::Ends::walk_ends))]
 fn walk_all(walker: &Walker, roots: roots::Roots, pairs: roots::Pairs) -> Seen
     requires { Held roots pairs }
     ensures { result ≡ seen_at (walked (replies_of walker.now.replies)
@@ -124,17 +103,10 @@ fn walk_all(walker: &Walker, roots: roots::Roots, pairs: roots::Pairs) -> Seen
 {
     match walker.touching(roots, pairs) {
         Err(q) => question(q.place),
-        Ok(w) => {
-            let asked = Asked {
-                asking: false,
-                place: 0.0,
-                list: w.items,
-            };
-            Seen {
-                number: over(walker.replies, w.used),
-                asked,
-            }
-        }
+        Ok(w) => Seen {
+            asked: Asked::Finished(w.items),
+            refused: over(walker.replies, w.used),
+        },
     }
 }
 
@@ -152,19 +124,16 @@ fn begun(s: poly::Solved, replies: Replies) -> Inquiry
 }
 
 // 1, 2 and 3 are refused as for a list.
-pub fn start(coeffs: &[f64], tol: f64) -> Started
+#[tactic(auto, unfolding(crate::specs::Start::start_of))]
+pub fn start(coeffs: &[f64], tol: f64) -> Result<Inquiry, Refusal>
     ensures { result ≡ start_of coeffs.now tol }
 {
-    let s = poly::solve(coeffs, tol);
-    let number = s.number;
-    let inquiry = begun(
-        s,
-        Replies {
-            reply: [false; 4],
-            count: 0,
-        },
-    );
-    Started { number, inquiry }
+    let s = poly::solve(coeffs, tol)?;
+    let none = Replies {
+        reply: [false; 4],
+        count: 0,
+    };
+    Ok(begun(s, none))
 }
 
 // What is shown of what was solved, with these replies: for those who reply by a function of the place.
@@ -176,18 +145,16 @@ pub fn asked_with(s: poly::Solved, replies: Replies) -> Asked
 }
 
 // What `start` and `see` show with these replies put in at once. The inquiry is not handed out, so a level list is solved without logarithms.
-pub fn shown_after(coeffs: &[f64], tol: f64, replies: Replies) -> ShownAfter
+pub fn shown_after(coeffs: &[f64], tol: f64, replies: Replies) -> Result<Seen, Refusal>
     ensures { result ≡ shown_after_of coeffs.now tol replies }
 {
-    let s = poly::solve_brief(coeffs, tol);
-    let number = s.number;
-    let inquiry = begun(s, replies);
-    let seen = inquiry.see();
-    ShownAfter { number, seen }
+    let s = poly::solve_brief(coeffs, tol)?;
+    Ok(begun(s, replies).see())
 }
 
 impl Inquiry {
     // Whether `start` and `reply` can have made it, by its sizes.
+    #[tactic(auto, using(crate::proofs::Sound::sound_by), unfolding(crate::specs::Inquiry::sound_of))]
     pub fn is_sound(self) -> bool
         ensures { result ≡ sound_of self }
     {
@@ -202,7 +169,7 @@ impl Inquiry {
     // The question, or the finished list; neither for a value that is not sound.
     // Whatever the inquiry is, a list has at most four finite roots, each counting at least once, together at most four times.
     pub fn ask(self) -> Asked
-        ensures { (result ≡ asked_of self) × Within 4 (list_of result.list) }
+        ensures { (result ≡ asked_of self) × Within 4 (list_of (list_in result)) }
     {
         self.see().asked
     }
@@ -222,19 +189,18 @@ impl Inquiry {
         nothing()
     }
 
-    // Where nothing is being asked the inquiry is returned as it was.
-    pub fn reply(self, yes: bool) -> Replied
+    // The inquiry after the reply, refused where nothing is being asked.
+    #[tactic(auto, using(crate::proofs::Questions::asking_room), unfolding(crate::specs::Inquiry::replied_of))]
+    pub fn reply(self, yes: bool) -> Result<Inquiry, Refusal>
         ensures { result ≡ replied_of self yes }
     {
-        let a = self.ask();
-        if a.asking {
-            let mut inquiry = self;
-            inquiry.replies = self.replies.with(yes);
-            return Replied { number: 0, inquiry };
-        }
-        Replied {
-            number: refusals::NOTHING_ASKED,
-            inquiry: self,
+        match self.ask() {
+            Asked::Question(_) => {
+                let mut inquiry = self;
+                inquiry.replies = self.replies.with(yes);
+                Ok(inquiry)
+            }
+            Asked::Finished(_) => Err(Refusal::NothingAsked),
         }
     }
 }

@@ -27,7 +27,7 @@ pub struct Disc {
     pub root: f64,
 }
 
-// Of y^2 + al*y + be.
+// Of y^2 + al*y + be. (al and be by themselves here and above, as in poly.rs: Quad is what Factors keeps.)
 #[tactic(auto, unfolding(crate::specs::Isolated::disc_of))]
 pub fn disc_of(al: f64, be: f64) -> Disc
     ensures { result ≡ disc_of al be }
@@ -54,6 +54,7 @@ pub fn far_root(al: f64, disc: f64) -> f64
     far_by(al, sqrt::sqrt(disc))
 }
 
+#[tactic(auto, using(crate::proofs::Laws::real_pair, crate::proofs::Laws::complex_pair))]
 fn root_pair(al: f64, be: f64, s: Disc) -> [Complex; 2]
     requires { s ≡ disc_of al be }
     ensures { result ≡ root_pair_of al be }
@@ -115,6 +116,7 @@ fn judge(best: Option<Best>, z: Complex, near: [f64; 3], apart: [f64; 3]) -> Opt
 }
 
 // The four roots are written out: which of the six distances are a root's own differs at each, and tables of them would be longer.
+#[tactic(auto, using(crate::proofs::Laws::in_turn))]
 fn best_root(quads: quartic::QuarticFactor, first: Disc, second: Disc) -> Option<Best>
     requires { (first ≡ disc_of quads.al quads.be) × (second ≡ disc_of quads.ga quads.de) }
     ensures { result ≡ best_root_of quads }
@@ -141,6 +143,7 @@ pub struct Pairing {
     pub second: Disc,
 }
 
+#[tactic(auto, using(crate::proofs::Laws::mapped, crate::proofs::Laws::is_lone))]
 pub fn isolated(quads: quartic::QuarticFactor) -> Pairing
     ensures { result ≡ isolated_of quads }
 {
@@ -166,6 +169,7 @@ pub struct Peeled {
     pub h0: f64,
 }
 
+// (The coefficients one by one, as in poly.rs and as C hands them in.)
 #[tactic(auto, unfolding(crate::specs::Isolated::peel_root_of))]
 pub fn peel_root(b: f64, c: f64, d: f64, e: f64, r: f64) -> Peeled
     ensures { result ≡ peel_root_of b c d e r }

@@ -6,10 +6,10 @@ use Prim.Native.Nat.{ℕ, zero, suc, ◌+◌, ◌*◌, ◌≤◌, ◌<◌}
 use native.Mathlib.Numerals.{add-one}
 use native.Mathlib.Omega.{arith}
 use lib.ListN.{length, get_or, take, length-set}
-use lib.Seq.{take-suc}
-use lib.Ieee.{Float, nan, binary64, div, lt, is_nan}
+use lib.Seq.{take-suc, get_or-take}
+use lib.Ieee.{Float, nan, binary64, of_bits, div, lt, is_nan}
 use Rattle.facts.specs.Cond.{either_way}
-use Rattle.facts.specs.Lists.{sum_of, take_pushed, sum_append}
+use Rattle.facts.specs.Lists.{sum_of, take_pushed, sum_append, length_mapped}
 use Rattle.float.specs.Literals.{zero64}
 use Rattle.float.specs.Methods.{abs_of}
 use Rattle.sqrt.specs.Root.{sqrt_of}
@@ -17,22 +17,24 @@ use Rattle.horner.specs.Product.{discriminant_of}
 use Rattle.isolated.specs.Isolated.{far_root_of}
 use Rattle.factors.specs.declared.Quad.{Quad}
 use Rattle.factors.specs.declared.Factors.{Factors}
-use Rattle.factors.specs.Factors.{quad_of, degree_of}
+use Rattle.factors.specs.Factors.{degree_of}
 use Rattle.large_factors.specs.declared.Unit.{Unit}
 use Rattle.large_factors.specs.declared.Units.{Units}
 use Rattle.large_factors.specs.Large.{unit_of, real_unit, quad_units_of, factor_units_of, no_units, added_of, all_added}
 
 -- ---- the units of one quadratic factor
-module _ (u : Units) (al be disc : Float) (D : disc ≡ discriminant_of al be) where
-  pub quad_split : (q : Float) (v w : Units) → lt zero64 disc ≡ true → q ≡ far_root_of al disc → v ≡ added_of u (real_unit q)
-      → w ≡ added_of v (real_unit (div binary64 be q)) → w ≡ all_added u (quad_units_of (quad_of al be))
-  unfolding quad_units_of all_added
-  quad_split q v w t Q E F = rw (rw D at t) (rw (F, E, Q, D))
+module _ (u : Units) (f : Quad) where
+  abbrev disc : Float
+  disc = discriminant_of f.al f.be
 
-  pub quad_whole : (a m : Float) (w : Units) → lt zero64 disc ≡ false → a ≡ abs_of be → m ≡ sqrt_of a → w ≡ added_of u (unit_of m al be)
-      → w ≡ all_added u (quad_units_of (quad_of al be))
+  pub quad_split : lt zero64 disc ≡ true
+      → all_added u (quad_units_of f) ≡ added_of (added_of u (real_unit (far_root_of f.al disc))) (real_unit (div binary64 f.be (far_root_of f.al disc)))
   unfolding quad_units_of all_added
-  quad_whole a m w t A M F = rw (rw D at t) (rw (F, M, A))
+  quad_split t = rw t
+
+  pub quad_whole : lt zero64 disc ≡ false → all_added u (quad_units_of f) ≡ added_of u (unit_of (sqrt_of (abs_of f.be)) f.al f.be)
+  unfolding quad_units_of all_added
+  quad_whole t = rw t
 
 -- ---- one list after the other
 pub added_append : (u : Units) (l m : List Unit) → all_added (all_added u l) m ≡ all_added u (l ++ m)
@@ -115,12 +117,12 @@ splits_degrees (q ∷ quad) (suc k) = omega (arith, splits_degrees quad k, quad_
 both_degrees : (lin : List Float) (n : ℕ) (quad : List Quad) (k : ℕ) → degrees (reals lin n ++ splits quad k) ≤ n + 2 * k
 both_degrees lin n quad k = omega (arith, sum_append unit_degree (reals lin n) (splits quad k), reals_degrees lin n, splits_degrees quad k)
 
-pub units_are : (f : Factors) → reals f.lin f.nlin ++ splits f.quad f.nquad ≡ factor_units_of f
+pub units_are : (f : Factors) → factor_units_of f ≡ reals f.lin f.nlin ++ splits f.quad f.nquad
 unfolding reals splits factor_units_of
 units_are f = refl
 
 pub units_degrees : (f : Factors) → degrees (factor_units_of f) ≤ degree_of f
-units_degrees f = subst (λ (l : List Unit). degrees l ≤ degree_of f) (units_are f) (both_degrees f.lin f.nlin f.quad f.nquad)
+units_degrees f = subst (λ (l : List Unit). degrees l ≤ degree_of f) (sym (units_are f)) (both_degrees f.lin f.nlin f.quad f.nquad)
 
 -- how many the array holds
 pub added_room : (l : List Unit) (u : Units) → u ≡ all_added no_units l → u.n ≤ degrees l
@@ -130,33 +132,37 @@ pub units_count : (f : Factors) → length (factor_units_of f) ≤ degree_of f
 units_count f = omega (arith, length_degrees (factor_units_of f), units_degrees f)
 
 -- ---- the two loops
-module _ (lin : List Float) (i : ℕ) (u : Units) (E : u ≡ all_added no_units (reals lin i)) where
-  pub reals_room : u.n ≤ i
-  reals_room = omega (arith, added_room (reals lin i) u E, reals_degrees lin i)
+module _ (lin : List Float) (i : ℕ) where
+  pub reals_none : all_added no_units (reals lin 0) ≡ no_units
+  unfolding all_added reals
+  reals_none = refl
 
-  pub real_added : (v : Units) (n : ℕ) → length lin ≡ n → i < n → v ≡ added_of u (real_unit (get_or lin i nan)) → v ≡ all_added no_units (reals lin (i + 1))
+  pub reals_room : (all_added no_units (reals lin i)).n ≤ i
+  reals_room = omega (arith, added_room (reals lin i) (all_added no_units (reals lin i)) refl, reals_degrees lin i)
+
+  pub real_added : i < length lin → all_added no_units (reals lin (i + 1)) ≡ added_of (all_added no_units (reals lin i)) (real_unit (get_or lin i nan))
   unfolding all_added
-  real_added v n L h F =
-      F ∙ ap (λ (x : Units). added_of x (real_unit (get_or lin i nan))) E ∙ added_append no_units (reals lin i) (real_unit (get_or lin i nan) ∷ [])
-      ∙ ap (all_added no_units) (sym (reals_more lin i (omega arith)))
+  real_added h = ap (all_added no_units) (reals_more lin i h) ∙ sym (added_append no_units (reals lin i) (real_unit (get_or lin i nan) ∷ []))
 
-  pub reals_all : (n : ℕ) (quad : List Quad) → i ≤ n → n ≤ i → u ≡ all_added no_units (reals lin n ++ splits quad 0)
+  pub reals_all : (quad : List Quad) → all_added no_units (reals lin i ++ splits quad 0) ≡ all_added no_units (reals lin i)
   unfolding flat_map splits
-  reals_all n quad h g =
-      E ∙ ap (λ (k : ℕ). all_added no_units (reals lin k)) (let e : i ≡ n = omega arith in e) ∙ ap (all_added no_units) (sym (append-nil (reals lin n)))
+  reals_all quad = ap (all_added no_units) (append-nil (reals lin i))
 
-module _ (lin : List Float) (n : ℕ) (quad : List Quad) (k : ℕ) (u : Units) (E : u ≡ all_added no_units (reals lin n ++ splits quad k)) where
-  pub splits_room : u.n ≤ n + 2 * k
-  splits_room = omega (arith, added_room (reals lin n ++ splits quad k) u E, both_degrees lin n quad k)
+module _ (lin : List Float) (n : ℕ) (quad : List Quad) (k : ℕ) where
+  pub splits_room : (all_added no_units (reals lin n ++ splits quad k)).n ≤ n + 2 * k
+  splits_room = omega (arith, added_room (reals lin n ++ splits quad k) (all_added no_units (reals lin n ++ splits quad k)) refl, both_degrees lin n quad k)
 
-  pub quad_added : (d : Quad) (v : Units) (m : ℕ) → length quad ≡ m → k < m → v ≡ all_added u (quad_units_of (get_or quad k d))
-      → v ≡ all_added no_units (reals lin n ++ splits quad (k + 1))
-  quad_added d v m L h F =
-      F
-      ∙ ap (λ (x : Units). all_added x (quad_units_of (get_or quad k d))) E
-      ∙ added_append no_units (reals lin n ++ splits quad k) (quad_units_of (get_or quad k d))
+  pub quad_added : (d : Quad) → k < length quad
+      → all_added (all_added no_units (reals lin n ++ splits quad k)) (quad_units_of (get_or quad k d)) ≡ all_added no_units (reals lin n ++ splits quad (k + 1))
+  quad_added d h =
+      added_append no_units (reals lin n ++ splits quad k) (quad_units_of (get_or quad k d))
       ∙ ap (all_added no_units) (append_assoc (reals lin n) (splits quad k) (quad_units_of (get_or quad k d)))
-      ∙ ap (λ (l : List Unit). all_added no_units (reals lin n ++ l)) (sym (splits_more quad k d (omega arith)))
+      ∙ ap (λ (l : List Unit). all_added no_units (reals lin n ++ l)) (sym (splits_more quad k d h))
 
-  pub splits_all : (m : ℕ) → k ≤ m → m ≤ k → u ≡ all_added no_units (reals lin n ++ splits quad m)
-  splits_all m h g = E ∙ ap (λ (j : ℕ). all_added no_units (reals lin n ++ splits quad j)) (let e : k ≡ m = omega arith in e)
+-- What the functions' proofs rest on.
+pub ruleset units = (get_or-take, length_mapped, reals_none, reals_room, real_added, reals_all, splits_room, quad_added, units_are)
+
+-- f64::NAN, by its bits
+unfoldable pub nan_floats : ℕ
+unfolding of_bits div
+nan_floats = 0

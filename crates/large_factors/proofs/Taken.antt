@@ -1,10 +1,11 @@
 -- The large factors, taken from the units in the order of their sizes: each is taken, or ends the search.
-use mathlib.Core.Path.{◌≡◌, sym, ap, ◌∙◌}
-use mathlib.Core.Bool.{Bool, true, false}
-use mathlib.Core.List.{List, ◌∷◌, map}
+use mathlib.Core.Path.{◌≡◌, ap, ◌∙◌}
+use mathlib.Core.Bool.{cond}
+use mathlib.Core.List.{List, map}
 use Prim.Native.Nat.{ℕ, ◌+◌, ◌≤◌, ◌<◌}
 use native.Mathlib.Nat.{min-le_left}
 use native.Mathlib.Omega.{arith}
+use lib.Seq.{get_or-take, length-take-le}
 use lib.ListN.{length, get_or, take, drop, length-map, length-take, drop_of_length-le}
 use lib.Ieee.{Float, nan, binary64, mul}
 use Rattle.facts.specs.Sort.{sorted_by}
@@ -18,6 +19,7 @@ use Rattle.large_factors.specs.declared.Unit.{Unit}
 use Rattle.large_factors.specs.declared.Units.{Units}
 use Rattle.large_factors.specs.Large.{unit_of, factor_units_of, no_smaller, ends_of, with_unit, large_from, large_of, no_units, all_added, in_order}
 use Rattle.large_factors.proofs.Added.{added_list, added_room, units_degrees, units_count}
+use Rattle.large_factors.proofs.Sizes.{none_sized, with_sized}
 
 abbrev pub unit_at : List Unit → ℕ → Unit
 unit_at at i = get_or at i (unit_of nan nan nan)
@@ -49,36 +51,22 @@ module _ (f : Factors) (D : degree_of f ≤ 4) (u : Units) (E : u ≡ all_added 
   large_is sizes S order want threshold r L O R =
       R ∙ ap (large_from want (mul binary64 threshold epsilon64) no_factors) (ap (λ (l : List ℕ). in_order u.at l u.n) O ∙ sorted sizes S L)
 
--- ---- the search, from no factors on
-pub take_none : (want : ℕ) (least : Float) (l : List Unit) (large : Factors) → large ≡ no_factors
-    → large_from want least large l ≡ large_from want least no_factors l
-take_none want least l large e = ap (λ (f : Factors). large_from want least f l) e
-
-module _ (at : List Unit) (order : List ℕ) (n : ℕ) (N : n ≤ 4) (i : ℕ) (want : ℕ) (least : Float) (large : Factors) (degree : ℕ)
-    (D : degree ≡ degree_of large) (t : Bool)
-    (X : t ≡ ends_of (unit_at at (get_or order i 0)) degree want least) (L : length order ≡ 4) (h : i < n) where
+-- ---- the search: a unit is taken, or ends it; and its end
+module _ (at : List Unit) (order : List ℕ) (n i want : ℕ) (least : Float) (large : Factors) where
   abbrev next : Unit
   next = unit_at at (get_or order i 0)
 
-  head : drop i (in_order at order n) ≡ next ∷ drop (i + 1) (in_order at order n)
-  unfolding in_order
-  head = read_cons (unit_at at) order n i (omega arith) h
+  pub take_one : length order ≡ 4 → n ≤ 4 → i < n
+      → large_from want least large (drop i (in_order at order n))
+      ≡ cond (ends_of next (degree_of large) want least) large (large_from want least (with_unit large next) (drop (i + 1) (in_order at order n)))
+  unfolding large_from in_order
+  take_one L N h = ap (large_from want least large) (read_cons (unit_at at) order n i (omega arith) h)
 
-  test : ends_of next (degree_of large) want least ≡ t
-  test = ap (λ (k : ℕ). ends_of next k want least) (sym D) ∙ sym X
+  pub take_all : n ≤ i → large_from want least large (drop i (in_order at order n)) ≡ large
+  unfolding large_from in_order
+  take_all h =
+      let few = length-map (take n order) (unit_at at) ∙ length-take n order in
+      ap (large_from want least large) (drop_of_length-le (map (unit_at at) (take n order)) {i = i} (omega (arith, few, min-le_left n (length order))))
 
-  pub take_ends : t ≡ true → large ≡ large_from want least large (drop i (in_order at order n))
-  unfolding large_from
-  take_ends T = sym (ap (large_from want least large) head ∙ rw (test ∙ T))
-
-  pub take_more : (more : Factors) → t ≡ false → more ≡ with_unit large next
-      → large_from want least more (drop (i + 1) (in_order at order n)) ≡ large_from want least large (drop i (in_order at order n))
-  unfolding large_from
-  take_more more T M = sym (ap (large_from want least large) head ∙ rw (test ∙ T, M))
-
-pub take_all : (at : List Unit) (order : List ℕ) (n i want : ℕ) (least : Float) (large : Factors) → n ≤ i
-    → large ≡ large_from want least large (drop i (in_order at order n))
-unfolding large_from in_order
-take_all at order n i want least large h =
-    let few = length-map (take n order) (unit_at at) ∙ length-take n order in
-    sym (ap (large_from want least large) (drop_of_length-le (map (unit_at at) (take n order)) {i = i} (omega (arith, few, min-le_left n (length order)))))
+-- What the functions' proofs rest on.
+pub ruleset taken = (get_or-take, length-take-le, none_sized, with_sized, take_one, take_all)

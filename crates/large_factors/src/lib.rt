@@ -10,8 +10,8 @@ ghost use Rattle.large_factors.specs.Large.{large_from, large_of, no_units, adde
 
 use factors::{Factors, Quad};
 
-// A root al of the size m, where be is NaN, or a quadratic factor whose roots have the size m: a number for the kind, as in the Rust, whose test also takes a
-// quadratic factor with be NaN for a root.
+// A root al of the size m, where be is NaN, or a quadratic factor whose roots have the size m. (A NaN be and no enum: with_unit is stated of any unit, as the
+// Rust's test is, which takes a quadratic factor with be NaN for a root.)
 #[derive(Clone, Copy)]
 pub struct Unit {
     pub m: f64,
@@ -36,6 +36,7 @@ impl Units {
         self
     }
 
+    #[tactic(auto, unfolding(crate::proofs::Added::nan_floats))]
     fn with_real(self, r: f64) -> Units
         requires { self.n < 4 }
         ensures { result ≡ added_of self (real_unit r) }
@@ -47,6 +48,7 @@ impl Units {
         })
     }
 
+    #[tactic(auto, using(crate::proofs::Added::quad_split, crate::proofs::Added::quad_whole))]
     fn with_quad(self, f: Quad) -> Units
         requires { self.n + 2 ≤ 4 }
         ensures { result ≡ all_added self (quad_units_of f) }
@@ -65,6 +67,7 @@ impl Units {
     }
 }
 
+#[tactic(auto, using(crate::proofs::Added::units))]
 fn units_of(f: Factors) -> Units
     requires { degree_of f ≤ 4 }
     ensures { result ≡ all_added no_units (factor_units_of f) }
@@ -106,6 +109,7 @@ fn with_unit(large: Factors, x: Unit) -> Factors
 }
 
 // The units in this order, down to the one that ends the search.
+#[tactic(auto, using(crate::proofs::Taken::taken))]
 fn take_large(u: Units, order: [usize; 4], want: usize, least: f64) -> Factors
     requires n_high { u.n ≤ 4 }
     requires places { Places order }
@@ -123,6 +127,7 @@ fn take_large(u: Units, order: [usize; 4], want: usize, least: f64) -> Factors
 }
 
 // The factors of the `want` largest roots, as far as the units give them.
+#[tactic(auto, using(crate::proofs::Taken::units_fit))]
 pub fn large(f: Factors, want: usize, threshold: f64) -> Factors
     requires { degree_of f ≤ 4 }
     ensures { result ≡ large_of f want threshold }

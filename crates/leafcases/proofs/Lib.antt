@@ -1,4 +1,2 @@
 -- What the proofs of several functions use.
-pub mod Answers
-pub mod Records
 pub mod Files

@@ -1,19 +1,22 @@
 -- What the program writes for a file of records. A record is 14 bytes: a letter, eight bytes of a double x, a sign, four bytes of the size of a whole
 -- number k, lowest first. Definitions only.
-use Rattle.std.specs.Prelude.{ℕ, zero, suc, ◌+◌, ◌-◌, ◌/◌, ◌^◌, Bool, cond, not, ◌||◌, List, [], ◌∷◌, ◌++◌, eqb, ltb, ℤ, length, get_or, Float}
+use Rattle.std.specs.Prelude.{◌≡◌, ℕ, zero, suc, ◌+◌, ◌-◌, ◌/◌, ◌^◌, ◌≤◌, Bool, cond, List, [], ◌∷◌, ◌++◌, eqb, ltb, false, true, ℤ, length, get_or, Float, Option, Some, None}
+use mathlib.Core.List.{flat_map}
 use Rattle.std.specs.Float.{binary64}
 use Rattle.std.specs.Float.Ieee.{to_bits}
 use Rattle.float.specs.Bytes.{u64_at, f64_at}
 use Rattle.text.specs.Digits.{hex_digits, signed_decimal}
+use Rattle.text.specs.declared.Text.{Text}
+use Rattle.text.specs.Written.{Written}
 use Rattle.ldexp.specs.Scale.{signed, ldexp_of}
 use Rattle.decode.specs.Exponent.{exponent_of}
 use Rattle.log2.specs.Log.{log2_grid_of}
 use Rattle.sqrt.specs.Root.{sqrt_of}
 use Rattle.cbrt.specs.Root.{cbrt_of}
 use Rattle.angle.specs.Third.{third_angle_of}
-use Rattle.c_leaves.specs.Total.{pow2_or_nan}
+use Rattle.ldexp.specs.Total.{pow2_or_nan}
 use Rattle.leafcases.specs.declared.lines.Word.{Word}
-use Rattle.leafcases.specs.declared.lines.Word.TheVariants.{Double, Whole, Nothing}
+use Rattle.leafcases.specs.declared.lines.Word.TheVariants.{Double, Whole}
 use Rattle.leafcases.specs.Words.{sqrt_word, cbrt_word, third_word, log2_word, ldexp_word, exponent_word, pow2_word, bad_line}
 
 -- ---- a line
@@ -22,25 +25,26 @@ use Rattle.leafcases.specs.Words.{sqrt_word, cbrt_word, third_word, log2_word, l
 unfoldable pub word_of : Word → List ℕ
 word_of (Double x) = 32 ∷ hex_digits 16 (to_bits binary64 x)
 word_of (Whole k) = 32 ∷ signed_decimal k
-word_of Nothing = []
+
+-- words one after another
+abbrev pub words_of : List Word → List ℕ
+words_of words = flat_map word_of words
 
 -- the leaf's name, what it is asked, what it answers, and a line feed
-unfoldable pub leaf_line_of : List ℕ → Word → Word → Word → List ℕ
-unfolding word_of
-leaf_line_of name a b c = name ++ (word_of a ++ (word_of b ++ (word_of c ++ (10 ∷ []))))
+unfoldable pub leaf_line_of : List ℕ → List Word → List ℕ
+leaf_line_of name words = name ++ (words_of words ++ (10 ∷ []))
 
--- the line of a record by its letter, and nothing where no leaf has the letter
-unfoldable pub leaf_answer_of : ℕ → Float → ℤ → List ℕ
-unfolding leaf_line_of
+-- the line of a record by its letter, and none where no leaf has the letter
+unfoldable pub leaf_answer_of : ℕ → Float → ℤ → Option (List ℕ)
 leaf_answer_of letter x k =
-    cond (eqb letter 115) (leaf_line_of sqrt_word (Double x) (Double (sqrt_of x)) Nothing)
-    (cond (eqb letter 99) (leaf_line_of cbrt_word (Double x) (Double (cbrt_of x)) Nothing)
-    (cond (eqb letter 97) (leaf_line_of third_word (Double x) (Double (third_angle_of x).cos) (Double (third_angle_of x).sin))
-    (cond (eqb letter 108) (leaf_line_of log2_word (Double x) (Double (log2_grid_of x)) Nothing)
-    (cond (eqb letter 100) (leaf_line_of ldexp_word (Double x) (Whole k) (Double (ldexp_of x k)))
-    (cond (eqb letter 101) (leaf_line_of exponent_word (Double x) (Whole (exponent_of x)) Nothing)
-    (cond (eqb letter 112) (leaf_line_of pow2_word (Whole k) (Double (pow2_or_nan k)) Nothing)
-    []))))))
+    cond (eqb letter 115) (Some (leaf_line_of sqrt_word (Double x ∷ Double (sqrt_of x) ∷ [])))
+    (cond (eqb letter 99) (Some (leaf_line_of cbrt_word (Double x ∷ Double (cbrt_of x) ∷ [])))
+    (cond (eqb letter 97) (Some (leaf_line_of third_word (Double x ∷ Double (third_angle_of x).cos ∷ Double (third_angle_of x).sin ∷ [])))
+    (cond (eqb letter 108) (Some (leaf_line_of log2_word (Double x ∷ Double (log2_grid_of x) ∷ [])))
+    (cond (eqb letter 100) (Some (leaf_line_of ldexp_word (Double x ∷ Whole k ∷ Double (ldexp_of x k) ∷ [])))
+    (cond (eqb letter 101) (Some (leaf_line_of exponent_word (Double x ∷ Whole (exponent_of x) ∷ [])))
+    (cond (eqb letter 112) (Some (leaf_line_of pow2_word (Whole k ∷ Double (pow2_or_nan k) ∷ [])))
+    None))))))
 
 -- ---- a record
 
@@ -48,28 +52,37 @@ leaf_answer_of letter x k =
 abbrev pub size_at : List ℕ → ℕ → ℕ
 size_at s at = u64_at s (at + 6) / 2 ^ 32
 
--- whether b is '+' or '-'
-abbrev pub is_sign : ℕ → Bool
-is_sign b = eqb b 43 || eqb b 45
+-- n after its sign b, '+' or '-', and none where b is no sign
+unfoldable pub signed_by : ℕ → ℕ → Option ℤ
+signed_by b n = cond (eqb b 43) (Some (signed false n)) (cond (eqb b 45) (Some (signed true n)) None)
 
--- k, which '-' makes negative
-abbrev pub number_at : List ℕ → ℕ → ℤ
-number_at s at = signed (eqb (get_or s (at + 9) 0) 45) (size_at s at)
+-- k, and none where no i32 holds it, or where there is no sign
+unfoldable pub number_at : List ℕ → ℕ → Option ℤ
+number_at s at = cond (ltb (2 ^ 31 - 1) (size_at s at)) None (signed_by (get_or s (at + 9) 0) (size_at s at))
 
--- whether no record stands at at: too few bytes, a k that no i32 holds, or no sign
-abbrev pub is_bad : List ℕ → ℕ → Bool
-is_bad s at = ltb (length s - at) 14 || (ltb (2 ^ 31 - 1) (size_at s at) || not (is_sign (get_or s (at + 9) 0)))
+-- the line of a letter and a double, where there is a k
+unfoldable pub answer_with : ℕ → Float → Option ℤ → Option (List ℕ)
+answer_with letter x None = None
+answer_with letter x (Some k) = leaf_answer_of letter x k
 
--- the line of the record at at, and nothing where none stands there
-unfoldable pub leaf_record_of : List ℕ → ℕ → List ℕ
-leaf_record_of s at = cond (is_bad s at) [] (leaf_answer_of (get_or s at 0) (f64_at s (at + 1)) (number_at s at))
+-- the line of the record at at, and none where none stands there: too few bytes, or no k
+unfoldable pub leaf_record_of : List ℕ → ℕ → Option (List ℕ)
+leaf_record_of s at = cond (ltb (length s - at) 14) None (answer_with (get_or s at 0) (f64_at s (at + 1)) (number_at s at))
+
+-- What is said of a text that was a, where such a line, if there is one, was to be written: whether there is one is answered, and the text is b, that with the
+-- line, of at most 60 bytes, or a.
+abbrev pub Told : Text → Option (List ℕ) → Text → Bool → Type 0
+Told a None b false = b ≡ a
+Told a None b true = ⊥
+Told a (Some t) b false = ⊥
+Told a (Some t) b true = Written a t b × (b.at ≤ a.at + 60)
 
 -- ---- a file
 
 -- a line and what follows it; where there is no line, the last one
-abbrev pub line_then : List ℕ → List ℕ → List ℕ
-line_then [] rest = bad_line
-line_then (b ∷ t) rest = (b ∷ t) ++ rest
+abbrev pub line_then : Option (List ℕ) → List ℕ → List ℕ
+line_then None rest = bad_line
+line_then (Some t) rest = t ++ rest
 
 -- the lines from at on, f being at least as large as the number of records that are left
 unfoldable pub leaf_lines_from : ℕ → List ℕ → ℕ → List ℕ

@@ -1,139 +1,134 @@
-// The lines of a file of records, stored in a lent buffer.
-ghost use Rattle.std.specs.Prelude.{◌≡◌, ◌+◌, ◌^◌, ◌<◌, ◌≤◌, length};
-ghost use Rattle.ldexp.specs.Scale.{signed};
+// The lines of a file of records, as text.
+ghost use Rattle.std.specs.Prelude.{◌≡◌, ◌+◌, ◌*◌, ◌^◌, ◌<◌, ◌≤◌, length};
+ghost use Rattle.std.proofs.lemmas.List.Edits.{sets};
 ghost use Rattle.text.specs.Written.{Written};
-ghost use Rattle.leafcases.specs.Lines.{word_of, leaf_line_of, leaf_answer_of, is_sign, leaf_record_of, lines_of};
+ghost use Rattle.leafcases.specs.Lines.{word_of, words_of, leaf_line_of, leaf_answer_of, number_at, leaf_record_of, lines_of, Told};
+
+use text::Text;
 
 // A word of a line behind the first.
 #[derive(Clone, Copy)]
 pub enum Word {
     Double(f64),
     Whole(i32),
-    Nothing,
 }
 
 // A blank and the word.
-fn put_word(out: &mut [u8], at: usize, word: Word) -> usize
-    requires { at < 2 ^ 32 }
-    ensures written { Written out.old at (word_of word) out.new result }
-    ensures upper_bound { result ≤ at + 17 }
+fn put_word(out: &mut Text, word: Word)
+    requires { out.old.at < 2 ^ 32 }
+    ensures written { Written out.old (word_of word) out.new }
+    ensures upper_bound { out.new.at ≤ out.old.at + 17 }
 {
+    out.byte(b' ');
     match word {
-        Word::Double(x) => {
-            let digits = text::put_byte(out, at, b' ');
-            text::put_hex(out, digits, float::to_bits(x), 16)
-        }
-        Word::Whole(k) => {
-            let digits = text::put_byte(out, at, b' ');
-            text::put_signed(out, digits, k)
-        }
-        Word::Nothing => at,
+        Word::Double(x) => out.hex(float::to_bits(x), 16),
+        Word::Whole(k) => out.signed(k),
     }
 }
 
-fn put_line(out: &mut [u8], at: usize, name: &[u8], a: Word, b: Word, c: Word) -> usize
-    requires { (at < 2 ^ 31) × (length name.now ≤ 8) }
-    ensures written { Written out.old at (leaf_line_of name.now a b c) out.new result }
-    ensures upper_bound { result ≤ at + 60 }
+fn put_words(out: &mut Text, words: &[Word])
+    requires { (out.old.at < 2 ^ 31 + 9) × (length words.now ≤ 3) }
+    ensures written { Written out.old (words_of words.now) out.new }
+    ensures upper_bound { out.new.at ≤ out.old.at + 17 * length words.now }
 {
-    let first = text::put_bytes(out, at, name);
-    let second = put_word(out, first, a);
-    let third = put_word(out, second, b);
-    let end = put_word(out, third, c);
-    text::put_byte(out, end, b'\n')
+    for word in words {
+        put_word(out, *word);
+    }
 }
 
-// The line of a record by its letter; nothing where no leaf has the letter.
-fn put_answer(out: &mut [u8], at: usize, letter: u8, x: f64, k: i32) -> usize
-    requires { at < 2 ^ 31 }
-    ensures written { Written out.old at (leaf_answer_of letter x k) out.new result }
-    ensures upper_bound { result ≤ at + 60 }
+fn put_line(out: &mut Text, name: &[u8], words: &[Word])
+    requires name_length { (out.old.at < 2 ^ 31) × (length name.now ≤ 8) }
+    requires words_length { length words.now ≤ 3 }
+    ensures written { Written out.old (leaf_line_of name.now words.now) out.new }
+    ensures upper_bound { out.new.at ≤ out.old.at + 60 }
+{
+    out.bytes(name);
+    put_words(out, words);
+    out.byte(b'\n');
+}
+
+// The line of a record by its letter, and whether a leaf has the letter.
+#[tactic(auto, unfolding(crate::specs::Lines::leaf_answer_of))]
+fn put_answer(out: &mut Text, letter: u8, x: f64, k: i32) -> bool
+    requires { out.old.at < 2 ^ 31 }
+    ensures { Told out.old (leaf_answer_of letter x k) out.new result }
 {
     let asked = Word::Double(x);
     let scaled = Word::Whole(k);
-    if letter == b's' {
-        let root = Word::Double(sqrt::sqrt(x));
-        return put_line(out, at, b"sqrt", asked, root, Word::Nothing);
+    match letter {
+        b's' => put_line(out, b"sqrt", &[asked, Word::Double(sqrt::sqrt(x))]),
+        b'c' => put_line(out, b"cbrt", &[asked, Word::Double(cbrt::cbrt(x))]),
+        b'a' => {
+            let t = angle::third_angle(x);
+            put_line(
+                out,
+                b"third",
+                &[asked, Word::Double(t.cos), Word::Double(t.sin)],
+            );
+        }
+        b'l' => put_line(out, b"log2", &[asked, Word::Double(log2::log2_grid(x))]),
+        b'd' => put_line(
+            out,
+            b"ldexp",
+            &[asked, scaled, Word::Double(ldexp::ldexp(x, k))],
+        ),
+        b'e' => put_line(out, b"exponent", &[asked, Word::Whole(decode::exponent(x))]),
+        b'p' => put_line(out, b"pow2", &[scaled, Word::Double(ldexp::pow2_or_nan(k))]),
+        _ => return false,
     }
-    if letter == b'c' {
-        let root = Word::Double(cbrt::cbrt(x));
-        return put_line(out, at, b"cbrt", asked, root, Word::Nothing);
-    }
-    if letter == b'a' {
-        let t = angle::third_angle(x);
-        let cos = Word::Double(t.cos);
-        let sin = Word::Double(t.sin);
-        return put_line(out, at, b"third", asked, cos, sin);
-    }
-    if letter == b'l' {
-        let log = Word::Double(log2::log2_grid(x));
-        return put_line(out, at, b"log2", asked, log, Word::Nothing);
-    }
-    if letter == b'd' {
-        let r = Word::Double(ldexp::ldexp(x, k));
-        return put_line(out, at, b"ldexp", asked, scaled, r);
-    }
-    if letter == b'e' {
-        let e = Word::Whole(decode::exponent(x));
-        return put_line(out, at, b"exponent", asked, e, Word::Nothing);
-    }
-    if letter == b'p' {
-        let r = Word::Double(c_leaves::pongewaru_leaf_pow2(k));
-        return put_line(out, at, b"pow2", scaled, r, Word::Nothing);
-    }
-    at
+    true
 }
 
-fn is_sign(b: u8) -> bool
-    ensures { result ≡ is_sign b }
+// k of the record at `at`: its size, the last four of the eight bytes from at + 6 on, and before it its sign.
+#[tactic(auto, unfolding(crate::specs::Lines::number_at, crate::specs::Lines::signed_by))]
+fn number_at(s: &[u8], at: usize) -> Option<i32>
+    requires { at + 14 ≤ length s.now }
+    ensures { result ≡ number_at s.now at }
 {
-    b == b'+' || b == b'-'
+    let size = i32::try_from(float::u64_at(s, at + 6) / 0x1_0000_0000).ok()?;
+    match s[at + 9] {
+        b'+' => Some(size),
+        b'-' => Some(-size),
+        _ => None,
+    }
 }
 
-// n, or -n where `below` is set.
-fn with_sign(below: bool, n: u64) -> i32
-    requires { n < 2 ^ 31 }
-    ensures { result ≡ signed below n }
-{
-    if below { -(n as i32) } else { n as i32 }
-}
-
-// The line of the record at `at`, from w on; nothing where none stands there.
-fn put_record(out: &mut [u8], w: usize, s: &[u8], at: usize) -> usize
-    requires { (at ≤ length s.now) × (w < 2 ^ 31) }
-    ensures written { Written out.old w (leaf_record_of s.now at) out.new result }
-    ensures upper_bound { result ≤ w + 60 }
+// The line of the record at `at`, and whether one stands there.
+#[tactic(auto, unfolding(crate::specs::Lines::leaf_record_of, crate::specs::Lines::answer_with))]
+fn put_record(out: &mut Text, s: &[u8], at: usize) -> bool
+    requires { (at ≤ length s.now) × (out.old.at < 2 ^ 31) }
+    ensures { Told out.old (leaf_record_of s.now at) out.new result }
 {
     if s.len() - at < 14 {
-        return w;
+        return false;
     }
-    let size = float::u64_at(s, at + 6) / 0x1_0000_0000;
-    if 0x7FFF_FFFF < size {
-        return w;
+    match number_at(s, at) {
+        Some(k) => put_answer(out, s[at], float::f64_at(s, at + 1), k),
+        None => false,
     }
-    let sign = s[at + 9];
-    if !is_sign(sign) {
-        return w;
-    }
-    let x = float::f64_at(s, at + 1);
-    put_answer(out, w, s[at], x, with_sign(sign == b'-', size))
 }
 
 // The lines of the records in s, the last of them that of a bad one.
+fn put_records(out: &mut Text, s: &[u8])
+    requires { (length s.now ≤ 28001) × (out.old.at ≡ 0) }
+    ensures written { Written out.old (lines_of s.now) out.new }
+    ensures upper_bound { out.new.at ≤ 120060 }
+{
+    for at in (0..s.len()).step_by(14) {
+        if !put_record(out, s, at) {
+            out.bytes(b"bad record\n");
+            return;
+        }
+    }
+}
+
+// The same, stored from the start of out on; how long they are.
 pub fn put_lines(out: &mut [u8], s: &[u8]) -> usize
     requires { length s.now ≤ 28001 }
-    ensures written { Written out.old 0 (lines_of s.now) out.new result }
+    ensures written { (out.new ≡ sets out.old 0 (lines_of s.now)) × (result ≡ length (lines_of s.now)) }
     ensures upper_bound { result ≤ 120060 }
 {
-    let mut w = 0;
-    let mut at = 0;
-    while at < s.len() {
-        let next = put_record(out, w, s, at);
-        if next == w {
-            return text::put_bytes(out, w, b"bad record\n");
-        }
-        w = next;
-        at += 14;
-    }
-    w
+    let mut text = Text { out, at: 0 };
+    put_records(&mut text, s);
+    text.at
 }

@@ -1,6 +1,6 @@
 // Replays stored questions to the leaves: for each record of the file that its argument names, a line with the leaf's answer.
 // The work is `lines::put_lines`, proved equal to the definition `lines_of`; no contract can say what is read or written. It rests on the leaves,
-// `text`, `c_leaves` and `input`.
+// `text` and `input`.
 #![tactic(auto)]
 
 ghost use Rattle.std.specs.Prelude.{◌≡◌, length};
@@ -11,14 +11,15 @@ use std::{env, io};
 
 mod lines;
 
-// 2,000 records, and a byte more, so that of a longer file the last line says so.
+// 2,000 records, and a byte more, so that of a longer file the last line says so. (An array, since nothing here has a heap; a function, since a proof that
+// meets the array itself writes out its places.)
 fn input_buffer() -> [u8; 28001]
     ensures { 28001 ≡ length result }
 {
     [0; 28001]
 }
 
-// Room for every line.
+// Room for every line. (Likewise.)
 fn output_buffer() -> [u8; 120060]
     ensures { 120060 ≡ length result }
 {

@@ -49,3 +49,39 @@ f64s_made zero s at i = refl
 f64s_made (suc k) s at i =
     let e : at + 8 * (i + 1) ≡ at + 8 * i + 8 = omega arith in
     ap (λ (l : List Float). f64_at s (at + 8 * i) ∷ l) (f64s_made k s at (i + 1) ∙ ap (f64s_at k s) e)
+
+-- those of a record, by their places
+module _ (s : List ℕ) (at : ℕ) where
+  pub five_read : f64s_at 5 s (at + 2) ≡ f64_at s (at + 2) ∷ f64_at s (at + 10) ∷ f64_at s (at + 18) ∷ f64_at s (at + 26) ∷ f64_at s (at + 34) ∷ []
+  unfolding f64s_at
+  five_read =
+      let p1 : at + 2 + 8 ≡ at + 10 = omega arith in
+      let p2 : at + 2 + 8 + 8 ≡ at + 18 = omega arith in
+      let p3 : at + 2 + 8 + 8 + 8 ≡ at + 26 = omega arith in
+      let p4 : at + 2 + 8 + 8 + 8 + 8 ≡ at + 34 = omega arith in
+      cc
+
+  pub six_read : f64s_at 6 s (at + 2) ≡ f64_at s (at + 2) ∷ f64_at s (at + 10) ∷ f64_at s (at + 18) ∷ f64_at s (at + 26) ∷ f64_at s (at + 34) ∷ f64_at s (at + 42) ∷ []
+  unfolding f64s_at
+  six_read =
+      let p1 : at + 2 + 8 ≡ at + 10 = omega arith in
+      let p2 : at + 2 + 8 + 8 ≡ at + 18 = omega arith in
+      let p3 : at + 2 + 8 + 8 + 8 ≡ at + 26 = omega arith in
+      let p4 : at + 2 + 8 + 8 + 8 + 8 ≡ at + 34 = omega arith in
+      let p5 : at + 2 + 8 + 8 + 8 + 8 + 8 ≡ at + 42 = omega arith in
+      cc
+
+  pub ten_read : f64s_at 10 s (at + 2) ≡ f64_at s (at + 2) ∷ f64_at s (at + 10) ∷ f64_at s (at + 18) ∷ f64_at s (at + 26) ∷ f64_at s (at + 34)
+      ∷ f64_at s (at + 42) ∷ f64_at s (at + 50) ∷ f64_at s (at + 58) ∷ f64_at s (at + 66) ∷ f64_at s (at + 74) ∷ []
+  unfolding f64s_at
+  ten_read =
+      let p1 : at + 2 + 8 ≡ at + 10 = omega arith in
+      let p2 : at + 2 + 8 + 8 ≡ at + 18 = omega arith in
+      let p3 : at + 2 + 8 + 8 + 8 ≡ at + 26 = omega arith in
+      let p4 : at + 2 + 8 + 8 + 8 + 8 ≡ at + 34 = omega arith in
+      let p5 : at + 2 + 8 + 8 + 8 + 8 + 8 ≡ at + 42 = omega arith in
+      let p6 : at + 2 + 8 + 8 + 8 + 8 + 8 + 8 ≡ at + 50 = omega arith in
+      let p7 : at + 2 + 8 + 8 + 8 + 8 + 8 + 8 + 8 ≡ at + 58 = omega arith in
+      let p8 : at + 2 + 8 + 8 + 8 + 8 + 8 + 8 + 8 + 8 ≡ at + 66 = omega arith in
+      let p9 : at + 2 + 8 + 8 + 8 + 8 + 8 + 8 + 8 + 8 + 8 ≡ at + 74 = omega arith in
+      cc

@@ -3,3 +3,4 @@ pub mod Doubles
 pub mod Five
 pub mod Whole
 pub mod Numbers
+pub mod Rows

@@ -1,16 +1,20 @@
 // Doubles in lent bytes, lowest byte first: read from them, and stored in them, all of an answer or none of it.
-// It rests on `float` and `text`; the hall file and the C functions rest on it.
+// `lists` has lists of roots as doubles. It rests on `refusals`, `float`, `text` and `roots`; the hall file and the C functions rest on it.
 #![tactic(auto)]
 
-ghost use Rattle.std.specs.Prelude.{◌≡◌, ◌++◌, ◌+◌, ◌-◌, ◌*◌, ◌≤◌, length, replicate};
+ghost use Rattle.std.specs.Prelude.{◌≡◌, [], ◌++◌, ◌+◌, ◌-◌, ◌*◌, ◌≤◌, length, replicate};
 ghost use Rattle.std.proofs.lemmas.List.Edits.{sets};
+ghost use Rattle.refusals.specs.Refusals.{outcome_of, value_or};
 ghost use Rattle.float.specs.Literals.{zero64};
 ghost use Rattle.lent_bytes.specs.Bytes.{doubles_bytes, f64s_at, lacks_five, Answered, Stored};
-ghost use Rattle.lent_bytes.specs.Numbers.{flag_of};
 
 use float::f64_at;
+use refusals::Refusal;
+
+pub mod lists;
 
 // The k doubles from at on, at the start of an array of 32, zeros behind them.
+// (Not doubles_at: k is read from the bytes, so it is no const argument, and there is no heap for a Vec.)
 pub fn f64s_at(s: &[u8], at: usize, k: usize) -> [f64; 32]
     requires { (k ≤ 32) × (at + 8 * k ≤ length s.now) }
     ensures { result ≡ f64s_at k s.now at ++ replicate (32 - k) zero64 }
@@ -38,14 +42,8 @@ pub fn lacks_five(a: &[u8], d: u64) -> bool
     a.len() < 40 || 4 < d
 }
 
-// 1 for yes, 0 for no.
-pub fn flag(yes: bool) -> f64
-    ensures { result ≡ flag_of yes }
-{
-    if yes { 1.0 } else { 0.0 }
-}
-
 // All of xs from the start of out on.
+// (By place: of what is written through chunks_mut a proof knows no byte.)
 pub fn put_all(out: &mut [u8], xs: &[f64])
     requires { 8 * length xs.now ≤ length out.old }
     ensures { out.new ≡ sets out.old 0 (doubles_bytes xs.now) }
@@ -66,14 +64,13 @@ pub fn store(out: &mut [u8], xs: &[f64]) -> u64
     8 * xs.len() as u64
 }
 
-// The same for an answer that is refused where number is not 0: nothing is stored then, and the number is said.
-#[tactic(auto, using(crate::proofs::Whole::answered_as, crate::proofs::Whole::refused))]
-pub fn answer(out: &mut [u8], number: u32, xs: &[f64]) -> u64
-    ensures { Answered number xs.now out.old result out.new }
+// The same for an answer that may be refused: nothing is stored then, and the refusal's number is said.
+#[tactic(auto, using(crate::proofs::Whole::answered, crate::proofs::Whole::told))]
+pub fn answer<const N: usize>(out: &mut [u8], answer: Result<[f64; N], Refusal>) -> u64
+    ensures { Answered (outcome_of answer.entry) (value_or [] answer.entry) out.old result out.new }
 {
-    if number == 0 {
-        store(out, xs)
-    } else {
-        number as u64
+    match answer {
+        Ok(xs) => store(out, &xs),
+        Err(refusal) => u32::from(refusal) as u64,
     }
 }

@@ -25,6 +25,9 @@ module _ (s : List ℕ) (i : ℕ) where
   pub read_at : (d : Float) → i < length s / 8 → f64_at s (8 * i) ≡ get_or (coefficients_at s) i d
   read_at d h = let e : 8 * i ≡ 0 + 8 * i = omega arith in ap (f64_at s) e ∙ double_is (length s / 8) s 0 i d h
 
+  pub read_here : {x : Float} → i < length s / 8 → x ≡ f64_at s (8 * i) → x ≡ get_or (coefficients_at s) i zero64
+  read_here h e = e ∙ read_at zero64 h
+
   pub read_none : length s / 8 ≤ i → zero64 ≡ get_or (coefficients_at s) i zero64
   read_none h = sym (get_or-eq_default (coefficients_at s) zero64 {n = i} (omega (arith, f64s_length (length s / 8) s 0)))
 

@@ -10,6 +10,7 @@ ghost use Rattle.lent_coefficients.specs.Coefficients.{coefficients_at};
 use float::{f64_at, is_finite};
 
 // The coefficient i, 0 where there are fewer.
+#[tactic(auto, using(crate::proofs::Reading::read_here, crate::proofs::Reading::read_none))]
 fn coefficient_at(s: &[u8], i: usize) -> f64
     ensures { result ≡ get_or (coefficients_at s.now) i zero64 }
 {
@@ -21,6 +22,7 @@ fn coefficient_at(s: &[u8], i: usize) -> f64
 }
 
 // One number for those that rest stands for, and for x.
+#[tactic(auto, unfolding(poly::specs::Short::rest_with))]
 fn rest_with(rest: f64, x: f64) -> f64
     ensures { result ≡ rest_with rest x }
 {

@@ -8,16 +8,14 @@ ghost use Rattle.level.specs.Level.{Binade, NoGap};
 use horner::Polynomial;
 
 // The exponent of x, counted from 2^-1074: none where x is zero or not finite.
+#[tactic(auto, using(crate::proofs::Turns::binade_of))]
 fn place_of(x: f64) -> Option<u64>
     ensures { IfSome result (Binade x) }
 {
-    match decode::normal_of(x) {
-        None => None,
-        Some(n) => Some(n.k),
-    }
+    decode::normal_of(x).map(|n| n.k)
 }
 
-// So much is added at each place, less 2100, that the last exponent comes near the first.
+// So much is added at each place, less 2100, that the last exponent comes near the first: it is shared out in 3 steps or 4, by a constant each.
 fn slope(first: u64, last: u64, d: usize) -> u64
     requires { (first < 4096) × (last < 4096) }
     ensures { result < 10000 }
@@ -38,6 +36,7 @@ fn raised(k: u64, s: u64, i: usize) -> u64
 }
 
 // Raised so, all stand at `lo` or above, and those between the ends at `hi` or below. Where hi - lo is at most 3, no root is 2^8 times as large as the next.
+#[tactic(auto, using(crate::proofs::Turns::seen))]
 pub fn level(p: Polynomial) -> bool
     ensures { result ≡ true → NoGap p.f p.d }
 {

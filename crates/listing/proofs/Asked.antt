@@ -1,11 +1,12 @@
 -- What the solver answers to a record's numbers can be printed, and is short.
-use mathlib.Core.Path.{◌≡◌, sym, subst}
+use mathlib.Core.Path.{◌≡◌, subst⁻¹}
 use mathlib.Core.List.{List, []}
-use Prim.Native.Nat.{ℕ, ◌+◌, ◌*◌, ◌-◌, ◌<◌, ◌≤◌}
+use Prim.Native.Nat.{ℕ, ◌+◌, ◌*◌, ◌-◌, ◌≤◌}
 use native.Mathlib.Omega.{arith}
 use lib.ListN.{length, drop, length-take}
 use Rattle.float.specs.Bytes.{f64_at}
-use Rattle.poly.specs.declared.Answer.{Answer}
+use Rattle.roots.specs.declared.Roots.{Roots}
+use Rattle.poly.specs.RealRoots.{roots_in}
 use Rattle.std.specs.Prelude.{Result}
 use Rattle.refusals.specs.declared.Refusal.{Refusal}
 use Rattle.solution.specs.declared.QuadraticSolution.{QuadraticSolution}
@@ -18,20 +19,20 @@ use Rattle.records.specs.declared.Record.{Record}
 use Rattle.records.specs.Records.{count_at}
 use Rattle.listing.specs.Answers.{polynomial_at, quadratic_at, trig_at, crank_at, path_at, circle_at, contact_at, text_at, formula_at}
 use Rattle.listing.specs.Lines.{polynomial_text, quadratic_text, crank_text, answer_text, words_of}
-use Rattle.listing.specs.Printable.{Printable}
+use Rattle.listing.specs.Printable.{Printable, CrankPrintable}
 use Rattle.listing.proofs.Texts.{or_length, polynomial_length, quadratic_length, crank_length}
-use Rattle.listing.proofs.Answers.{ListShort, list_short, CrankShort, crank_short, contact_short, FormulaShort, formula_short}
+use Rattle.listing.proofs.Answers.{ListShort, list_short, crank_short, contact_short, FormulaShort, formula_short}
 
 module _ (s : List ℕ) (at : ℕ) where
   polynomial_at_short : ListShort (f64s_at (count_at s at) s (at + 11)) (polynomial_at s at)
   unfolding polynomial_at
   polynomial_at_short = list_short (f64s_at (count_at s at) s (at + 11)) (f64_at s (at + 3))
 
-  crank_at_short : CrankShort (crank_at s at)
+  crank_at_short : CrankPrintable (crank_at s at)
   unfolding crank_at
   crank_at_short = crank_short (f64_at s (at + 2)) (trig_at s at)
 
-  contact_at_short : ((contact_at s at).number < 100) × Printable (contact_at s at).roots
+  contact_at_short : Printable (roots_in (contact_at s at))
   unfolding contact_at
   contact_at_short = contact_short (f64_at s (at + 2)) (path_at s at) (circle_at s at)
 
@@ -40,24 +41,20 @@ module _ (s : List ℕ) (at : ℕ) where
   formula_at_short = formula_short (text_at s at) (f64_at s (at + 3))
 
   -- ---- what printing them asks
-  pub polynomial_prints : (r : Answer) → r ≡ polynomial_at s at → (r.number < 100) × Printable r.roots
-  polynomial_prints r e =
-      subst (λ (a : Answer). (a.number < 100) × Printable a.roots) (sym e) (polynomial_at_short.number, polynomial_at_short.roots)
+  pub polynomial_prints : (r : Result Roots Refusal) → r ≡ polynomial_at s at → Printable (roots_in r)
+  polynomial_prints r e = subst⁻¹ (λ (a : Result Roots Refusal). Printable (roots_in a)) e polynomial_at_short.roots
 
-  pub crank_prints : (r : CrankAnswer) → r ≡ crank_at s at → (r.number < 100) × ((r.k < 8) × Printable r.roots)
-  crank_prints r e =
-      subst (λ (a : CrankAnswer). (a.number < 100) × ((a.k < 8) × Printable a.roots)) (sym e)
-      (crank_at_short.number, (crank_at_short.eighth, crank_at_short.roots))
+  pub crank_prints : (r : Result CrankAnswer Refusal) → r ≡ crank_at s at → CrankPrintable r
+  crank_prints r e = subst⁻¹ CrankPrintable e crank_at_short
 
-  pub contact_prints : (r : Answer) → r ≡ contact_at s at → (r.number < 100) × Printable r.roots
-  contact_prints r e = subst (λ (a : Answer). (a.number < 100) × Printable a.roots) (sym e) contact_at_short
+  pub contact_prints : (r : Result Roots Refusal) → r ≡ contact_at s at → Printable (roots_in r)
+  contact_prints r e = subst⁻¹ (λ (a : Result Roots Refusal). Printable (roots_in a)) e contact_at_short
 
-  pub formula_prints : (r : Answer) → r ≡ formula_at s at → (r.number < 100) × Printable r.roots
-  formula_prints r e =
-      subst (λ (a : Answer). (a.number < 100) × Printable a.roots) (sym e) (formula_at_short.number, formula_at_short.roots)
+  pub formula_prints : (r : Result Roots Refusal) → r ≡ formula_at s at → Printable (roots_in r)
+  formula_prints r e = subst⁻¹ (λ (a : Result Roots Refusal). Printable (roots_in a)) e formula_at_short.roots
 
   -- ---- the text of each kind, from the answer
-  pub polynomial_text_is : (k : Kind) (r : Answer) → k ≡ Polynomial → r ≡ polynomial_at s at → polynomial_text r ≡ answer_text k s at
+  pub polynomial_text_is : (k : Kind) (r : Result Roots Refusal) → k ≡ Polynomial → r ≡ polynomial_at s at → polynomial_text r ≡ answer_text k s at
   unfolding answer_text
   polynomial_text_is k r e f = rw (e, f)
 
@@ -65,15 +62,15 @@ module _ (s : List ℕ) (at : ℕ) where
   unfolding answer_text
   quadratic_text_is k r e f = rw (e, f)
 
-  pub crank_text_is : (k : Kind) (r : CrankAnswer) → k ≡ Crank → r ≡ crank_at s at → crank_text r ≡ answer_text k s at
+  pub crank_text_is : (k : Kind) (r : Result CrankAnswer Refusal) → k ≡ Crank → r ≡ crank_at s at → crank_text r ≡ answer_text k s at
   unfolding answer_text
   crank_text_is k r e f = rw (e, f)
 
-  pub contact_text : (k : Kind) (r : Answer) → k ≡ Contact → r ≡ contact_at s at → polynomial_text r ≡ answer_text k s at
+  pub contact_text : (k : Kind) (r : Result Roots Refusal) → k ≡ Contact → r ≡ contact_at s at → polynomial_text r ≡ answer_text k s at
   unfolding answer_text
   contact_text k r e f = rw (e, f)
 
-  pub formula_text : (k : Kind) (r : Answer) → k ≡ Formula → r ≡ formula_at s at → polynomial_text r ≡ answer_text k s at
+  pub formula_text : (k : Kind) (r : Result Roots Refusal) → k ≡ Formula → r ≡ formula_at s at → polynomial_text r ≡ answer_text k s at
   unfolding answer_text
   formula_text k r e f = rw (e, f)
 
@@ -86,34 +83,32 @@ module _ (s : List ℕ) (at : ℕ) where
   unfolding answer_text
   polynomial_at_length =
       let a = polynomial_at_short in
-      omega (arith, polynomial_length (polynomial_at s at) a.number a.roots, a.fewer, f64s_length (count_at s at) s (at + 11))
+      omega (arith, polynomial_length (polynomial_at s at) a.roots, a.fewer, f64s_length (count_at s at) s (at + 11))
 
   pub quadratic_at_length : length (answer_text Quadratic s at) ≤ 37
   unfolding answer_text
   quadratic_at_length = quadratic_length (quadratic_at s at)
 
-  formula_length : length (polynomial_text (formula_at s at)) ≤ 10 + 22 * (formula_at s at).roots.len
-  formula_length = let a = formula_at_short in polynomial_length (formula_at s at) a.number a.roots
+  formula_length : length (polynomial_text (formula_at s at)) ≤ 10 + 22 * (roots_in (formula_at s at)).len
+  formula_length = polynomial_length (formula_at s at) formula_at_short.roots
 
   pub formula_at_length : length (answer_text Formula s at) ≤ 10 + 22 * (count_at s at + 1)
   unfolding answer_text
-  formula_at_length = let a = formula_at_short in omega (arith, formula_length, a.few, length-take (count_at s at) (drop (at + 11) s))
+  formula_at_length = omega (arith, formula_length, formula_at_short.few, length-take (count_at s at) (drop (at + 11) s))
 
   pub answer_length : (kind : Kind) → length (answer_text kind s at) ≤ 98
   unfolding answer_text
   answer_length Polynomial =
       let a = polynomial_at_short in
-      omega (arith, polynomial_length (polynomial_at s at) a.number a.roots, a.roots.fits.1)
+      omega (arith, polynomial_length (polynomial_at s at) a.roots, a.roots.fits.1)
   answer_length Quadratic = omega (arith, quadratic_at_length)
-  answer_length Crank =
-      let a = crank_at_short in
-      crank_length (crank_at s at) a.number a.eighth a.roots
+  answer_length Crank = crank_length (crank_at s at) crank_at_short
   answer_length Contact =
       let a = contact_at_short in
-      omega (arith, polynomial_length (contact_at s at) a.0 a.1, a.1.fits.1)
-  answer_length Formula = let a = formula_at_short in omega (arith, formula_length, a.roots.fits.1)
+      omega (arith, polynomial_length (contact_at s at) a, a.fits.1)
+  answer_length Formula = omega (arith, formula_length, formula_at_short.roots.fits.1)
   answer_length Unknown = omega arith
 
-  pub words_length : (found : Record) → found.number < 100 → length (words_of s at found) ≤ 98
+  pub words_length : (found : Record) → length (words_of s at found) ≤ 98
   unfolding words_of
-  words_length found h = or_length found.number (answer_text found.kind s at) 98 h (omega arith) (answer_length found.kind)
+  words_length found = or_length found.refused (answer_text found.kind s at) 98 (omega arith) (answer_length found.kind)

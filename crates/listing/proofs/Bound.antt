@@ -1,7 +1,7 @@
 -- No listing is longer than 524,308 bytes: a line has at most eight bytes for each of its record, and the last one, after which reading ends, at most 20.
 -- (A line has at most 20 bytes, and 22 for each root, of which there are at most four. A formula of n bytes, whose record has 11 + n, has at most n + 1 roots;
 -- all other records have more bytes for their roots.)
-use mathlib.Core.Path.{◌≡◌, refl, ap, subst}
+use mathlib.Core.Path.{◌≡◌, refl, ap}
 use mathlib.Core.Bool.{Bool, true, false, cond}
 use mathlib.Core.Logic.{◌⊎◌, inl, inr, ⊎_elim}
 use mathlib.Core.List.{List, [], ◌++◌}
@@ -10,23 +10,22 @@ use native.Mathlib.Omega.{arith}
 use borrow.Author.Tests.{le-ltb, ltb-true, ltb-false}
 use lib.Dec.{ltb}
 use lib.ListN.{length, length-append}
+use Rattle.refusals.specs.declared.Refusal.{Refusal}
+use Rattle.refusals.specs.declared.Refusal.TheVariants.{FileTooLong}
 use Rattle.records.specs.declared.Kind.{Kind}
 use Rattle.records.specs.declared.Kind.TheVariants.{Polynomial, Quadratic, Crank, Contact, Formula, Unknown}
 use Rattle.records.specs.declared.Record.{Record}
-use Rattle.refusals.specs.Refusals.{file_too_long}
 use Rattle.records.specs.Records.{count_at, ended_of, record_at}
-use Rattle.listing.specs.Lines.{answer_text, words_of, line_of}
+use Rattle.listing.specs.Lines.{words_of, line_of}
 use Rattle.listing.specs.File.{lines_from, listing}
-use Rattle.listing.proofs.Texts.{refusal, refused_length, line_length}
+use Rattle.listing.proofs.Texts.{refused_length, line_length}
 use Rattle.listing.proofs.Asked.{polynomial_at_length, quadratic_at_length, formula_at_length, answer_length}
 use Rattle.records.proofs.Places.{whole_of, record_by, record_forward}
 
 -- ---- a line
-ended_length : (s : List ℕ) (at : ℕ) (kind : Kind) (number : ℕ) → 0 < number → number < 100 → length (words_of s at (ended_of kind number s)) ≤ 10
+ended_length : (s : List ℕ) (at : ℕ) (kind : Kind) (refusal : Refusal) → length (words_of s at (ended_of kind refusal s)) ≤ 10
 unfolding words_of
-ended_length s at kind number h k =
-    let some : number ≡ 0 → ⊥ = λ e. omega (arith, e) in
-    subst (λ (t : List ℕ). length t ≤ 10) (refusal number (answer_text kind s at) some) (refused_length number k)
+ended_length s at kind refusal = refused_length refusal
 
 -- the last line, of 20 bytes at most, or one of eight bytes for each that was read
 Short : List ℕ → ℕ → ℕ → Record → Type 0
@@ -41,7 +40,7 @@ record_short s at n few =
     let contact = whole_of Contact (at + 82) in
     let formula = whole_of Formula (at + (11 + count_at s at)) in
     record_by (Short s at n) s at
-    (λ kind number h k. inl (omega arith, omega (arith, line_length n s at (ended_of kind number s) few, ended_length s at kind number h k)))
+    (λ kind refusal. inl (omega arith, omega (arith, line_length n s at (ended_of kind refusal s) few, ended_length s at kind refusal)))
     (λ c h. inr (omega (arith, line_length n s at polynomial few, polynomial_at_length s at, answer_length s at Polynomial)))
     (λ h. inr (omega (arith, line_length n s at quadratic few, quadratic_at_length s at)))
     (λ h. inr (omega (arith, line_length n s at crank few, answer_length s at Crank)))
@@ -91,8 +90,8 @@ unfolding listing
 listing_fits s = go (ltb 65536 (length s)) refl
   where
     last : Record
-    last = ended_of Unknown file_too_long s
+    last = ended_of Unknown FileTooLong s
 
     go : (b : Bool) → ltb 65536 (length s) ≡ b → length (cond b (line_of 0 s 0 last) (lines_from (length s) s 0 1)) ≤ 524308
-    go true e = omega (arith, line_length 0 s 0 last (omega arith), ended_length s 0 Unknown file_too_long (omega arith) (omega arith))
+    go true e = omega (arith, line_length 0 s 0 last (omega arith), ended_length s 0 Unknown FileTooLong)
     go false e = all_lines_fit s (ltb-false 65536 (length s) e)

@@ -5,11 +5,12 @@ use Prim.Native.Nat.{ℕ, zero, suc, ◌+◌, ◌-◌, ◌<◌, ◌≤◌}
 use native.Mathlib.Omega.{arith}
 use borrow.Author.Tests.{lt-ltb, le-ltb}
 use lib.ListN.{length, length-append}
+use Rattle.text.specs.declared.Text.{Text}
 use Rattle.text.specs.Written.{Written}
 use Rattle.text.proofs.Laws.{written_none, written_then, written_as}
 use Rattle.records.specs.declared.Kind.TheVariants.{Unknown}
 use Rattle.records.specs.declared.Record.{Record}
-use Rattle.refusals.specs.Refusals.{file_too_long}
+use Rattle.refusals.specs.declared.Refusal.TheVariants.{FileTooLong}
 use Rattle.records.specs.Records.{ended_of, record_at}
 use Rattle.listing.specs.Lines.{line_of}
 use Rattle.listing.specs.File.{lines_from, listing}
@@ -24,28 +25,28 @@ lines_step (suc f) s at n h p =
     let e : f ≡ suc f - 1 = omega arith in
     simp (lt-ltb _ _ h) (ap (λ (k : ℕ). line_of n s at (record_at s at) ++ lines_from k s (record_at s at).next (n + 1)) e)
 
--- The lines of the records before at are in o, which held l: `text`, up to the place w. With those from at on, for which the fuel is enough, they are all.
-pub record Sofar (l s o : List ℕ) (at n w : ℕ) : Type 0 where
+-- The lines of the records before at are written in b, which was a: `text`. With those from at on, for which the fuel is enough, they are all.
+pub record Sofar (a : Text) (s : List ℕ) (b : Text) (at n : ℕ) : Type 0 where
   pub fuel : ℕ
   pub text : List ℕ
   pub within : at ≤ length s
   pub counted : n ≤ at + 1
   pub enough : length s ≤ at + fuel
-  pub written : Written l 0 text o w
+  pub written : Written a text b
   pub rest : text ++ lines_from fuel s at n ≡ lines_from (length s) s 0 1
 
-pub sofar_none : (l s : List ℕ) → Sofar l s l 0 1 0
-sofar_none l s =
-    record { fuel = length s; text = []; within = omega arith; counted = omega arith; enough = omega arith; written = written_none l 0; rest = refl }
+pub sofar_none : (a : Text) (s : List ℕ) → Sofar a s a 0 1
+sofar_none a s =
+    record { fuel = length s; text = []; within = omega arith; counted = omega arith; enough = omega arith; written = written_none a; rest = refl }
 
-module _ {l s o : List ℕ} {at n w : ℕ} (sofar : Sofar l s o at n w) where
+module _ {a b : Text} {s : List ℕ} {at n : ℕ} (sofar : Sofar a s b at n) where
   -- what is stored is a part of the lines
-  pub sofar_short : length s ≤ 65536 → w ≤ 524308
+  pub sofar_short : length s ≤ 65536 → b.at ≤ a.at + 524308
   sofar_short h =
       omega (arith, sofar.written.place, length-append sofar.text (lines_from sofar.fuel s at n), ap length sofar.rest, all_lines_fit s h)
 
-  pub sofar_next : {p : List ℕ} {k : ℕ} → at < length s → (r : Record) → r ≡ record_at s at → Written o w (line_of n s at r) p k → Sofar l s p r.next (n + 1) k
-  sofar_next {p} {k} inside r e put =
+  pub sofar_next : {c : Text} → at < length s → (r : Record) → r ≡ record_at s at → Written b (line_of n s at r) c → Sofar a s c r.next (n + 1)
+  sofar_next {c} inside r e put =
       let f = sofar.fuel in
       let line = line_of n s at (record_at s at) in
       let on = record_forward s at inside in
@@ -64,7 +65,7 @@ module _ {l s o : List ℕ} {at n w : ℕ} (sofar : Sofar l s o at n w) where
             ∙ ap (λ (t : List ℕ). sofar.text ++ t) (sym step) ∙ sofar.rest;
       }
 
-  pub sofar_all : length s ≤ 65536 → length s ≤ at → Written l 0 (listing s) o w
+  pub sofar_all : length s ≤ 65536 → length s ≤ at → Written a (listing s) b
   unfolding listing
   sofar_all small done =
       let whole : sofar.text ≡ lines_from (length s) s 0 1 =
@@ -75,6 +76,6 @@ pub falls : (s : List ℕ) (at : ℕ) → at < length s → (r : Record) → r �
 falls s at inside r e = omega (arith, (record_forward s at inside).past, ap (λ (x : Record). x.next) e)
 
 -- a file that is too long
-pub too_long : (s : List ℕ) → 65536 < length s → line_of 0 s 0 (ended_of Unknown file_too_long s) ≡ listing s
+pub too_long : (s : List ℕ) → 65536 < length s → line_of 0 s 0 (ended_of Unknown FileTooLong s) ≡ listing s
 unfolding listing
 too_long s h = simp (lt-ltb 65536 (length s) h)

@@ -9,7 +9,7 @@ use Rattle.float.specs.Literals.{zero64}
 use Rattle.text.specs.Digits.{hex_digits, decimal}
 use Rattle.roots.specs.declared.RealRoot.{RealRoot}
 use Rattle.roots.specs.Roots.{kind_of, root_by, root}
-use Rattle.poly.specs.Coefficients.{trimmed_from, trimmed_of, refusal_by}
+use Rattle.poly.specs.Coefficients.{trimmed_from, trimmed_of, counted_by}
 use Rattle.poly.specs.Solve.{solve_of}
 use Rattle.poly.specs.RealRoots.{unscaled_all, answer_of, real_roots_of}
 use Rattle.listing.specs.Words.{refused}
@@ -69,7 +69,7 @@ unfolding listing
 empty = refl
 
 goes_on : listing (pl ++ (replicate 9 0 ++ (88 ∷ 88 ∷ []))) ≡ line 1 pl 2 ++ line 2 unknown 6
-unfolding listing real_roots_of answer_of unscaled_all solve_of refusal_by trimmed_of trimmed_from decimal
+unfolding listing real_roots_of answer_of unscaled_all solve_of counted_by trimmed_of trimmed_from decimal
 goes_on = refl
 
 -- ` 1 c`, ` 2 b`, ` 2 f`

@@ -1,16 +1,13 @@
--- How long the texts of a line are, and which of two texts a number picks.
+-- How long the texts of a line are.
 use mathlib.Core.Path.{◌≡◌, ap}
 use mathlib.Core.List.{List, [], ◌∷◌, ◌++◌, flat_map}
 use Prim.Native.Nat.{ℕ, zero, suc, ◌+◌, ◌*◌, ◌<◌, ◌≤◌}
 use native.Mathlib.Omega.{arith}
-use borrow.Author.Tests.{eq-eqb, ne_eqb}
-use lib.Dec.{eqb}
 use lib.ListN.{length, get_or, drop, length-append}
 use lib.Ieee.{Float, binary64, to_bits}
-use Rattle.facts.specs.Cond.{either_way}
 use Rattle.text.specs.Digits.{decimal}
 use Rattle.text.proofs.Digits.{decimal_length, hex_length}
-use Rattle.std.specs.Prelude.{Result, Ok, Err}
+use Rattle.std.specs.Prelude.{Option, Some, None, Result, Ok, Err}
 use Rattle.refusals.specs.declared.Refusal.{Refusal}
 use Rattle.refusals.proofs.Numbers.{number_bounds}
 use Rattle.refusals.specs.Refusals.{number_of}
@@ -19,7 +16,7 @@ use Rattle.roots.specs.declared.Roots.{Roots}
 use Rattle.roots.specs.Roots.{list_of}
 use Rattle.roots.specs.Listed.{multiplicities, blank}
 use Rattle.roots.proofs.Laws.{roots_cons, length_list}
-use Rattle.poly.specs.declared.Answer.{Answer}
+use Rattle.poly.specs.RealRoots.{roots_in}
 use Rattle.solution.specs.declared.QuadraticSolution.{QuadraticSolution}
 use Rattle.solution.specs.declared.QuadraticSolution.TheVariants.{Two, One, Linear, Degenerate, Empty}
 use Rattle.crank.specs.declared.CrankAnswer.{CrankAnswer}
@@ -27,17 +24,10 @@ use Rattle.records.specs.declared.Kind.{Kind}
 use Rattle.records.specs.declared.Record.{Record}
 use Rattle.records.specs.Marks.{mark_of}
 use Rattle.records.proofs.Marks.{mark_length}
-use Rattle.listing.specs.Words.{ok, letter_of}
+use Rattle.listing.specs.Words.{letter_of}
 use Rattle.listing.specs.Lines.{place_text, root_text, roots_text, refused_text, or_refused, polynomial_text, solution_text, quadratic_text, crank_text}
 use Rattle.listing.specs.Lines.{words_of, head_of, line_of}
-use Rattle.listing.specs.Printable.{Printable}
-
--- ---- an answer or a refusal
-pub answered : (n : ℕ) (t : List ℕ) → n ≡ 0 → t ≡ or_refused n t
-answered n t e = simp (eq-eqb _ _ e)
-
-pub refusal : (n : ℕ) (t : List ℕ) → (n ≡ 0 → ⊥) → refused_text n ≡ or_refused n t
-refusal n t e = simp (ne_eqb _ _ e)
+use Rattle.listing.specs.Printable.{Printable, CrankPrintable}
 
 -- ---- roots
 pub place_length : (x : Float) → length (place_text x) ≡ 17
@@ -86,17 +76,25 @@ pub each_short : (r : Roots) (k : ℕ) → Printable r → k < r.len → (get_or
 each_short r k p h = omega (arith, ap multiplicities (roots_cons r k p.fits h), left_less k (list_of r), p.short)
 
 -- ---- answers
-pub refused_length : (n : ℕ) → n < 100 → length (refused_text n) ≤ 10
+-- a refusal's number, and k
+pub number_length : (refusal : Refusal) {n : ℕ} → n ≡ number_of refusal → length (decimal n) ≤ 2
+number_length refusal {n} e = decimal_length 2 n (omega arith) (omega (arith, e, (number_bounds refusal).1))
+
+pub digit_length : {k : ℕ} → k < 8 → length (decimal k) ≤ 1
+digit_length {k} h = decimal_length 1 k (omega arith) (omega (arith, h))
+
+pub refused_length : (refusal : Refusal) → length (refused_text (number_of refusal)) ≤ 10
 unfolding refused_text
-refused_length n h = omega (arith, decimal_length 2 n (omega arith) h)
+refused_length refusal = omega (arith, decimal_length 2 (number_of refusal) (omega arith) (number_bounds refusal).1)
 
-pub or_length : (n : ℕ) (t : List ℕ) (k : ℕ) → n < 100 → 10 ≤ k → length t ≤ k → length (or_refused n t) ≤ k
-or_length n t k h m p = either_way (λ (u : List ℕ). length u ≤ k) (eqb n 0) p (omega (arith, refused_length n h))
+pub or_length : (refused : Option Refusal) (t : List ℕ) (k : ℕ) → 10 ≤ k → length t ≤ k → length (or_refused refused t) ≤ k
+or_length None t k m p = p
+or_length (Some refusal) t k m p = omega (arith, refused_length refusal)
 
-pub polynomial_length : (a : Answer) → a.number < 100 → Printable a.roots → length (polynomial_text a) ≤ 10 + 22 * a.roots.len
+pub polynomial_length : (a : Result Roots Refusal) → Printable (roots_in a) → length (polynomial_text a) ≤ 10 + 22 * (roots_in a).len
 unfolding polynomial_text
-polynomial_length a h p =
-    or_length a.number (ok ++ roots_text a.roots) (10 + 22 * a.roots.len) h (omega arith) (omega (arith, roots_length a.roots p))
+polynomial_length (Ok roots) p = omega (arith, roots_length roots p)
+polynomial_length (Err refusal) p = refused_length refusal
 
 solution_length : (s : QuadraticSolution) → length (solution_text s) ≤ 37
 unfolding solution_text
@@ -109,19 +107,19 @@ solution_length Empty = omega arith
 pub quadratic_length : (a : Result QuadraticSolution Refusal) → length (quadratic_text a) ≤ 37
 unfolding quadratic_text
 quadratic_length (Ok s) = solution_length s
-quadratic_length (Err refusal) = omega (arith, refused_length (number_of refusal) (number_bounds refusal).1)
+quadratic_length (Err refusal) = omega (arith, refused_length refusal)
 
-pub crank_length : (a : CrankAnswer) → a.number < 100 → a.k < 8 → Printable a.roots → length (crank_text a) ≤ 98
+pub crank_length : (a : Result CrankAnswer Refusal) → CrankPrintable a → length (crank_text a) ≤ 98
 unfolding crank_text
-crank_length a h k p =
-    or_length a.number (ok ++ (decimal a.k ++ (32 ∷ roots_text a.roots))) 98 h (omega arith)
-    (omega (
+crank_length (Ok a) p =
+    omega (
       arith,
       length-append (decimal a.k) (32 ∷ roots_text a.roots),
-      decimal_length 1 a.k (omega arith) (omega arith),
-      roots_length a.roots p,
-      p.fits.1,
-    ))
+      decimal_length 1 a.k (omega arith) (omega (arith, p.0)),
+      roots_length a.roots p.1,
+      p.1.fits.1,
+    )
+crank_length (Err refusal) p = omega (arith, refused_length refusal)
 
 -- ---- a line
 pub head_length : (n : ℕ) (kind : Kind) → n < 100000 → length (head_of n kind) ≤ 9

@@ -1,7 +1,7 @@
 -- The listing of a hall file: one line for each record. Definitions only.
 use Rattle.std.specs.Prelude.{cond, List, [], ◌++◌, ℕ, zero, suc, ◌+◌, ltb, length}
 use Rattle.records.specs.declared.Kind.TheVariants.{Unknown}
-use Rattle.refusals.specs.Refusals.{file_too_long}
+use Rattle.refusals.specs.declared.Refusal.TheVariants.{FileTooLong}
 use Rattle.records.specs.Records.{ended_of, record_at}
 use Rattle.listing.specs.Lines.{line_of}
 
@@ -16,4 +16,4 @@ lines_from (suc f) s at n =
 -- '9, over 65,536 bytes, the only line then being `0 -- refused 9`'
 unfoldable pub listing : List ℕ → List ℕ
 unfolding lines_from
-listing s = cond (ltb 65536 (length s)) (line_of 0 s 0 (ended_of Unknown file_too_long s)) (lines_from (length s) s 0 1)
+listing s = cond (ltb 65536 (length s)) (line_of 0 s 0 (ended_of Unknown FileTooLong s)) (lines_from (length s) s 0 1)

@@ -1,5 +1,5 @@
 -- The line of a record: 'its number from 1, its mark, then ..'. Definitions only.
-use Rattle.std.specs.Prelude.{cond, ℕ, eqb, Float, Result, Ok, Err}
+use Rattle.std.specs.Prelude.{ℕ, Float, Option, Some, None, Result, Ok, Err}
 use mathlib.Core.List.{List, [], ◌∷◌, ◌++◌, flat_map}
 use Rattle.std.specs.Float.{binary64}
 use Rattle.std.specs.Float.Ieee.{to_bits}
@@ -10,7 +10,6 @@ use Rattle.roots.specs.declared.RootKind.{RootKind}
 use Rattle.roots.specs.declared.RealRoot.{RealRoot}
 use Rattle.roots.specs.declared.Roots.{Roots}
 use Rattle.roots.specs.Roots.{list_of}
-use Rattle.poly.specs.declared.Answer.{Answer}
 use Rattle.solution.specs.declared.QuadraticSolution.{QuadraticSolution}
 use Rattle.solution.specs.declared.QuadraticSolution.TheVariants.{Two, One, Linear, Degenerate, Empty}
 use Rattle.crank.specs.declared.CrankAnswer.{CrankAnswer}
@@ -48,13 +47,15 @@ unfoldable pub refused_text : ℕ → List ℕ
 refused_text number = refused ++ decimal number
 
 -- t, or the refusal
-abbrev pub or_refused : ℕ → List ℕ → List ℕ
-or_refused number t = cond (eqb number 0) t (refused_text number)
+abbrev pub or_refused : Option Refusal → List ℕ → List ℕ
+or_refused None t = t
+or_refused (Some refusal) t = refused_text (number_of refusal)
 
 -- 'for PL `ok`, ..'
-unfoldable pub polynomial_text : Answer → List ℕ
+unfoldable pub polynomial_text : Result Roots Refusal → List ℕ
 unfolding roots_text refused_text
-polynomial_text a = or_refused a.number (ok ++ roots_text a.roots)
+polynomial_text (Ok roots) = ok ++ roots_text roots
+polynomial_text (Err refusal) = refused_text (number_of refusal)
 
 -- 'for QD `two`, `one`, `linear`, `degenerate` or `empty`, then places'
 unfoldable pub solution_text : QuadraticSolution → List ℕ
@@ -72,9 +73,10 @@ quadratic_text (Ok s) = solution_text s
 quadratic_text (Err refusal) = refused_text (number_of refusal)
 
 -- 'for TG the same with k after `ok`'
-unfoldable pub crank_text : CrankAnswer → List ℕ
+unfoldable pub crank_text : Result CrankAnswer Refusal → List ℕ
 unfolding roots_text refused_text
-crank_text a = or_refused a.number (ok ++ (decimal a.k ++ (32 ∷ roots_text a.roots)))
+crank_text (Ok a) = ok ++ (decimal a.k ++ (32 ∷ roots_text a.roots))
+crank_text (Err refusal) = refused_text (number_of refusal)
 
 -- ---- the line
 
@@ -91,7 +93,7 @@ answer_text Unknown s at = []
 -- what stands behind the mark
 unfoldable pub words_of : List ℕ → ℕ → Record → List ℕ
 unfolding answer_text refused_text
-words_of s at found = or_refused found.number (answer_text found.kind s at)
+words_of s at found = or_refused found.refused (answer_text found.kind s at)
 
 -- 'its number from 1, its mark'
 unfoldable pub head_of : ℕ → Kind → List ℕ

@@ -1,30 +1,33 @@
-// The line of a record, stored in a lent buffer from a place on. Each function answers the place behind its text.
+// The line of a record, as text.
 ghost use Rattle.std.specs.Prelude.{◌≡◌, ◌^◌, ◌<◌, ◌≤◌, length};
 ghost use Rattle.text.specs.Digits.{decimal};
+ghost use Rattle.refusals.specs.Refusals.{number_of};
+ghost use Rattle.poly.specs.RealRoots.{roots_in};
 ghost use Rattle.text.specs.Written.{Written};
 ghost use Rattle.records.specs.Records.{Whole, Sound};
 ghost use Rattle.listing.specs.Words.{letter_of};
 ghost use Rattle.listing.specs.Lines.{place_text, kind_text, root_text, roots_text, refused_text, polynomial_text, solution_text, quadratic_text, crank_text};
 ghost use Rattle.listing.specs.Lines.{answer_text, words_of, head_of, line_of};
-ghost use Rattle.listing.specs.Printable.{Printable};
+ghost use Rattle.listing.specs.Printable.{Printable, CrankPrintable};
 
 use crank::CrankAnswer;
-use poly::Answer;
 use records::{Kind, Record};
 use refusals::Refusal;
 use roots::{RealRoot, RootKind, Roots};
 use solution::QuadraticSolution;
-use text::{put_byte, put_bytes, put_decimal};
+use text::Text;
 
 // A blank, and the 16 hexadecimal digits of the place's bits.
-fn put_place(out: &mut [u8], at: usize, x: f64) -> usize
-    requires { at < 2 ^ 33 }
-    ensures { Written out.old at (place_text x) out.new result }
+#[tactic(auto, using(text::proofs::Laws::written_then), unfolding(crate::specs::Lines::place_text))]
+fn put_place(out: &mut Text, x: f64)
+    requires { out.old.at < 2 ^ 33 }
+    ensures { Written out.old (place_text x) out.new }
 {
-    let digits = put_byte(out, at, b' ');
-    text::put_hex(out, digits, float::to_bits(x), 16)
+    out.byte(b' ');
+    out.hex(float::to_bits(x), 16);
 }
 
+// (No From: the kind and u8 are of other crates.)
 fn letter(kind: RootKind) -> u8
     ensures { result ≡ letter_of kind }
 {
@@ -36,152 +39,159 @@ fn letter(kind: RootKind) -> u8
 }
 
 // A blank, and the letter of the kind.
-fn put_kind(out: &mut [u8], at: usize, kind: RootKind) -> usize
-    requires { at < 2 ^ 34 }
-    ensures { Written out.old at (kind_text kind) out.new result }
+fn put_kind(out: &mut Text, kind: RootKind)
+    requires { out.old.at < 2 ^ 34 }
+    ensures { Written out.old (kind_text kind) out.new }
 {
-    let last = put_byte(out, at, b' ');
-    put_byte(out, last, letter(kind))
+    out.byte(b' ');
+    out.byte(letter(kind));
 }
 
 // The place, and behind a blank its multiplicity, and the kind.
-fn put_root(out: &mut [u8], at: usize, root: RealRoot) -> usize
-    requires { (at < 2 ^ 33) × (root.multiplicity < 100) }
-    ensures { Written out.old at (root_text root) out.new result }
+fn put_root(out: &mut Text, root: RealRoot)
+    requires { (out.old.at < 2 ^ 33) × (root.multiplicity < 100) }
+    ensures { Written out.old (root_text root) out.new }
 {
-    let blank = put_place(out, at, root.value);
-    let digits = put_byte(out, blank, b' ');
-    let end = put_decimal(out, digits, root.multiplicity as u64);
+    put_place(out, root.value);
+    out.byte(b' ');
+    out.decimal(root.multiplicity as u64);
     let kind = root.kind;
-    put_kind(out, end, kind)
+    put_kind(out, kind);
 }
 
 // How many roots, and each of them.
-fn put_roots(out: &mut [u8], at: usize, roots: Roots) -> usize
-    requires { (at < 2 ^ 32) × Printable roots }
-    ensures { Written out.old at (roots_text roots) out.new result }
+fn put_roots(out: &mut Text, roots: Roots)
+    requires { (out.old.at < 2 ^ 32) × Printable roots }
+    ensures { Written out.old (roots_text roots) out.new }
 {
     let root = roots.root;
-    let mut next = put_decimal(out, at, roots.len as u64);
+    out.decimal(roots.len as u64);
     for i in 0..roots.len {
-        next = put_root(out, next, root[i]);
+        put_root(out, root[i]);
     }
-    next
 }
 
-fn put_refused(out: &mut [u8], at: usize, number: u32) -> usize
-    requires { (at < 2 ^ 32) × (number < 100) }
-    ensures { Written out.old at (refused_text number) out.new result }
+#[tactic(auto, using(text::proofs::Laws::written_then), unfolding(crate::specs::Lines::refused_text))]
+fn put_refused(out: &mut Text, refusal: Refusal)
+    requires { out.old.at < 2 ^ 32 }
+    ensures { Written out.old (refused_text (number_of refusal)) out.new }
 {
-    let digits = put_bytes(out, at, b"refused ");
-    put_decimal(out, digits, number as u64)
+    out.bytes(b"refused ");
+    out.decimal(u32::from(refusal) as u64);
 }
 
-fn put_polynomial(out: &mut [u8], at: usize, a: Answer) -> usize
-    requires { (at < 2 ^ 31) × ((a.number < 100) × Printable a.roots) }
-    ensures { Written out.old at (polynomial_text a) out.new result }
+#[tactic(auto, using(text::proofs::Laws::written_then), unfolding(crate::specs::Lines::polynomial_text))]
+fn put_polynomial(out: &mut Text, a: Result<Roots, Refusal>)
+    requires { (out.old.at < 2 ^ 31) × Printable (roots_in a) }
+    ensures { Written out.old (polynomial_text a) out.new }
 {
-    if a.number != 0 {
-        return put_refused(out, at, a.number);
+    match a {
+        Ok(roots) => {
+            out.bytes(b"ok ");
+            put_roots(out, roots);
+        }
+        Err(refusal) => put_refused(out, refusal),
     }
-    let count = put_bytes(out, at, b"ok ");
-    let roots = a.roots;
-    put_roots(out, count, roots)
 }
 
-fn put_solution(out: &mut [u8], at: usize, solution: QuadraticSolution) -> usize
-    requires { at < 2 ^ 32 }
-    ensures { Written out.old at (solution_text solution) out.new result }
+#[tactic(auto, using(text::proofs::Laws::written_then, crate::proofs::Texts::place_length), unfolding(crate::specs::Lines::solution_text))]
+fn put_solution(out: &mut Text, solution: QuadraticSolution)
+    requires { out.old.at < 2 ^ 32 }
+    ensures { Written out.old (solution_text solution) out.new }
 {
     match solution {
         QuadraticSolution::Two(x, y) => {
-            let first = put_bytes(out, at, b"two");
-            let second = put_place(out, first, x);
-            put_place(out, second, y)
+            out.bytes(b"two");
+            put_place(out, x);
+            put_place(out, y);
         }
         QuadraticSolution::One(x) => {
-            let first = put_bytes(out, at, b"one");
-            put_place(out, first, x)
+            out.bytes(b"one");
+            put_place(out, x);
         }
         QuadraticSolution::Linear(x) => {
-            let first = put_bytes(out, at, b"linear");
-            put_place(out, first, x)
+            out.bytes(b"linear");
+            put_place(out, x);
         }
-        QuadraticSolution::Degenerate => put_bytes(out, at, b"degenerate"),
-        QuadraticSolution::Empty => put_bytes(out, at, b"empty"),
+        QuadraticSolution::Degenerate => out.bytes(b"degenerate"),
+        QuadraticSolution::Empty => out.bytes(b"empty"),
     }
 }
 
-#[tactic(auto, using(refusals::proofs::Numbers::number_bounds), unfolding(crate::specs::Lines::quadratic_text))]
-fn put_quadratic(out: &mut [u8], at: usize, a: Result<QuadraticSolution, Refusal>) -> usize
-    requires { at < 2 ^ 31 }
-    ensures { Written out.old at (quadratic_text a) out.new result }
+#[tactic(auto, unfolding(crate::specs::Lines::quadratic_text))]
+fn put_quadratic(out: &mut Text, a: Result<QuadraticSolution, Refusal>)
+    requires { out.old.at < 2 ^ 31 }
+    ensures { Written out.old (quadratic_text a) out.new }
 {
     match a {
-        Ok(solution) => put_solution(out, at, solution),
-        Err(refusal) => put_refused(out, at, refusal.into()),
+        Ok(solution) => put_solution(out, solution),
+        Err(refusal) => put_refused(out, refusal),
     }
 }
 
-fn put_crank(out: &mut [u8], at: usize, a: CrankAnswer) -> usize
-    requires { (at < 2 ^ 31) × ((a.number < 100) × ((a.k < 8) × Printable a.roots)) }
-    ensures { Written out.old at (crank_text a) out.new result }
+#[tactic(auto, using(text::proofs::Laws::written_then, crate::proofs::Texts::digit_length), unfolding(crate::specs::Lines::crank_text))]
+fn put_crank(out: &mut Text, a: Result<CrankAnswer, Refusal>)
+    requires { (out.old.at < 2 ^ 31) × CrankPrintable a }
+    ensures { Written out.old (crank_text a) out.new }
 {
-    if a.number != 0 {
-        return put_refused(out, at, a.number);
+    match a {
+        Ok(answer) => {
+            out.bytes(b"ok ");
+            out.decimal(answer.k as u64);
+            out.byte(b' ');
+            let roots = answer.roots;
+            put_roots(out, roots);
+        }
+        Err(refusal) => put_refused(out, refusal),
     }
-    let k = put_bytes(out, at, b"ok ");
-    let blank = put_decimal(out, k, a.k as u64);
-    let count = put_byte(out, blank, b' ');
-    let roots = a.roots;
-    put_roots(out, count, roots)
 }
 
 // What the solver answers to the record at `at`, which stands whole.
-fn put_answer(out: &mut [u8], w: usize, s: &[u8], at: usize, kind: Kind) -> usize
-    requires { (w < 2 ^ 31) × Whole kind s.now at }
-    ensures { Written out.old w (answer_text kind s.now at) out.new result }
+fn put_answer(out: &mut Text, s: &[u8], at: usize, kind: Kind)
+    requires { (out.old.at < 2 ^ 31) × Whole kind s.now at }
+    ensures { Written out.old (answer_text kind s.now at) out.new }
 {
     match kind {
-        Kind::Polynomial => put_polynomial(out, w, crate::numbers::polynomial_at(s, at)),
-        Kind::Quadratic => put_quadratic(out, w, crate::numbers::quadratic_at(s, at)),
-        Kind::Crank => put_crank(out, w, crate::numbers::crank_at(s, at)),
-        Kind::Contact => put_polynomial(out, w, crate::numbers::contact_at(s, at)),
-        Kind::Formula => put_polynomial(out, w, crate::numbers::formula_at(s, at)),
-        Kind::Unknown => w,
+        Kind::Polynomial => put_polynomial(out, crate::numbers::polynomial_at(s, at)),
+        Kind::Quadratic => put_quadratic(out, crate::numbers::quadratic_at(s, at)),
+        Kind::Crank => put_crank(out, crate::numbers::crank_at(s, at)),
+        Kind::Contact => put_polynomial(out, crate::numbers::contact_at(s, at)),
+        Kind::Formula => put_polynomial(out, crate::numbers::formula_at(s, at)),
+        Kind::Unknown => {}
     }
 }
 
 // The record's number and its mark, each before a blank.
-fn put_head(out: &mut [u8], w: usize, n: u64, kind: Kind) -> usize
-    requires { (w < 2 ^ 30) × (length (decimal n) ≤ 5) }
-    ensures { Written out.old w (head_of n kind) out.new result }
+fn put_head(out: &mut Text, n: u64, kind: Kind)
+    requires { (out.old.at < 2 ^ 30) × (length (decimal n) ≤ 5) }
+    ensures { Written out.old (head_of n kind) out.new }
 {
-    let blank = put_decimal(out, w, n);
-    let mark = put_byte(out, blank, b' ');
-    let end = put_bytes(out, mark, &<[u8; 2]>::from(kind));
-    put_byte(out, end, b' ')
+    out.decimal(n);
+    out.byte(b' ');
+    out.bytes(&<[u8; 2]>::from(kind));
+    out.byte(b' ');
 }
 
 // What stands behind the mark.
-fn put_words(out: &mut [u8], w: usize, s: &[u8], at: usize, found: Record) -> usize
-    requires { (w < 2 ^ 31) × Sound found s.now at }
-    ensures { Written out.old w (words_of s.now at found) out.new result }
+#[tactic(auto, unfolding(crate::specs::Lines::words_of))]
+fn put_words(out: &mut Text, s: &[u8], at: usize, found: Record)
+    requires { (out.old.at < 2 ^ 31) × Sound found s.now at }
+    ensures { Written out.old (words_of s.now at found) out.new }
 {
-    if found.number != 0 {
-        return put_refused(out, w, found.number);
-    }
     let kind = found.kind;
-    put_answer(out, w, s, at, kind)
+    match found.refused {
+        Some(refusal) => put_refused(out, refusal),
+        None => put_answer(out, s, at, kind),
+    }
 }
 
 // The n-th line, that of the record at `at`.
-pub fn put_line(out: &mut [u8], w: usize, n: u64, s: &[u8], at: usize, found: Record) -> usize
-    requires { (w < 2 ^ 30) × ((n < 100000) × Sound found s.now at) }
-    ensures { Written out.old w (line_of n s.now at found) out.new result }
+pub fn put_line(out: &mut Text, n: u64, s: &[u8], at: usize, found: Record)
+    requires { (out.old.at < 2 ^ 30) × ((n < 100000) × Sound found s.now at) }
+    ensures { Written out.old (line_of n s.now at found) out.new }
 {
     let kind = found.kind;
-    let words = put_head(out, w, n, kind);
-    let end = put_words(out, words, s, at, found);
-    put_byte(out, end, b'\n')
+    put_head(out, n, kind);
+    put_words(out, s, at, found);
+    out.byte(b'\n');
 }

@@ -7,13 +7,13 @@ ghost use Rattle.records.specs.declared.Kind.TheVariants.{Polynomial, Quadratic,
 use contact::{Circle, Path};
 use crank::CrankAnswer;
 use float::f64_at;
-use lent_bytes::f64s_at;
-use poly::Answer;
+use lent_bytes::{doubles_at, f64s_at};
 use refusals::Refusal;
+use roots::Roots;
 use solution::QuadraticSolution;
 use trig_quartic::TrigEquation;
 
-pub fn polynomial_at(s: &[u8], at: usize) -> Answer
+pub fn polynomial_at(s: &[u8], at: usize) -> Result<Roots, Refusal>
     requires { Whole Polynomial s.now at }
     ensures { result ≡ polynomial_at s.now at }
 {
@@ -27,51 +27,35 @@ pub fn quadratic_at(s: &[u8], at: usize) -> Result<QuadraticSolution, Refusal>
     requires { Whole Quadratic s.now at }
     ensures { result ≡ quadratic_at s.now at }
 {
-    let confusion = f64_at(s, at + 2);
-    let angular = f64_at(s, at + 10);
-    let a = f64_at(s, at + 18);
-    let b = f64_at(s, at + 26);
-    let c = f64_at(s, at + 34);
+    let [confusion, angular, a, b, c] = doubles_at::<5>(s, at + 2);
     equation::quadratic(a, b, c, confusion, angular)
 }
 
-pub fn crank_at(s: &[u8], at: usize) -> CrankAnswer
+pub fn crank_at(s: &[u8], at: usize) -> Result<CrankAnswer, Refusal>
     requires { Whole Crank s.now at }
     ensures { result ≡ crank_at s.now at }
 {
-    let confusion = f64_at(s, at + 2);
-    let trig = TrigEquation {
-        a2: f64_at(s, at + 10),
-        b2: f64_at(s, at + 18),
-        c1: f64_at(s, at + 26),
-        d1: f64_at(s, at + 34),
-        e: f64_at(s, at + 42),
-    };
-    crank::crank(confusion, trig)
+    let [confusion, a2, b2, c1, d1, e] = doubles_at::<6>(s, at + 2);
+    crank::crank(confusion, TrigEquation { a2, b2, c1, d1, e })
 }
 
-pub fn contact_at(s: &[u8], at: usize) -> Answer
+pub fn contact_at(s: &[u8], at: usize) -> Result<Roots, Refusal>
     requires { Whole Contact s.now at }
     ensures { result ≡ contact_at s.now at }
 {
-    let confusion = f64_at(s, at + 2);
+    let [confusion, x0, x1, x2, y0, y1, y2, cx, cy, r] = doubles_at::<10>(s, at + 2);
     let path = Path {
-        x0: f64_at(s, at + 10),
-        x1: f64_at(s, at + 18),
-        x2: f64_at(s, at + 26),
-        y0: f64_at(s, at + 34),
-        y1: f64_at(s, at + 42),
-        y2: f64_at(s, at + 50),
+        x0,
+        x1,
+        x2,
+        y0,
+        y1,
+        y2,
     };
-    let circle = Circle {
-        cx: f64_at(s, at + 58),
-        cy: f64_at(s, at + 66),
-        r: f64_at(s, at + 74),
-    };
-    contact::pin_contact(confusion, path, circle)
+    contact::pin_contact(confusion, path, Circle { cx, cy, r })
 }
 
-pub fn formula_at(s: &[u8], at: usize) -> Answer
+pub fn formula_at(s: &[u8], at: usize) -> Result<Roots, Refusal>
     requires { Whole Formula s.now at }
     ensures { result ≡ formula_at s.now at }
 {

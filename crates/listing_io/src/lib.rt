@@ -12,14 +12,14 @@ ghost use Rattle.listing.specs.File.{listing};
 use std::io;
 use std::io::Read;
 
-// Room for every listing (`listing_fits`).
+// Room for every listing (`listing_fits`). (An array and a function, as input::buffer.)
 pub fn output_buffer() -> [u8; 524308]
     ensures { 524308 ≡ length result }
 {
     [0; 524308]
 }
 
-// How many bytes were read, and how many their listing has.
+// How many bytes were read, and how many their listing has. (Numbers and no slices: both buffers are the caller's.)
 #[derive(Clone, Copy)]
 pub struct Listed {
     pub read: usize,

@@ -1,10 +1,12 @@
 -- Where the power of a significand w of 53 digits lies, by the thresholds that it reaches.
 use mathlib.Core.Path.{◌≡◌, subst}
 use mathlib.Core.Logic.{⊎_elim}
+use mathlib.Core.List.{List}
+use lib.ListN.{get_or}
 use Prim.Native.Nat.{ℕ, suc, ◌+◌, ◌-◌, ◌^◌, ◌≤◌, ◌<◌}
 use native.Mathlib.Omega.{arith}
 use native.Mathlib.Nat.{le_trans, lt_of_le_of_lt, lt_irrefl, eq-zero-or-pos, pow-le-pow_left, pow-lt-pow_left}
-use Rattle.log2.specs.Parts.{Threshold, Fraction}
+use Rattle.log2.specs.Parts.{Threshold, Thresholds, Fraction}
 
 -- every w reaches the first threshold
 pub not_first : (n w t : ℕ) → Threshold n t → 2 ^ 52 ≤ w → w < t → 0 < n
@@ -16,18 +18,20 @@ not_first n w t q a l =
     under w t l = omega arith
 
 -- a threshold that w reaches
-pub reached : (n w t : ℕ) → Threshold n t → t ≤ w → 2 ^ (n + 13312) ≤ w ^ 256
-reached n w t q l = le_trans q.reaches (pow-le-pow_left l 256)
+pub reached : (table : List ℕ) (n w : ℕ) → Thresholds table → n < 256 → get_or table n 0 ≤ w → 2 ^ (n + 13312) ≤ w ^ 256
+reached table n w q h l = le_trans (q.entry n h).reaches (pow-le-pow_left l 256)
 
 -- and the next one, which it does not
-pub next_above : (n w t : ℕ) → n < 255 → 2 ^ (n + 13312) ≤ w ^ 256 → Threshold (n + 1) t → w < t → Fraction w n
-next_above n w t s a q l = record {
-  small = omega arith;
-  low = a;
-  high =
-      lt_of_le_of_lt (pow-le-pow_left (let e : w ≤ t - 1 = omega arith in e) 256)
-      (subst (λ (m : ℕ). (t - 1) ^ 256 < 2 ^ (m + 13312)) (let e : n + 1 ≡ suc n = omega arith in e) q.least);
-}
+pub next_above : (table : List ℕ) (n w : ℕ) → Thresholds table → n < 255 → 2 ^ (n + 13312) ≤ w ^ 256 → w < get_or table (n + 1) 0 → Fraction w n
+next_above table n w q s a l =
+    let t = q.entry (n + 1) (omega arith) in
+    record {
+      small = omega arith;
+      low = a;
+      high =
+          lt_of_le_of_lt (pow-le-pow_left (let e : w ≤ get_or table (n + 1) 0 - 1 = omega arith in e) 256)
+          (subst (λ (m : ℕ). (get_or table (n + 1) 0 - 1) ^ 256 < 2 ^ (m + 13312)) (let e : n + 1 ≡ suc n = omega arith in e) t.least);
+    }
 
 -- above the last one is 2 ^ 53
 pub last_one : (n w : ℕ) → n < 256 → 255 ≤ n → 2 ^ (n + 13312) ≤ w ^ 256 → w < 2 ^ 53 → Fraction w n

@@ -262,6 +262,7 @@ static THRESHOLDS: [u64; 256] = [
 ];
 
 // The table, where it lies.
+#[tactic(auto, using(crate::proofs::Rule::rule))]
 pub fn thresholds() -> &'static [u64; 256]
     ensures { Thresholds result.now }
 {

@@ -11,9 +11,10 @@ use lib.Pow.{pow-add, pow_pos, pow_mono}
 use lib.Ieee.{odd, size}
 use lib.Ieee.Digits.{size-lt}
 use Rattle.algebra.specs.NatOrder.{pow2_join}
+use Rattle.decode.specs.declared.digits.Digits.{Digits}
 use Rattle.decode.specs.Shape.{Normal}
 use Rattle.nearest.specs.Greatest.{greatest, nearest_of, Floor, NearestHalf}
-use Rattle.nearest.proofs.ByTest.{Monotone, Sized, odd_middle, by_test, floor_bounds, half_of_floor, half_bounds}
+use Rattle.nearest.proofs.ByTest.{Monotone, Sized, odd_middle, by_test, half_of_floor, half_bounds}
 
 -- f t is t to the power e
 pub record Power (e : ℕ) (f : ℕ → ℕ) : Type 0 where
@@ -101,8 +102,8 @@ module _ (e : ℕ) (f : ℕ → ℕ) (P : Power e f) where
   -- ---- w has 53 digits, d is what is left of an exponent divided by e, and q digits more make 53 or 54 of the root
 
   module _ (q : ℕ) (full : q + 52 ≡ 53 * e) where
-    pub sized : (w d : ℕ) → 2 ^ 52 ≤ w → w < 2 ^ 53 → d < e → Sized (at_root f (w * 2 ^ d * 2 ^ q))
-    sized w d lo hi l = record {
+    of_size : (w d : ℕ) → 2 ^ 52 ≤ w → w < 2 ^ 53 → d < e → Sized (at_root f (w * 2 ^ d * 2 ^ q))
+    of_size w d lo hi l = record {
       least = le-leb (f (2 ^ 53)) (w * 2 ^ d * 2 ^ q)
           (subst (λ (x : ℕ). x ≤ w * 2 ^ d * 2 ^ q) (sym (pow-add 2 52 q)
           ∙ ap (λ (x : ℕ). 2 ^ x) (let z : 52 + q ≡ e * 53 = omega arith in z) ∙ sym (P.twos 53))
@@ -114,34 +115,37 @@ module _ (e : ℕ) (f : ℕ → ℕ) (P : Power e f) where
           (pow_mono (let z : 53 + d + q ≤ e * 54 = omega arith in z)))));
     }
 
+    pub sized : (n : Digits) → Sized (at_root f (n.w * 2 ^ (n.k % e) * 2 ^ q))
+    sized n = of_size n.w (n.k % e) n.led n.short (mod-lt n.k P.degree)
+
     -- from the whole part that the search finds, to the whole number nearest to half the root
-    pub from_floor : (w d t : ℕ) → 2 ^ 52 ≤ w → w < 2 ^ 53 → d < e → Floor (at_root f (w * 2 ^ d * 2 ^ q)) t → (t < 2 ^ 54)
-        × NearestHalf (at_root f (w * 2 ^ d * 2 ^ q)) ((t + 1) / 2)
-    from_floor w d t lo hi l g =
-        let long = sized w d lo hi l in
-        ((floor_bounds _ (monotone _) long t g).1, half_of_floor _ (monotone _) long t g)
+    pub from_floor : (n : Digits) (t : ℕ) → Floor (at_root f (n.w * 2 ^ (n.k % e) * 2 ^ q)) t → NearestHalf (at_root f (n.w * 2 ^ (n.k % e) * 2 ^ q)) ((t + 1) / 2)
+    from_floor n t g = half_of_floor _ (monotone _) (sized n) t g
 
-    pub half_digits : (n w k m : ℕ) → Normal n w k → NearestHalf (at_root f (w * 2 ^ (k % e) * 2 ^ q)) m → (2 ^ 52 ≤ m) × (m ≤ 2 ^ 53)
-    half_digits n w k m h g = half_bounds _ (monotone _) (sized w (k % e) h.led h.short (mod-lt k P.degree)) m g
+    pub half_digits : (n : Digits) (m : ℕ) → NearestHalf (at_root f (n.w * 2 ^ (n.k % e) * 2 ^ q)) m → (2 ^ 52 ≤ m) × (m ≤ 2 ^ 53)
+    half_digits n m g = half_bounds _ (monotone _) (sized n) m g
 
-    -- the double that the functions make of n units: they read w and k, and find m
-    pub root_of : (l c n w k m : ℕ) → l + e ≡ q + e * c + 52 → 0 < c → Normal n w k → k / e + c < 2045 → NearestHalf (at_root f (w * 2 ^ (k % e) * 2 ^ q)) m
-        → let M = n * 2 ^ l in let t = greatest (at_root f M) (size M / e + 1) 0 in nearest_of t (eqb (f t) M) ≡ odd 54 false m (k / e + c) 1074
-    root_of l c n w k m is p h J g =
+    -- the double that the functions make of u units: they read the digits, and find m
+    pub root_of : (l c u : ℕ) (n : Digits) (m : ℕ) → l + e ≡ q + e * c + 52 → 0 < c → Normal u n.w n.k → n.k / e + c < 2045
+        → NearestHalf (at_root f (n.w * 2 ^ (n.k % e) * 2 ^ q)) m
+        → let M = u * 2 ^ l in let t = greatest (at_root f M) (size M / e + 1) 0 in nearest_of t (eqb (f t) M) ≡ odd 54 false m (n.k / e + c) 1074
+    root_of l c u n m is p h J g =
+        let w = n.w in
+        let k = n.k in
         let j = k / e + (c - 1) in
         let next : suc j ≡ k / e + c = omega arith in
-        root_nearest (w * 2 ^ (k % e) * 2 ^ q) m j (n * 2 ^ l)
-        (sized w (k % e) h.led h.short (mod-lt k P.degree))
+        root_nearest (w * 2 ^ (k % e) * 2 ^ q) m j (u * 2 ^ l)
+        (sized n)
         (even_power (w * 2 ^ (k % e)) q (let z : 0 < q = let d = P.degree in omega arith in z))
-        (on_units n w k (k % e) 52 q l (e * j) h.value parts ∙ ap (λ (x : ℕ). w * 2 ^ (k % e) * 2 ^ q * x) (sym (P.twos j)))
+        (on_units u w k (k % e) 52 q l (e * j) h.value parts ∙ ap (λ (x : ℕ). w * 2 ^ (k % e) * 2 ^ q * x) (sym (P.twos j)))
         g (subst (λ (x : ℕ). x < 2045) (sym next) J)
         ∙ ap (λ (x : ℕ). odd 54 false m x 1074) next
       where
-        parts : k + l ≡ k % e + q + e * (k / e + (c - 1)) + 52
+        parts : n.k + l ≡ n.k % e + q + e * (n.k / e + (c - 1)) + 52
         parts =
-            let a = div-add-mod' k e in
-            let b = mul-add e (k / e) (c - 1) in
-            let d = mul_comm e (k / e) in
+            let a = div-add-mod' n.k e in
+            let b = mul-add e (n.k / e) (c - 1) in
+            let d = mul_comm e (n.k / e) in
             let u : e * c ≡ e * (c - 1) + e = ap (λ (x : ℕ). e * x) (let z : c ≡ c - 1 + 1 = omega arith in z) ∙ mul-add e (c - 1) 1
             ∙ ap (λ (x : ℕ). e * (c - 1) + x) (mul-one e) in
             omega arith

@@ -4,6 +4,7 @@ use mathlib.Core.Bool.{Bool, true, false, cond}
 use mathlib.Core.List.{List, [], ◌∷◌, ◌++◌, map}
 use Prim.Native.Nat.{ℕ, zero, suc, ◌+◌, ◌-◌, ◌≤◌, ◌<◌}
 use native.Mathlib.Numerals.{add-one}
+use native.Mathlib.Nat.{sub-zero}
 use native.Mathlib.Omega.{arith}
 use lib.ListN.{length, take, drop, get_or, length-map, get_or-map}
 use lib.Seq.{take_at, drop-append-add, drop-cons, get_or-take, length-take-le}
@@ -28,6 +29,12 @@ module _ (test : ℕ → Bool) where
   pub first_end : (i p : ℕ) → i ≤ p → first_from test p (i - p) ≡ p
   unfolding first_from
   first_end i p h = let e : i - p ≡ 0 = omega arith in ap (λ (k : ℕ). first_from test p k) e
+
+-- from the first number on
+pub first_all : (test : ℕ → Bool) (i : ℕ) → first_from test 0 (i - 0) ≡ first_from test 0 i
+first_all test i = ap (first_from test 0) (sub-zero i)
+
+pub ruleset first_laws = (first_go, first_stop, first_end, first_all)
 
 -- ---- one number more
 abbrev pub entries_of : List ℕ → ℕ → ℕ → List ℕ

@@ -7,6 +7,7 @@ ghost use Rattle.facts.specs.Sort.{inserted_by};
 ghost use Rattle.order.specs.Order.{keys_before, falling_of, falls, insertion_of, entry_of, Places};
 
 // How many of the first i numbers stand before i, up to the first that does not.
+#[tactic(auto, using(crate::proofs::Laws::first_laws), unfolding(crate::specs::Order::insertion_of))]
 fn place(key: [f64; 4], at: [usize; 4], i: usize) -> usize
     requires i_high { i < 4 }
     requires places { Places at }
@@ -48,7 +49,8 @@ fn insert(key: [f64; 4], at: [usize; 4], i: usize) -> [usize; 4]
     std::array::from_fn(|k| entry(at, i, p, k))
 }
 
-// The numbers 0..n in the order of their keys.
+// The numbers 0..n in the order of their keys. (By hand: std's stable sort takes a heap, its unstable one leaves open how ties stand.)
+#[tactic(auto, using(crate::proofs::Laws::order_none, crate::proofs::Laws::order_turn, crate::proofs::Laws::order_places), unfolding(crate::specs::Order::falling_of))]
 pub fn falling(key: [f64; 4], n: usize) -> [usize; 4]
     requires { n ≤ 4 }
     ensures { (result ≡ falling_of key n) × Places result }

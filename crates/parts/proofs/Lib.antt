@@ -2,8 +2,7 @@ pub mod Coefficients
 pub mod Limits
 pub mod Trimmed
 pub mod Values
-pub mod Words
 pub mod Entries
 pub mod Degrees
-pub mod Sums
+pub mod Products
 pub mod Joins

@@ -9,10 +9,12 @@ use lib.Dec.{T, eqb, ltb}
 use lib.ListN.{length}
 use lib.IntN.{ℤ, pos, nat_abs}
 use borrow.Author.Tests.{ltb-true, ltb-false}
+use Rattle.std.specs.Prelude.{Ok, Err}
+use Rattle.refusals.specs.declared.Refusal.TheVariants.{DegreeTooHigh, CoefficientTooLarge}
 use Rattle.parts.specs.declared.Operator.{Operator}
 use Rattle.parts.specs.Polynomial.{coefficient_of, led, trimmed}
 use Rattle.parts.specs.Products.{made_of, operator_of}
-use Rattle.parts.specs.Value.{Value, exact, refused, too_large, limited}
+use Rattle.parts.specs.Value.{Value, too_large, limited}
 use Rattle.parts.proofs.Coefficients.{made_at, trimmed_at, trimmed_same, trimmed_long}
 use Rattle.parts.proofs.Limits.{Limits, limited_limits}
 
@@ -41,27 +43,27 @@ large_at (a ∷ p) e = go (ltb (2 ^ 53) (nat_abs a)) refl e (large_at p)
     go false d e rest = let w = rest e in (suc w.0, w.1)
 
 pub limited_ways : (C : Value → Type 0) (p : List ℤ)
-    → ((k : ℕ) → 5 ≤ k → (coefficient_of p k ≡ pos 0 → ⊥) → C (refused 14))
-    → (((k : ℕ) → 5 ≤ k → coefficient_of p k ≡ pos 0) → (k : ℕ) → 2 ^ 53 < nat_abs (coefficient_of p k) → C (refused 15))
-    → (((k : ℕ) → 5 ≤ k → coefficient_of p k ≡ pos 0) → ((k : ℕ) → nat_abs (coefficient_of p k) ≤ 2 ^ 53) → C (exact (trimmed p)))
+    → ((k : ℕ) → 5 ≤ k → (coefficient_of p k ≡ pos 0 → ⊥) → C (Err DegreeTooHigh))
+    → (((k : ℕ) → 5 ≤ k → coefficient_of p k ≡ pos 0) → (k : ℕ) → 2 ^ 53 < nat_abs (coefficient_of p k) → C (Err CoefficientTooLarge))
+    → (((k : ℕ) → 5 ≤ k → coefficient_of p k ≡ pos 0) → ((k : ℕ) → nat_abs (coefficient_of p k) ≤ 2 ^ 53) → C (Ok (trimmed p)))
     → C (limited p)
 unfolding limited
 limited_ways C p high large meets = go (ltb 5 (length (trimmed p))) (too_large (trimmed p)) refl refl
   where
-    go : (b c : Bool) → ltb 5 (length (trimmed p)) ≡ b → too_large (trimmed p) ≡ c → C (cond b (refused 14) (cond c (refused 15) (exact (trimmed p))))
+    go : (b c : Bool) → ltb 5 (length (trimmed p)) ≡ b → too_large (trimmed p) ≡ c → C (cond b (Err DegreeTooHigh) (cond c (Err CoefficientTooLarge) (Ok (trimmed p))))
     go true c d e = let l = ltb-true 5 (length (trimmed p)) d in let w = trimmed_last p (omega arith) in high w.0 (omega (arith, w.1)) w.2
     go false true d e =
         let w = large_at (trimmed p) e in
         large (trimmed_long 5 p (ltb-false 5 (length (trimmed p)) d)) w.0 (subst (λ (a : ℤ). 2 ^ 53 < nat_abs a) (trimmed_at p w.0) w.1)
     go false false d e =
-        let w : Limits (exact (trimmed p)) = rw (d, e) at (limited_limits p) in
+        let w : Limits (Ok (trimmed p)) = rw (d, e) at (limited_limits p) in
         meets (trimmed_long 5 p w.0) (λ k. subst (λ (a : ℤ). nat_abs a ≤ 2 ^ 53) (trimmed_at p k) (w.1 k))
 
 -- ---- zeros at the end
 limited_same : (p q : List ℤ) → ((k : ℕ) → coefficient_of p k ≡ coefficient_of q k) → limited p ≡ limited q
 unfolding limited
 limited_same p q e =
-    ap (λ (r : List ℤ). cond (ltb 5 (length r)) (refused 14) (cond (too_large r) (refused 15) (exact r))) (trimmed_same p q e)
+    ap (λ (r : List ℤ). cond (ltb 5 (length r)) (Err DegreeTooHigh) (cond (too_large r) (Err CoefficientTooLarge) (Ok r))) (trimmed_same p q e)
 
 pub made_trimmed : (op : Operator) (p q : List ℤ) → limited (operator_of op (trimmed p) (trimmed q)) ≡ limited (operator_of op p q)
 made_trimmed op p q = limited_same (operator_of op (trimmed p) (trimmed q)) (operator_of op p q) same

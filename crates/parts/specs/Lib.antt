@@ -1,4 +1,5 @@
 pub mod Polynomial
 pub mod Value
 pub mod Products
+pub mod Kept
 pub mod Part

@@ -1,29 +1,22 @@
 // The parts of a formula: polynomials up to degree 4 over the whole numbers, exactly, and what is refused of them under 14 and 15.
-// It rests on `refusals` and `wide`; the readers of formulas rest on it.
+// It rests on `refusals`; the readers of formulas rest on it.
 #![tactic(auto)]
 
-ghost use Rattle.std.specs.Prelude.{◌≡◌, [], ◌∷◌, ◌+◌, ◌*◌, ◌^◌, ◌≤◌, ◌<◌, pos};
-ghost use Rattle.wide.specs.Double.{double_of};
+ghost use Rattle.std.specs.Prelude.{◌≡◌, [], ◌∷◌, ◌^◌, ◌≤◌, ◌<◌, pos, Ok};
 ghost use Rattle.parts.specs.declared.Operator.TheVariants.{Product};
-ghost use Rattle.parts.specs.Value.{exact, refused as refusedAs, limited, joined, power_of};
+ghost use Rattle.parts.specs.Polynomial.{coefficient_of, trimmed};
+ghost use Rattle.parts.specs.Value.{limited, joined, power_of};
 ghost use Rattle.parts.specs.Products.{made_of, made_length, operator_of};
-ghost use Rattle.parts.specs.Part.{coefficient_at, polynomial_of, value_in, Sound, length_in, entry_of, Ends, Within, Excess, Raises};
+ghost use Rattle.parts.specs.Kept.{Ends, small_of};
+ghost use Rattle.parts.specs.Part.{coefficient_in, value_in, length_in};
 
-use wide::Double;
+pub use part::Part;
+use refusals::Refusal;
+
+mod part;
 
 // 2^53, the largest size of a coefficient.
-const MOST: u64 = 0x20_0000_0000_0000;
-
-// Twice that.
-const TWICE: u64 = 0x40_0000_0000_0000;
-
-// Coefficients of t^0 to t^4, each kept as 2^53 more than it is, so that none is below 0; or nothing but the number under which the part is refused,
-// where that is not 0.
-#[derive(Clone, Copy, PartialEq, Eq, Debug)]
-pub struct Part {
-    pub number: u32,
-    pub raised: [u64; 5],
-}
+const MOST: u128 = 0x20_0000_0000_0000;
 
 #[derive(Clone, Copy, PartialEq, Eq, Debug)]
 pub enum Operator {
@@ -32,76 +25,52 @@ pub enum Operator {
     Product,
 }
 
-// The coefficients of a part, and how many there are up to the last that is no zero.
+// The coefficients of a part, and how many there are up to the last that is no zero. (An array and a count: at most five, which product_at reads by place;
+// nothing here has a heap.)
 #[derive(Clone, Copy)]
 struct Counted {
-    raised: [u64; 5],
+    coeffs: [i64; 5],
     len: usize,
-    ghost ends: { Ends raised len },
-}
-
-// up - down.
-#[derive(Clone, Copy, PartialEq, Eq, Debug)]
-pub struct Coefficient {
-    pub up: u64,
-    pub down: u64,
+    ghost ends: { Ends coeffs len },
 }
 
 // ---- the smallest parts
 
-fn refused(number: u32) -> Part
-    requires { 0 < number }
-    ensures value { value_in result ≡ refusedAs number }
-    ensures sound { Sound result }
-{
-    Part {
-        number,
-        raised: [MOST; 5],
-    }
-}
-
+#[tactic(auto, using(crate::proofs::Entries::number_is))]
 pub fn number(n: u64) -> Part
     requires { n ≤ 2 ^ 53 }
-    ensures value { value_in result ≡ limited (pos n ∷ []) }
-    ensures sound { Sound result }
+    ensures { value_in (Ok result) ≡ limited (pos n ∷ []) }
 {
     Part {
-        number: 0,
-        raised: [MOST + n, MOST, MOST, MOST, MOST],
+        coeffs: [n as i64, 0, 0, 0, 0],
     }
 }
 
 pub fn letter() -> Part
-    ensures value { value_in result ≡ exact (pos 0 ∷ pos 1 ∷ []) }
-    ensures sound { Sound result }
+    ensures { value_in (Ok result) ≡ Ok (pos 0 ∷ pos 1 ∷ []) }
 {
     Part {
-        number: 0,
-        raised: [MOST, MOST + 1, MOST, MOST, MOST],
+        coeffs: [0, 1, 0, 0, 0],
     }
 }
 
 // ---- coefficients
 
 // That of t^k, zero beyond t^4.
-pub fn entry(a: Part, k: usize) -> Coefficient
-    ensures { result ≡ entry_of a k }
+pub fn entry(a: Part, k: usize) -> i64
+    ensures { result ≡ coefficient_in a k }
 {
-    let x = a.raised.get(k).copied().unwrap_or(MOST);
-    Coefficient {
-        up: x.saturating_sub(MOST),
-        down: MOST.saturating_sub(x),
-    }
+    a.coeffs.get(k).copied().unwrap_or(0)
 }
 
 // How many there are up to the last that is no zero.
+#[tactic(auto, using(crate::proofs::Entries::length_is, crate::proofs::Entries::length_none))]
 pub fn len(a: Part) -> usize
-    requires { Sound a }
     ensures value { result ≡ length_in a }
-    ensures ends { Ends a.raised result }
+    ensures ends { Ends a.coeffs result }
 {
     for i in (0..5).rev() {
-        if a.raised[i] != MOST {
+        if a.coeffs[i] != 0 {
             return i + 1;
         }
     }
@@ -110,82 +79,42 @@ pub fn len(a: Part) -> usize
 
 impl Counted {
     fn of(a: Part) -> Counted
-        requires { Sound a }
-        ensures raised { result.raised ≡ a.raised }
+        ensures coeffs { result.coeffs ≡ a.coeffs }
         ensures len { result.len ≡ length_in a }
     {
-        let raised = a.raised;
+        let coeffs = a.coeffs;
         let len = len(a);
-        Counted { raised, len }
+        Counted { coeffs, len }
     }
 }
 
-// ---- what is made of two coefficients
-
-// a - b.
-fn excess(a: Double, b: Double) -> u64
-    requires { b.hi < 2 ^ 63 }
-    ensures { Excess (double_of a) (double_of b) result }
-{
-    if b.lo <= a.lo {
-        if a.hi == b.hi {
-            return a.lo - b.lo;
-        }
-        return TWICE + 1;
-    }
-    if a.hi == b.hi + 1 {
-        return 0xffff_ffff_ffff_ffff - b.lo + a.lo + 1;
-    }
-    TWICE + 1
-}
-
-// s + x y + 2^106. The product of two coefficients, (x - 2^53) (y - 2^53), is x y + 2^106 less 2^53 (x + y).
-fn with_product(s: Double, x: u64, y: u64) -> Double
-    requires within { Within 8 (double_of s) }
-    requires digits_high { (x ≤ 2 ^ 54) × (y ≤ 2 ^ 54) }
-    ensures { double_of result ≡ double_of s + x * y + 2 ^ 106 }
-{
-    let p = wide::mul(x, y);
-    let upper = Double {
-        hi: s.hi + p.hi + 0x400_0000_0000,
-        lo: s.lo,
-    };
-    wide::add(upper, p.lo)
-}
+// ---- what is made of two
 
 // The products for t^k are those of t^i and t^(k - i): where there are m coefficients and n, from the first i with k - i < n up to the last with i < m.
-fn product_at(a: &Counted, b: &Counted, k: usize) -> u64
+fn product_at(a: &Counted, b: &Counted, k: usize) -> i128
     requires { k < 5 }
-    ensures { Raises (made_of Product (coefficient_at a.now.raised) (coefficient_at b.now.raised) k) result }
+    ensures { result ≡ made_of Product (coefficient_of a.now.coeffs) (coefficient_of b.now.coeffs) k }
 {
-    let mut up = Double { hi: 0, lo: MOST };
-    let mut sum: u64 = 0;
+    let mut sum: i128 = 0;
     for i in (k + 1).saturating_sub(b.len)..(k + 1).min(a.len) {
-        let x = a.raised[i];
-        let y = b.raised[k - i];
-        up = with_product(up, x, y);
-        sum += x + y;
+        let x = a.coeffs[i] as i128;
+        let y = b.coeffs[k - i] as i128;
+        sum += x * y;
     }
-    excess(up, wide::mul(MOST, sum))
+    sum
 }
 
 impl Operator {
     // The coefficient of t^k.
-    fn at(self, a: &Counted, b: &Counted, k: usize) -> u64
+    fn at(self, a: &Counted, b: &Counted, k: usize) -> i128
         requires { k < 5 }
-        ensures { Raises (made_of self (coefficient_at a.now.raised) (coefficient_at b.now.raised) k) result }
+        ensures { result ≡ made_of self (coefficient_of a.now.coeffs) (coefficient_of b.now.coeffs) k }
     {
-        let x = a.raised[k];
-        let y = b.raised[k];
+        let x = a.coeffs[k] as i128;
+        let y = b.coeffs[k] as i128;
         match self {
-            Operator::Sum => excess(Double { hi: 0, lo: x + y }, Double { hi: 0, lo: MOST }),
-            Operator::Difference => excess(
-                Double {
-                    hi: 0,
-                    lo: x + MOST,
-                },
-                Double { hi: 0, lo: y },
-            ),
+            Operator::Sum => x + y,
+            Operator::Difference => x - y,
             Operator::Product => product_at(a, b, k),
         }
     }
@@ -204,61 +133,57 @@ impl Operator {
 
 // ---- joins
 
-// What is made where its degree is at most 4.
-fn made(op: Operator, a: &Counted, b: &Counted, end: usize) -> Part
-    requires { (end ≡ made_length op a.now.len b.now.len) × (end ≤ 5) }
-    ensures value { value_in result ≡ limited (operator_of op (polynomial_of a.now.raised) (polynomial_of b.now.raised)) }
-    ensures sound { Sound result }
+// A coefficient, where it is not above 2^53 in size.
+#[tactic(auto, using(crate::proofs::Products::narrow_is, crate::proofs::Products::narrow_size), unfolding(crate::specs::Kept::small_of))]
+fn small(c: i128) -> Result<i64, Refusal>
+    ensures { result ≡ small_of c }
 {
-    let mut r = Part {
-        number: 0,
-        raised: [MOST; 5],
-    };
+    if MOST < c.unsigned_abs() {
+        return Err(Refusal::CoefficientTooLarge);
+    }
+    Ok(c as i64)
+}
+
+// What is made where its degree is at most 4.
+fn made(op: Operator, a: &Counted, b: &Counted, end: usize) -> Result<Part, Refusal>
+    requires { (end ≡ made_length op a.now.len b.now.len) × (end ≤ 5) }
+    ensures { value_in result ≡ limited (operator_of op (trimmed a.now.coeffs) (trimmed b.now.coeffs)) }
+{
+    let mut coeffs = [0; 5];
     for k in 0..end {
         let c = op.at(a, b, k);
-        if TWICE < c {
-            return refused(refusals::COEFFICIENT_TOO_LARGE);
-        }
-        r.raised[k] = c;
+        coeffs[k] = small(c)?;
     }
-    r
+    Ok(Part { coeffs })
 }
 
 // The left operand first, then the right, then their operator.
-#[tactic(auto, using(crate::proofs::Joins::join_high))]
-pub fn join(op: Operator, a: Part, b: Part) -> Part
-    requires a_sound { Sound a }
-    requires b_sound { Sound b }
-    ensures value { value_in result ≡ joined (operator_of op) (value_in a) (value_in b) }
-    ensures sound { Sound result }
+#[tactic(auto, using(crate::proofs::Joins::join_high), unfolding(crate::specs::Value::joined))]
+pub fn join(
+    op: Operator,
+    a: Result<Part, Refusal>,
+    b: Result<Part, Refusal>,
+) -> Result<Part, Refusal>
+    ensures { value_in result ≡ joined (operator_of op) (value_in a) (value_in b) }
 {
-    if a.number != 0 {
-        return a;
-    }
-    if b.number != 0 {
-        return b;
-    }
-    let x = Counted::of(a);
-    let y = Counted::of(b);
+    let x = Counted::of(a?);
+    let y = Counted::of(b?);
     let end = op.len(x.len, y.len);
     if 5 < end {
-        return refused(refusals::DEGREE_TOO_HIGH);
+        return Err(Refusal::DegreeTooHigh);
     }
     made(op, &x, &y, end)
 }
 
 // Repeated products from 1.
-pub fn power(a: Part, d: u64) -> Part
-    requires { Sound a }
-    ensures value { value_in result ≡ power_of (value_in a) d }
-    ensures sound { Sound result }
+#[tactic(auto, using(crate::proofs::Joins::power_next), unfolding(crate::specs::Value::power_of, crate::specs::Value::limited))]
+pub fn power(a: Result<Part, Refusal>, d: u64) -> Result<Part, Refusal>
+    ensures { value_in result ≡ power_of (value_in a) d }
 {
-    if a.number != 0 {
-        return a;
-    }
-    let mut r = number(1);
+    let base = a?;
+    let mut r = Ok(number(1));
     for _ in 0..d {
-        r = join(Operator::Product, r, a);
+        r = join(Operator::Product, r, Ok(base));
     }
     r
 }

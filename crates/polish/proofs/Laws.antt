@@ -9,7 +9,7 @@ use Rattle.facts.specs.Turns.{turns_of, turns_stop, turns_go, turns_end}
 use Rattle.horner.specs.Horner.{value_slope_compensated_of}
 use Rattle.horner.specs.declared.ValueSlope.{ValueSlope}
 use Rattle.refine.specs.Newton.{flat_of, no_gain_of}
-use Rattle.polish.specs.Polish.{is_long_of, is_small_of, Place, arrived, polish_next}
+use Rattle.polish.specs.Polish.{is_long_of, is_small_of, Place, arrived, polish_next, polish_of}
 
 -- the place y, from which polishing goes on
 abbrev pub at : Float → Place
@@ -60,3 +60,10 @@ module _ (f : List Float) (d : ℕ) (gap y : Float) {v : ValueSlope} (here : v �
           pub goes_on : (n : ℕ) → k < n → is_small_of step (sub binary64 y step) ≡ false
               → turns_from f d gap (n - k) y ≡ turns_from f d gap (n - (k + 1)) (sub binary64 y step)
           goes_on n h t = ap (λ (s : Place). s.y) (rw t at (goes n h))
+
+-- What the functions' proofs rest on: the laws, and the definitions.
+pub ruleset laws = (turns_over, ends_flat, ends_long, ends_still, ends_held, ends_small, goes_on)
+
+unfoldable pub definitions : ℕ
+unfolding is_long_of is_small_of polish_of
+definitions = 0

@@ -27,7 +27,7 @@ use Rattle.critical.specs.Critical.{critical_point_of}
 use Rattle.push.specs.Quadratic.{quadratic_roots_of, push_quadratic_of}
 use Rattle.finish.specs.Finish.{ordered_of, polished_at, polished_of, is_near_of, join_of, joined_from, joined_of, finish_of}
 use Rattle.level.specs.Level.{NoGap}
-use Rattle.poly.specs.Brief.{Enough, other_logs, relogged, ButLogs}
+use Rattle.poly.specs.Brief.{Enough, other_logs, relogged}
 use Rattle.poly.specs.Solve.{candidates_of, finished_of}
 
 -- ---- the factors
@@ -73,15 +73,15 @@ module _ (sc : Scaled) (lg : List Float) where
       let c : candidates_of other zeros (factorize_of other 0) tol ≡ candidates_of sc zeros (factorize_of sc 0) tol =
       ap (λ (f : Factors). candidates_of other zeros f tol) e ∙ same_candidates zeros (factorize_of sc 0) tol in
       let roots = ap (λ (x : List RealRoot × List Pair). roots_of (finish_of other x.0 tol)) c ∙ ap roots_of (same_finish _ tol) in
-      λ i. record { number = 0; poly = other; tol = tol; roots = roots i; pairs = pairs_of (c i).1 }
+      λ i. record { poly = other; tol = tol; roots = roots i; pairs = pairs_of (c i).1 }
 
 pub brief_solved : (a : List Float) (d l zeros : ℕ) (tol : Float) → d ≤ 4 → Enough a d l
-    → ButLogs (finished_of (with_logs_of a d l) zeros tol) (finished_of (scaled_of a d) zeros tol)
+    → (lg : List Float) × (finished_of (with_logs_of a d l) zeros tol ≡ relogged lg (finished_of (scaled_of a d) zeros tol))
 unfolding with_logs_of scaled_of log_sizes_of finished_of
 brief_solved a d l zeros tol D = ⊎_elim full (λ h. brief h.0 h.1)
   where
     Brief : ℕ → Type 0
-    Brief n = ButLogs (finished_of (with_logs_of a d n) zeros tol) (finished_of (scaled_of a d) zeros tol)
+    Brief n = (lg : List Float) × (finished_of (with_logs_of a d n) zeros tol ≡ relogged lg (finished_of (scaled_of a d) zeros tol))
 
     full : l ≡ d → Brief l
     full h = subst Brief (sym h) ((scaled_of a d).lg, refl)

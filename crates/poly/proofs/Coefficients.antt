@@ -1,35 +1,54 @@
 -- The coefficients that count, one place of each recursion as a loop has it; and of those left at least one is no zero.
 use mathlib.Core.Path.{◌≡◌, refl, sym, ap, ◌∙◌, subst}
+use mathlib.Core.Logic.{⊎_elim}
 use mathlib.Core.Bool.{Bool, true, false, cond}
 use mathlib.Core.List.{List, [], ◌∷◌}
-use Prim.Native.Nat.{ℕ, zero, suc, ◌-◌, ◌≤◌, ◌<◌}
+use Prim.Native.Nat.{ℕ, zero, suc, ◌+◌, ◌-◌, ◌≤◌, ◌<◌}
+use native.Mathlib.Nat.{eq-or-lt_of_le}
 use native.Mathlib.Omega.{arith}
-use borrow.Author.Tests.{leb-true, leb-false}
+use borrow.Author.Tests.{leb-true, leb-false, not-true, not-false}
 use lib.Dec.{leb}
 use lib.ListN.{length, get_or}
-use lib.Ieee.{Float, nan, eq}
+use lib.Ieee.{Float, nan, eq, ne}
 use Rattle.std.specs.List.{prefix_len}
 use Rattle.std.proofs.Common.{one-add}
 use Rattle.facts.specs.Cond.{either_way}
 use Rattle.float.specs.Literals.{zero64}
-use Rattle.poly.specs.Coefficients.{trimmed_from, trimmed_of, zeros_of, refusal_by}
+use Rattle.float.specs.Methods.{all_finite_of}
+use Rattle.std.specs.Prelude.{Result, Ok, Err}
+use Rattle.refusals.specs.declared.Refusal.{Refusal}
+use Rattle.refusals.specs.declared.Refusal.TheVariants.{NotFinite, TooFew, TooMany}
+use Rattle.refusals.specs.Refusals.{outcome_of, value_or}
+use Rattle.poly.specs.Coefficients.{trimmed_from, trimmed_of, zeros_of, counted_by, counted_of, refusal_of}
 
 -- ---- trailing zeros
-trim_turn : (s : List Float) (n : ℕ) → 0 < n → trimmed_from s n ≡ cond (eq (get_or s (n - 1) nan) zero64) (trimmed_from s (n - 1)) n
+trimmed_at : (s : List Float) (i m : ℕ) → i < m → eq (get_or s i nan) zero64 ≡ false
+    → ((k : ℕ) → i + 1 ≤ k → k < m → eq (get_or s k nan) zero64 ≡ true) → trimmed_from s m ≡ i + 1
 unfolding trimmed_from
-trim_turn s n h =
-    let e : n ≡ suc (n - 1) = omega arith in
-    ap (λ (k : ℕ). trimmed_from s k) e ∙ ap (λ (k : ℕ). cond (eq (get_or s (n - 1) nan) zero64) (trimmed_from s (n - 1)) k) (sym e)
+trimmed_at s i zero h last zeros = absurd (omega (arith, h))
+trimmed_at s i (suc m) h last zeros =
+    ⊎_elim here (λ l. below l (trimmed_at s i m l last (λ k a b. zeros k a (omega arith)))) (eq-or-lt_of_le (let l : i ≤ m = omega arith in l))
+  where
+    here : i ≡ m → trimmed_from s (suc m) ≡ i + 1
+    here e = let none : eq (get_or s m nan) zero64 ≡ false = subst (λ (k : ℕ). eq (get_or s k nan) zero64 ≡ false) e last in rw none (omega arith)
 
-pub trim_stop : (s : List Float) (n : ℕ) → 0 < n → eq (get_or s (n - 1) nan) zero64 ≡ false → trimmed_from s n ≡ n
-trim_stop s n h t = trim_turn s n h ∙ simp t
+    below : i < m → trimmed_from s m ≡ i + 1 → trimmed_from s (suc m) ≡ i + 1
+    below l rest = rw (zeros m (omega arith) (omega arith)) rest
 
-pub trim_go : (s : List Float) (n : ℕ) → 0 < n → eq (get_or s (n - 1) nan) zero64 ≡ true → trimmed_from s n ≡ trimmed_from s (n - 1)
-trim_go s n h t = trim_turn s n h ∙ simp t
+-- up to the last one that is no zero
+pub trimmed_last : (s : List Float) (i : ℕ) → i < length s → ne (get_or s i nan) zero64 ≡ true
+    → ((k : ℕ) → i + 1 ≤ k → k < length s → ne (get_or s k nan) zero64 ≡ false) → i + 1 ≡ trimmed_of s
+unfolding trimmed_of ne
+trimmed_last s i h last zeros = sym (trimmed_at s i (length s) h (not-true _ last) (λ k a b. not-false _ (zeros k a b)))
 
-pub trim_end : (s : List Float) (n : ℕ) → n ≤ 0 → trimmed_from s n ≡ 0
+none_from : (s : List Float) (m : ℕ) → ((k : ℕ) → k < m → eq (get_or s k nan) zero64 ≡ true) → trimmed_from s m ≡ 0
 unfolding trimmed_from
-trim_end s n h = let e : n ≡ 0 = omega arith in ap (λ (k : ℕ). trimmed_from s k) e
+none_from s zero zeros = refl
+none_from s (suc m) zeros = rw (zeros m (omega arith)) (none_from s m (λ k l. zeros k (omega arith)))
+
+pub trimmed_none : (s : List Float) → ((k : ℕ) → k < length s → ne (get_or s k nan) zero64 ≡ false) → 0 ≡ trimmed_of s
+unfolding trimmed_of ne
+trimmed_none s zeros = sym (none_from s (length s) (λ k l. not-false _ (zeros k l)))
 
 -- ---- leading zeros
 abbrev pub is_zero : Float → Bool
@@ -67,21 +86,37 @@ unfolding trimmed_of
 zeros_below s h = let m = zeros_most s (trimmed_of s - 1) (last_left s (length s) h) in omega arith
 
 -- ---- what is not refused
-answered_when : (finite : Bool) (n : ℕ) → refusal_by finite n ≡ 0 → (1 < n) × (n ≤ 5)
-unfolding refusal_by
-answered_when false n e = absurd (omega (arith, e))
-answered_when true n e = go (leb n 1) (leb n 5) refl refl e
-  where
-    go : (a b : Bool) → leb n 1 ≡ a → leb n 5 ≡ b → ◌≡◌ {A = ℕ} (cond a 2 (cond b 0 3)) 0 → (1 < n) × (n ≤ 5)
-    go true b p q e = absurd (omega (arith, e))
-    go false true p q e = (leb-false n 1 p, leb-true n 5 q)
-    go false false p q e = absurd (omega (arith, e))
+-- how many count, by the three tests
+abbrev pub tested : Bool → Bool → Bool → ℕ → Result ℕ Refusal
+tested finite few five n = cond finite (cond few (Err TooFew) (cond five (Ok n) (Err TooMany))) (Err NotFinite)
+
+tested_is : (f a b : Bool) (n k : ℕ) → tested f a b n ≡ Ok k → (k ≡ n) × (a ≡ false) × (b ≡ true)
+tested_is false a b n k e = absurd (omega (arith, ap outcome_of e))
+tested_is true true b n k e = absurd (omega (arith, ap outcome_of e))
+tested_is true false false n k e = absurd (omega (arith, ap outcome_of e))
+tested_is true false true n k e = (sym (ap (value_or 0) e), refl, refl)
+
+counted_is : (finite : Bool) (n k : ℕ) → counted_by finite n ≡ Ok k → (k ≡ n) × (1 < n) × (n ≤ 5)
+unfolding counted_by
+counted_is finite n k e = let t = tested_is finite (leb n 1) (leb n 5) n k e in (t.0, leb-false n 1 t.1, leb-true n 5 t.2)
+
+-- a list that no number refuses: as many count as are left
+tested_when : (f a b : Bool) (n : ℕ) → outcome_of (tested f a b n) ≡ 0 → tested f a b n ≡ Ok n
+tested_when false a b n e = absurd (omega (arith, e))
+tested_when true true b n e = absurd (omega (arith, e))
+tested_when true false false n e = absurd (omega (arith, e))
+tested_when true false true n e = refl
+
+pub counted_when : (s : List Float) → refusal_of s ≡ 0 → counted_of s ≡ Ok (trimmed_of s)
+unfolding counted_by
+counted_when s e = tested_when (all_finite_of s) (leb (trimmed_of s) 1) (leb (trimmed_of s) 5) (trimmed_of s) e
 
 -- the polynomial without its zeros is of a degree from 0 to 4
-pub room : (s : List Float) (finite : Bool) (n zeros number : ℕ) → n ≡ trimmed_of s → zeros ≡ zeros_of s → number ≡ refusal_by finite n → number ≡ 0
-    → (zeros < n) × (n ≤ 5)
-room s finite n zeros number a b c d =
-    let w = answered_when finite n (sym c ∙ d) in
-    let h = w.0 in
-    let z = zeros_below s (subst (λ (k : ℕ). 0 < k) a (omega arith)) in
-    (omega arith, w.1)
+pub room : (s : List Float) (n zeros : ℕ) → counted_of s ≡ Ok n → zeros ≡ zeros_of s
+    → (n ≡ trimmed_of s) × (zeros < n) × (n ≤ 5) × (n ≤ length s)
+unfolding trimmed_of
+room s n zeros e z =
+    let w = counted_is (all_finite_of s) (trimmed_of s) n e in
+    let h = w.1 in
+    let b = zeros_below s (omega arith) in
+    (w.0, omega (arith, w.0, z, b), omega (arith, w.0, w.2), omega (arith, w.0, trimmed_most s (length s)))

@@ -6,20 +6,23 @@ use mathlib.Core.List.{List, [], ◌∷◌}
 use Prim.Native.Nat.{ℕ, zero, suc, ◌≤◌, ◌<◌}
 use native.Mathlib.Nat.{eq-or-lt_of_le}
 use native.Mathlib.Omega.{arith}
-use borrow.Author.Tests.{eqb-true, eq-eqb, ne_eqb, leb-true, leb-false, le-leb, lt-leb}
-use lib.Dec.{leb, eqb}
+use borrow.Author.Tests.{leb-true, leb-false, le-leb, lt-leb}
+use lib.Dec.{leb}
 use lib.ListN.{length, get_or}
 use lib.Ieee.{Float, nan, eq}
-use Rattle.facts.specs.Cond.{either_way}
 use Rattle.float.specs.Literals.{zero64}
 use Rattle.float.specs.Methods.{is_finite_of, max_of, all_finite_of}
 use Rattle.float.proofs.Finite.{finite_at}
+use Rattle.std.specs.Prelude.{Result, Ok, Err}
+use Rattle.refusals.specs.declared.Refusal.{Refusal}
+use Rattle.refusals.specs.Refusals.{outcome_of, and_then}
+use Rattle.roots.specs.declared.Roots.{Roots}
 use Rattle.roots.specs.Roots.{no_roots}
-use Rattle.poly.specs.Coefficients.{trimmed_from, trimmed_of, zeros_of, refusal_by, refusal_of, poly_of}
-use Rattle.poly.specs.Solve.{finished_of, refused_by, solve_of}
-use Rattle.poly.specs.RealRoots.{unscaled_all, answer_of, real_roots_of}
+use Rattle.poly.specs.Coefficients.{trimmed_from, trimmed_of, zeros_of, counted_by, counted_of, refusal_of, poly_of}
+use Rattle.poly.specs.Solve.{finished_of, solve_of}
+use Rattle.poly.specs.RealRoots.{answer_of, real_roots_of, roots_in}
 use Rattle.poly.specs.Conditions.{Trimmed, AllFinite, SomeNotFinite, Exactly}
-use Rattle.poly.proofs.Coefficients.{last_left, trimmed_most}
+use Rattle.poly.proofs.Coefficients.{last_left, trimmed_most, tested, counted_when}
 
 -- ---- finite, or not
 pub some_not : (s : List Float) → all_finite_of s ≡ false → SomeNotFinite s
@@ -68,54 +71,62 @@ Told s (suc (suc zero)) = AllFinite s × (trimmed_of s ≤ 1)
 Told s (suc (suc (suc k))) = AllFinite s × (5 < trimmed_of s)
 
 pub told : (s : List Float) → Told s (refusal_of s)
-unfolding refusal_by
+unfolding counted_by
 told s = go (all_finite_of s) (leb (trimmed_of s) 1) (leb (trimmed_of s) 5) refl refl refl
   where
-    go : (f a b : Bool) → all_finite_of s ≡ f → leb (trimmed_of s) 1 ≡ a → leb (trimmed_of s) 5 ≡ b → Told s (cond f (cond a 2 (cond b 0 3)) 1)
+    go : (f a b : Bool) → all_finite_of s ≡ f → leb (trimmed_of s) 1 ≡ a → leb (trimmed_of s) 5 ≡ b → Told s (outcome_of (tested f a b (trimmed_of s)))
     go false a b e p q = some_not s e
     go true true b e p q = (finite_at s e, leb-true (trimmed_of s) 1 p)
     go true false true e p q = (finite_at s e, leb-false (trimmed_of s) 1 p, leb-true (trimmed_of s) 5 q)
     go true false false e p q = (finite_at s e, leb-false (trimmed_of s) 5 q)
 
 -- the condition gives the number, for those there are
-number_of : (s : List Float) (k : ℕ) → k ≤ 3 → Told s k → refusal_of s ≡ k
-unfolding refusal_by
-number_of s zero h t = rw (finite_all s t.0, lt-leb (trimmed_of s) 1 t.1, le-leb (trimmed_of s) 5 t.2)
-number_of s (suc zero) h t = rw (not_all s t)
-number_of s (suc (suc zero)) h t = rw (finite_all s t.0, le-leb (trimmed_of s) 1 t.1)
-number_of s (suc (suc (suc zero))) h t = rw (finite_all s t.0, lt-leb (trimmed_of s) 1 (omega (arith, t.1)), lt-leb (trimmed_of s) 5 t.1)
-number_of s (suc (suc (suc (suc k)))) h t = absurd (omega (arith, h))
+number_when : (s : List Float) (k : ℕ) → k ≤ 3 → Told s k → refusal_of s ≡ k
+unfolding counted_by
+number_when s zero h t = rw (finite_all s t.0, lt-leb (trimmed_of s) 1 t.1, le-leb (trimmed_of s) 5 t.2)
+number_when s (suc zero) h t = rw (not_all s t)
+number_when s (suc (suc zero)) h t = rw (finite_all s t.0, le-leb (trimmed_of s) 1 t.1)
+number_when s (suc (suc (suc zero))) h t = rw (finite_all s t.0, lt-leb (trimmed_of s) 1 (omega (arith, t.1)), lt-leb (trimmed_of s) 5 t.1)
+number_when s (suc (suc (suc (suc k)))) h t = absurd (omega (arith, h))
 
-pub refusal_most : (finite : Bool) (n : ℕ) → refusal_by finite n ≤ 3
-unfolding refusal_by
-refusal_most finite n =
-    either_way (λ (k : ℕ). k ≤ 3) finite (either_way (λ (k : ℕ). k ≤ 3) (leb n 1) (omega arith)
-    (either_way (λ (k : ℕ). k ≤ 3) (leb n 5) (omega arith) (omega arith))) (omega arith)
+pub refusal_most : (finite : Bool) (n : ℕ) → outcome_of (counted_by finite n) ≤ 3
+unfolding counted_by
+refusal_most finite n = go finite (leb n 1) (leb n 5)
+  where
+    go : (f a b : Bool) → outcome_of (tested f a b n) ≤ 3
+    go false a b = omega arith
+    go true true b = omega arith
+    go true false true = omega arith
+    go true false false = omega arith
+
+-- `?` keeps the number
+pub then_number : {A B : Type 0} (f : A → B) (r : Result A Refusal) → outcome_of (and_then r (λ a. Ok (f a))) ≡ outcome_of r
+then_number f (Ok a) = refl
+then_number f (Err refusal) = refl
 
 module _ (s : List Float) (tol : Float) where
-  pub solved_number : (solve_of s tol).number ≡ refusal_of s
-  unfolding solve_of finished_of
-  solved_number = go (eqb (refusal_of s) 0) refl
-    where
-      go : (b : Bool) → eqb (refusal_of s) 0 ≡ b → (cond b (finished_of (poly_of s) (zeros_of s) (max_of tol zero64)) (refused_by (refusal_of s))).number ≡ refusal_of s
-      go true e = sym (eqb-true (refusal_of s) 0 e)
-      go false e = refl
+  pub solved_number : outcome_of (solve_of s tol) ≡ refusal_of s
+  unfolding solve_of
+  solved_number = then_number (λ n. finished_of (poly_of s) (zeros_of s) (max_of tol zero64)) (counted_of s)
 
   -- what is solved of a list that is not refused
-  pub answered_is : (solve_of s tol).number ≡ 0 → solve_of s tol ≡ finished_of (poly_of s) (zeros_of s) (max_of tol zero64)
+  pub answered_is : outcome_of (solve_of s tol) ≡ 0 → solve_of s tol ≡ Ok (finished_of (poly_of s) (zeros_of s) (max_of tol zero64))
   unfolding solve_of
-  answered_is e = rw (eq-eqb (refusal_of s) 0 (sym solved_number ∙ e))
+  answered_is e = rw (counted_when s (sym solved_number ∙ e))
 
-  number_is : (real_roots_of s tol).number ≡ refusal_of s
-  unfolding real_roots_of answer_of
-  number_is = solved_number
+  number_is : outcome_of (real_roots_of s tol) ≡ refusal_of s
+  unfolding real_roots_of
+  number_is = then_number answer_of (solve_of s tol) ∙ solved_number
 
-  pub number_most : (real_roots_of s tol).number ≤ 3
+  pub number_most : outcome_of (real_roots_of s tol) ≤ 3
   number_most = rw number_is (refusal_most (all_finite_of s) (trimmed_of s))
 
-  pub has_no_root : 0 < (real_roots_of s tol).number → (real_roots_of s tol).roots ≡ no_roots
-  unfolding real_roots_of answer_of solve_of unscaled_all
-  has_no_root h = rw (ne_eqb (refusal_of s) 0 (λ e. absurd (omega (arith, h, e, number_is))))
+  pub has_no_root : 0 < outcome_of (real_roots_of s tol) → roots_in (real_roots_of s tol) ≡ no_roots
+  has_no_root = go (real_roots_of s tol)
+    where
+      go : (r : Result Roots Refusal) → 0 < outcome_of r → roots_in r ≡ no_roots
+      go (Ok roots) h = absurd (omega (arith, h))
+      go (Err refusal) h = refl
 
-  pub stands_for : (k : ℕ) → k ≤ 3 → Exactly ((real_roots_of s tol).number ≡ k) (Told s k)
-  stands_for k h = record { where_it_holds = λ t. number_is ∙ number_of s k h t; only_there = λ e. subst (Told s) (sym number_is ∙ e) (told s) }
+  pub stands_for : (k : ℕ) → k ≤ 3 → Exactly (outcome_of (real_roots_of s tol) ≡ k) (Told s k)
+  stands_for k h = record { where_it_holds = λ t. number_is ∙ number_when s k h t; only_there = λ e. subst (Told s) (sym number_is ∙ e) (told s) }

@@ -6,8 +6,8 @@ use mathlib.Core.List.{List, [], ◌∷◌, foldl}
 use Prim.Native.Nat.{ℕ, zero, suc, min, ◌+◌, ◌-◌, ◌≤◌, ◌<◌}
 use native.Mathlib.Nat.{suc-min-suc}
 use native.Mathlib.Omega.{arith}
-use borrow.Author.Tests.{eqb-true, ltb-true, leb-true, leb-false, lt-leb}
-use lib.Dec.{leb, ltb, eqb}
+use borrow.Author.Tests.{ltb-true, leb-true, leb-false, lt-leb}
+use lib.Dec.{leb, ltb}
 use lib.ListN.{length, get_or}
 use lib.Ieee.{Float, nan, inf, fin, eq, of_bits, of_fields}
 use Rattle.facts.specs.Cond.{either_way}
@@ -15,8 +15,12 @@ use Rattle.facts.specs.Arrays.{fill_from}
 use Rattle.float.specs.Literals.{zero64}
 use Rattle.float.specs.Methods.{is_finite_of, max_of, all_finite_of}
 use Rattle.scaled.specs.Scaled.{scaled_of}
-use Rattle.poly.specs.Coefficients.{trimmed_from, trimmed_of, zeros_of, refusal_by, refusal_of, middle_at, middle_of, poly_of}
-use Rattle.poly.specs.Solve.{finished_of, refused_by, solve_of}
+use Rattle.std.specs.Prelude.{Result, Ok, Err}
+use Rattle.refusals.specs.declared.Refusal.{Refusal}
+use Rattle.refusals.specs.Refusals.{and_then}
+use Rattle.poly.specs.declared.Solved.{Solved}
+use Rattle.poly.specs.Coefficients.{trimmed_from, trimmed_of, zeros_of, counted_by, counted_of, middle_at, middle_of, poly_of}
+use Rattle.poly.specs.Solve.{finished_of, solve_of}
 use Rattle.poly.specs.RealRoots.{answer_of, real_roots_of}
 use Rattle.poly.specs.Short.{rest_with, rest_of, short_from, short_of}
 use Rattle.poly.proofs.Coefficients.{trimmed_most, room}
@@ -118,18 +122,18 @@ short_trimmed (suc k) (x ∷ l) =
     ∙ ap (λ (t : ℕ). min t (suc (suc k))) (sym (trim_cons x l))
 
 -- six or more are refused alike
-up_to_six : (finite : Bool) (t : ℕ) → refusal_by finite (min t 6) ≡ refusal_by finite t
-unfolding refusal_by
-up_to_six finite t = go (leb t 5) refl
+up_to_six : (f : Bool) (t : ℕ) → counted_by f (min t 6) ≡ counted_by f t
+unfolding counted_by
+up_to_six f t = go (leb t 5) refl
   where
-    go : (b : Bool) → leb t 5 ≡ b → refusal_by finite (min t 6) ≡ refusal_by finite t
-    go true h = let e : min t 6 ≡ t = omega (arith, leb-true t 5 h) in ap (refusal_by finite) e
+    go : (b : Bool) → leb t 5 ≡ b → counted_by f (min t 6) ≡ counted_by f t
+    go true h = let e : min t 6 ≡ t = omega (arith, leb-true t 5 h) in ap (counted_by f) e
     go false h =
         let more = leb-false t 5 h in
         rw (lt-leb (min t 6) 1 (omega arith), lt-leb (min t 6) 5 (omega arith), lt-leb t 1 (omega arith), h)
 
-short_refused : (l : List Float) → refusal_of (short_of l) ≡ refusal_of l
-short_refused l = rw (short_finite 5 l, short_trimmed 5 l) (up_to_six (all_finite_of l) (trimmed_of l))
+short_counted : (l : List Float) → counted_of (short_of l) ≡ counted_of l
+short_counted l = rw (short_finite 5 l, short_trimmed 5 l) (up_to_six (all_finite_of l) (trimmed_of l))
 
 short_zeros : (k : ℕ) (l : List Float) → 0 < trimmed_of l → trimmed_of l ≤ k → zeros_of (short_from k l) ≡ zeros_of l
 unfolding short_from zeros_of trimmed_of
@@ -184,17 +188,19 @@ short_poly l h e =
 module _ (coeffs : List Float) (tol : Float) where
   pub short_solves : solve_of (short_of coeffs) tol ≡ solve_of coeffs tol
   unfolding solve_of
-  short_solves = rw (short_refused coeffs) (go (eqb (refusal_of coeffs) 0) refl)
+  short_solves = rw (short_counted coeffs) (go (counted_of coeffs) refl)
     where
-      go : (b : Bool) → eqb (refusal_of coeffs) 0 ≡ b
-          → cond b (finished_of (poly_of (short_of coeffs)) (zeros_of (short_of coeffs)) (max_of tol zero64)) (refused_by (refusal_of coeffs))
-          ≡ cond b (finished_of (poly_of coeffs) (zeros_of coeffs) (max_of tol zero64)) (refused_by (refusal_of coeffs))
-      go true e =
-          let w = room coeffs (all_finite_of coeffs) (trimmed_of coeffs) (zeros_of coeffs) (refusal_of coeffs) refl refl refl (eqb-true (refusal_of coeffs) 0 e) in
-          let some = w.0 in
-          rw (short_poly coeffs (omega arith) w.1, short_zeros 5 coeffs (omega arith) w.1)
-      go false e = refl
+      solved : List Float → ℕ → Result Solved Refusal
+      solved l n = Ok (finished_of (poly_of l) (zeros_of l) (max_of tol zero64))
+
+      go : (r : Result ℕ Refusal) → counted_of coeffs ≡ r → and_then r (solved (short_of coeffs)) ≡ and_then r (solved coeffs)
+      go (Ok n) e =
+          let w = room coeffs n (zeros_of coeffs) e refl in
+          let some : 0 < trimmed_of coeffs = omega (arith, w) in
+          let five : trimmed_of coeffs ≤ 5 = omega (arith, w) in
+          rw (short_poly coeffs some five, short_zeros 5 coeffs some five)
+      go (Err refusal) e = refl
 
   pub short_lists : real_roots_of (short_of coeffs) tol ≡ real_roots_of coeffs tol
   unfolding real_roots_of
-  short_lists = ap answer_of short_solves
+  short_lists = ap (λ (s : Result Solved Refusal). and_then s (λ x. Ok (answer_of x))) short_solves

@@ -9,16 +9,18 @@ use lib.ListN.{length, get_or}
 use lib.Ieee.{Float, nan, eq, ne}
 use Rattle.float.specs.Literals.{zero64, two64}
 use Rattle.float.specs.Units.{units_of, Finite}
-use Rattle.float.specs.Methods.{all_finite_of}
 use Rattle.scaled.specs.Scaled.{scaled_of}
 use Rattle.scaled.proofs.Promise.{f_small}
 use Rattle.decode.proofs.Class.{some_units}
 use Rattle.accuracy.specs.Claims.{at_most, AllAtMost}
 use Rattle.poly.specs.declared.Solved.{Solved}
 use Rattle.poly.specs.Coefficients.{trimmed_of, zeros_of, refusal_of, middle_at, middle_of, poly_of}
-use Rattle.poly.specs.Solve.{finished_of, solve_of}
+use Rattle.std.specs.Prelude.{Result}
+use Rattle.refusals.specs.declared.Refusal.{Refusal}
+use Rattle.refusals.specs.Refusals.{outcome_of}
+use Rattle.poly.specs.Solve.{finished_of, solve_of, solved_in}
 use Rattle.poly.specs.Conditions.{AllDoubles}
-use Rattle.poly.proofs.Coefficients.{room}
+use Rattle.poly.proofs.Coefficients.{counted_when, room}
 use Rattle.poly.proofs.Refusals.{Told, told, trimmed_is, solved_number, answered_is}
 
 five_at : (s : List Float) (from to i : ℕ) → i ≤ 4 → get_or (middle_of s from to) i nan ≡ middle_at s from to i
@@ -41,7 +43,7 @@ module _ (s : List Float) (H : AllDoubles s) (R : refusal_of s ≡ 0) where
   a = middle_of s zeros n
 
   fewer : (zeros < n) × (n ≤ 5)
-  fewer = room s (all_finite_of s) n zeros (refusal_of s) refl refl refl R
+  fewer = let r = room s n zeros (counted_when s R) refl in (r.1, r.2)
 
   degree : n - zeros - 1 ≤ 4
   degree = let h = fewer.1 in omega arith
@@ -74,9 +76,9 @@ module _ (s : List Float) (H : AllDoubles s) (R : refusal_of s ≡ 0) where
   poly_small = (degree, f_small a (n - zeros - 1) degree middle_finite middle_last)
 
 -- the same of what is solved
-pub solved_small : (s : List Float) (tol : Float) → AllDoubles s → (solve_of s tol).number ≡ 0
-    → let poly = (solve_of s tol).poly in (poly.d ≤ 4) × AllAtMost two64 poly.f poly.d
+pub solved_small : (s : List Float) (tol : Float) → AllDoubles s → outcome_of (solve_of s tol) ≡ 0
+    → let poly = (solved_in (solve_of s tol)).poly in (poly.d ≤ 4) × AllAtMost two64 poly.f poly.d
 unfolding finished_of
 solved_small s tol H e =
-    subst (λ (r : Solved). (r.poly.d ≤ 4) × AllAtMost two64 r.poly.f r.poly.d) (sym (answered_is s tol e))
+    subst (λ (r : Result Solved Refusal). ((solved_in r).poly.d ≤ 4) × AllAtMost two64 (solved_in r).poly.f (solved_in r).poly.d) (sym (answered_is s tol e))
     (poly_small s H (sym (solved_number s tol) ∙ e))

@@ -4,15 +4,14 @@ use mathlib.Core.Bool.{Bool, true, false, cond}
 use mathlib.Core.List.{List, [], ◌∷◌}
 use Prim.Native.Nat.{ℕ, zero, suc, ◌+◌, ◌-◌, ◌*◌, ◌^◌, ◌≤◌, ◌<◌}
 use native.Mathlib.Omega.{arith}
-use borrow.Author.Tests.{ltb-true, eqb-true}
-use lib.Dec.{ltb, eqb}
+use borrow.Author.Tests.{ltb-true}
+use lib.Dec.{ltb}
 use lib.IntN.{ℤ}
 use lib.ListN.{length}
 use lib.Ieee.{Float}
-use Rattle.facts.specs.Cond.{either_way}
 use Rattle.facts.specs.Count.{count_up}
 use Rattle.float.specs.Literals.{zero64}
-use Rattle.float.specs.Methods.{is_finite_of, max_of, all_finite_of}
+use Rattle.float.specs.Methods.{is_finite_of, max_of}
 use Rattle.scaled.specs.declared.Scaled.{Scaled}
 use Rattle.scaled.specs.Scaled.{scaled_of}
 use Rattle.factors.specs.declared.Factors.{Factors}
@@ -28,10 +27,13 @@ use Rattle.push.specs.declared.Found.{Found}
 use Rattle.push.specs.Quadratic.{found_of}
 use Rattle.push.proofs.Lists.{quadratic_adds}
 use Rattle.finish.specs.Finish.{finish_of}
-use Rattle.poly.specs.Coefficients.{trimmed_of, zeros_of, refusal_of, degree_left, poly_of}
-use Rattle.poly.specs.Solve.{zero_roots_of, with_lin, with_quad, candidates_of, finished_of, refused_by, solve_of}
+use Rattle.std.specs.Prelude.{Result, Ok, Err}
+use Rattle.refusals.specs.declared.Refusal.{Refusal}
+use Rattle.refusals.specs.Refusals.{and_then}
+use Rattle.poly.specs.Coefficients.{trimmed_of, zeros_of, counted_of, degree_left, poly_of}
+use Rattle.poly.specs.Solve.{zero_roots_of, with_lin, with_quad, candidates_of, finished_of, solve_of, solved_in}
 use Rattle.poly.specs.declared.Solved.{Solved}
-use Rattle.poly.specs.RealRoots.{unscaled_of, unscaled_all, answer_of, real_roots_of}
+use Rattle.poly.specs.RealRoots.{unscaled_of, unscaled_all, answer_of, real_roots_of, roots_in}
 use Rattle.poly.proofs.Arrays.{unscaled_length}
 use Rattle.poly.proofs.Coefficients.{room}
 use Rattle.poly.proofs.Joined.{finish_within, degree_fits}
@@ -106,36 +108,45 @@ unfolding poly_of scaled_of
 poly_degree coeffs = refl
 
 -- ---- solved: the roots, and two for each pair
-pub solved_shared : (coeffs : List Float) (tol : Float) → Shared (degree_left coeffs) (list_of (solve_of coeffs tol).roots)
-    (pair_list_of (solve_of coeffs tol).pairs)
+pub solved_shared : (coeffs : List Float) (tol : Float) → Shared (degree_left coeffs) (list_of (solved_in (solve_of coeffs tol)).roots)
+    (pair_list_of (solved_in (solve_of coeffs tol)).pairs)
 unfolding solve_of
-solved_shared coeffs tol = go (eqb (refusal_of coeffs) 0) refl
+solved_shared coeffs tol = go (counted_of coeffs) refl
   where
+    solved : Solved
+    solved = finished_of (poly_of coeffs) (zeros_of coeffs) (max_of tol zero64)
+
     within : Solved → Type 0
     within s = Shared (degree_left coeffs) (list_of s.roots) (pair_list_of s.pairs)
 
-    go : (b : Bool) → eqb (refusal_of coeffs) 0 ≡ b → within (cond b (finished_of (poly_of coeffs) (zeros_of coeffs) (max_of tol zero64))
-        (refused_by (refusal_of coeffs)))
-    go true t =
-        let r = room coeffs (all_finite_of coeffs) (trimmed_of coeffs) (zeros_of coeffs) (refusal_of coeffs) refl refl refl (eqb-true (refusal_of coeffs) 0 t) in
-        let z = r.0 in
-        let n = r.1 in
+    go : (r : Result ℕ Refusal) → counted_of coeffs ≡ r → within (solved_in (and_then r (λ n. Ok solved)))
+    go (Ok n) e =
+        let r = room coeffs n (zeros_of coeffs) e refl in
         let d = poly_degree coeffs in
-        shared_more (zeros_of coeffs + (poly_of coeffs).d) (degree_left coeffs) _ _ (omega arith) (finished_shared (poly_of coeffs) (zeros_of coeffs) _ (omega arith))
-    go false t = shared_more 0 (degree_left coeffs) [] [] (omega arith) (shared_none 0 [] within_none)
+        shared_more (zeros_of coeffs + (poly_of coeffs).d) (degree_left coeffs) _ _ (omega (arith, r, d))
+        (finished_shared (poly_of coeffs) (zeros_of coeffs) _ (omega (arith, r, d)))
+    go (Err refusal) e = shared_more 0 (degree_left coeffs) [] [] (omega arith) (shared_none 0 [] within_none)
 
 -- the arrays have room for them
-pub solved_fits : (coeffs : List Float) (tol : Float) → Fits (solve_of coeffs tol).roots × PairsFit (solve_of coeffs tol).pairs
+pub solved_fits : (coeffs : List Float) (tol : Float) → Fits (solved_in (solve_of coeffs tol)).roots × PairsFit (solved_in (solve_of coeffs tol)).pairs
 unfolding solve_of finished_of
-solved_fits coeffs tol =
-    let poly = poly_of coeffs in
-    let t = max_of tol zero64 in
-    let c = candidates_of poly (zeros_of coeffs) (factorize_of poly 0) t in
-    let s = candidates_shared poly (zeros_of coeffs) (factorize_of poly 0) t in
-    let w = finish_within poly t c.0 (counted c.0 s.listed) in
-    either_way (λ (r : Solved). Fits r.roots × PairsFit r.pairs) (eqb (refusal_of coeffs) 0)
-    (roots_fit (finish_of poly c.0 t) w.four, pairs_fit c.1 s.two)
-    (roots_fit [] (omega arith), pairs_fit [] (omega arith))
+solved_fits coeffs tol = go (counted_of coeffs)
+  where
+    solved : Solved
+    solved = finished_of (poly_of coeffs) (zeros_of coeffs) (max_of tol zero64)
+
+    fit : Solved → Type 0
+    fit s = Fits s.roots × PairsFit s.pairs
+
+    go : (r : Result ℕ Refusal) → fit (solved_in (and_then r (λ n. Ok solved)))
+    go (Ok n) =
+        let poly = poly_of coeffs in
+        let t = max_of tol zero64 in
+        let c = candidates_of poly (zeros_of coeffs) (factorize_of poly 0) t in
+        let s = candidates_shared poly (zeros_of coeffs) (factorize_of poly 0) t in
+        let w = finish_within poly t c.0 (counted c.0 s.listed) in
+        (roots_fit (finish_of poly c.0 t) w.four, pairs_fit c.1 s.two)
+    go (Err refusal) = (roots_fit [] (omega arith), pairs_fit [] (omega arith))
 
 -- ---- in x
 unscaled_within : (e : ℤ) (d : ℕ) (l : List RealRoot) → Within d l → Within d (unscaled_all e l)
@@ -163,19 +174,24 @@ unscaled_within e d l w =
         step i true t = (((t, h.0), i.0), let s = i.1 in omega arith)
         step i false t = (i.0, let s = i.1 in omega arith)
 
-pub answer_within : (coeffs : List Float) (tol : Float) → Within (degree_left coeffs) (list_of (real_roots_of coeffs tol).roots)
+pub answer_within : (coeffs : List Float) (tol : Float) → Within (degree_left coeffs) (list_of (roots_in (real_roots_of coeffs tol)))
 unfolding real_roots_of answer_of
-answer_within coeffs tol =
-    let s = solve_of coeffs tol in
-    let h = solved_shared coeffs tol in
-    let k = h.sum in
-    rw (list_roots (unscaled_all s.poly.e (list_of s.roots)))
-    (unscaled_within s.poly.e (degree_left coeffs) (list_of s.roots) (record { four = h.four; listed = h.listed; sum = omega arith }))
+answer_within coeffs tol = go (solve_of coeffs tol) (solved_shared coeffs tol)
+  where
+    go : (r : Result Solved Refusal) → Shared (degree_left coeffs) (list_of (solved_in r).roots) (pair_list_of (solved_in r).pairs)
+        → Within (degree_left coeffs) (list_of (roots_in (and_then r (λ s. Ok (answer_of s)))))
+    go (Ok s) h =
+        let k = h.sum in
+        rw (list_roots (unscaled_all s.poly.e (list_of s.roots)))
+        (unscaled_within s.poly.e (degree_left coeffs) (list_of s.roots) (record { four = h.four; listed = h.listed; sum = omega arith }))
+    go (Err refusal) h = within_more 0 (degree_left coeffs) [] (omega arith) within_none
 
 -- the array has room for them
-pub answer_fits : (coeffs : List Float) (tol : Float) → Fits (real_roots_of coeffs tol).roots
+pub answer_fits : (coeffs : List Float) (tol : Float) → Fits (roots_in (real_roots_of coeffs tol))
 unfolding real_roots_of answer_of
-answer_fits coeffs tol =
-    let s = solve_of coeffs tol in
-    let l = unscaled_all s.poly.e (list_of s.roots) in
-    roots_fit l (subst (λ (k : List RealRoot). length k ≤ 4) (list_roots l) (answer_within coeffs tol).four)
+answer_fits coeffs tol = go (solve_of coeffs tol) (answer_within coeffs tol)
+  where
+    go : (r : Result Solved Refusal) → Within (degree_left coeffs) (list_of (roots_in (and_then r (λ s. Ok (answer_of s)))))
+        → Fits (roots_in (and_then r (λ s. Ok (answer_of s))))
+    go (Ok s) w = let l = unscaled_all s.poly.e (list_of s.roots) in roots_fit l (subst (λ (k : List RealRoot). length k ≤ 4) (list_roots l) w.four)
+    go (Err refusal) w = roots_fit [] (omega arith)

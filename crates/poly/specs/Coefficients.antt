@@ -1,9 +1,11 @@
 -- The coefficients that count: Scaled::solve of poly.rs up to Scaled::new, and what it refuses. Definitions only.
-use Rattle.std.specs.Prelude.{Bool, cond, List, [], ◌∷◌, ℕ, zero, suc, ◌+◌, ◌-◌, ltb, leb, length, get_or, Float}
+use Rattle.std.specs.Prelude.{Bool, cond, List, [], ◌∷◌, ℕ, zero, suc, ◌+◌, ◌-◌, ltb, leb, length, get_or, Float, Result, Ok, Err}
 use Rattle.std.specs.Float.{nan}
 use Rattle.std.specs.Float.Ieee.{eq}
 use Rattle.facts.specs.Arrays.{from_fn}
-use Rattle.refusals.specs.Refusals.{not_finite, too_few, too_many}
+use Rattle.refusals.specs.declared.Refusal.{Refusal}
+use Rattle.refusals.specs.declared.Refusal.TheVariants.{NotFinite, TooFew, TooMany}
+use Rattle.refusals.specs.Refusals.{outcome_of}
 use Rattle.float.specs.Literals.{zero64}
 use Rattle.float.specs.Methods.{all_finite_of}
 use Rattle.scaled.specs.declared.Scaled.{Scaled}
@@ -23,14 +25,18 @@ unfoldable pub zeros_of : List Float → ℕ
 zeros_of [] = 0
 zeros_of (c ∷ l) = cond (eq c zero64) (suc (zeros_of l)) 0
 
--- The number of the refusal, and 0 where there is none: a coefficient is not finite; at most one is left; more than five are. In that order:
+-- How many count, or the refusal: a coefficient is not finite; at most one is left; more than five are. In that order:
 -- `if n <= 1 || n > 5 { return None; }` comes after the test of the coefficients.
-unfoldable pub refusal_by : Bool → ℕ → ℕ
-refusal_by finite n = cond finite (cond (leb n 1) too_few (cond (leb n 5) 0 too_many)) not_finite
+unfoldable pub counted_by : Bool → ℕ → Result ℕ Refusal
+counted_by finite n = cond finite (cond (leb n 1) (Err TooFew) (cond (leb n 5) (Ok n) (Err TooMany))) (Err NotFinite)
 
 -- `if coeffs.iter().any(|c| !c.is_finite()) { return None; }`, and by how many are left
+abbrev pub counted_of : List Float → Result ℕ Refusal
+counted_of coeffs = counted_by (all_finite_of coeffs) (trimmed_of coeffs)
+
+-- the number of the refusal, and 0 where there is none
 abbrev pub refusal_of : List Float → ℕ
-refusal_of coeffs = refusal_by (all_finite_of coeffs) (trimmed_of coeffs)
+refusal_of coeffs = outcome_of (counted_of coeffs)
 
 -- the degree left once trailing zeros are dropped
 abbrev pub degree_left : List Float → ℕ

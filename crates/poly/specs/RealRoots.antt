@@ -1,11 +1,13 @@
 -- real_roots of poly.rs: the finished roots in x, or a refusal. Definitions only.
-use Rattle.std.specs.Prelude.{cond, List, [], ◌∷◌, ℤ, Float}
+use Rattle.std.specs.Prelude.{cond, List, [], ◌∷◌, ℤ, Float, Result, Ok}
+use Rattle.refusals.specs.declared.Refusal.{Refusal}
+use Rattle.refusals.specs.Refusals.{value_or, and_then}
 use Rattle.float.specs.Methods.{is_finite_of}
 use Rattle.ldexp.specs.Scale.{ldexp_of}
 use Rattle.roots.specs.declared.RealRoot.{RealRoot}
-use Rattle.roots.specs.Roots.{root, list_of, roots_of}
+use Rattle.roots.specs.declared.Roots.{Roots}
+use Rattle.roots.specs.Roots.{root, list_of, roots_of, no_roots}
 use Rattle.poly.specs.declared.Solved.{Solved}
-use Rattle.poly.specs.declared.Answer.{Answer}
 use Rattle.poly.specs.Solve.{solve_of}
 
 -- `let value = ldexp(y, self.e);` of `unscaled`: the place y of the scaled variable in x
@@ -20,10 +22,14 @@ unscaled_all e (r ∷ l) =
     let rest = unscaled_all e l in
     cond (is_finite_of x) (root x r.multiplicity ∷ rest) rest
 
--- the list of what was solved; of a refusal, its number and no root
-unfoldable pub answer_of : Solved → Answer
-answer_of s = record { number = s.number; roots = roots_of (unscaled_all s.poly.e (list_of s.roots)) }
+-- the list of what was solved
+unfoldable pub answer_of : Solved → Roots
+answer_of s = roots_of (unscaled_all s.poly.e (list_of s.roots))
 
--- `fn real_roots(coeffs: &[f64], tol: f64) -> Vec<RealRoot>`
-unfoldable pub real_roots_of : List Float → Float → Answer
-real_roots_of coeffs tol = answer_of (solve_of coeffs tol)
+-- `fn real_roots(coeffs: &[f64], tol: f64) -> Vec<RealRoot>`, or the refusal
+unfoldable pub real_roots_of : List Float → Float → Result Roots Refusal
+real_roots_of coeffs tol = and_then (solve_of coeffs tol) (λ s. Ok (answer_of s))
+
+-- the roots of an answer; of a refusal none
+abbrev pub roots_in : Result Roots Refusal → Roots
+roots_in answer = value_or no_roots answer

@@ -1,6 +1,8 @@
 -- Scaled::solve and Scaled::finish of poly.rs, joined: what real_roots and the inquiry begin with. Definitions only.
-use Rattle.std.specs.Prelude.{cond, List, [], ℕ, ltb, eqb, pos, replicate, Float}
+use Rattle.std.specs.Prelude.{cond, List, [], ℕ, ltb, pos, replicate, Float, Result, Ok}
 use Rattle.facts.specs.Count.{count_up}
+use Rattle.refusals.specs.declared.Refusal.{Refusal}
+use Rattle.refusals.specs.Refusals.{value_or, and_then}
 use Rattle.float.specs.Literals.{zero64}
 use Rattle.float.specs.Methods.{max_of}
 use Rattle.scaled.specs.declared.Scaled.{Scaled}
@@ -13,7 +15,7 @@ use Rattle.roots.specs.Roots.{root, kept, roots_of, no_roots, pairs_of, no_pairs
 use Rattle.push.specs.Quadratic.{push_quadratic_of}
 use Rattle.finish.specs.Finish.{finish_of}
 use Rattle.poly.specs.declared.Solved.{Solved}
-use Rattle.poly.specs.Coefficients.{zeros_of, refusal_of, poly_of}
+use Rattle.poly.specs.Coefficients.{zeros_of, counted_of, poly_of}
 
 -- ---- Scaled::solve from the factors on: the candidates, and the complex pairs
 -- `if zeros > 0 { cands.push(0.0, zeros as u32); }`: 'leading zeros become the root +0 with their number as multiplicity'
@@ -40,19 +42,18 @@ unfoldable pub finished_of : Scaled → ℕ → Float → Solved
 finished_of poly zeros tol =
     let factors = factorize_of poly 0 in
     let c = candidates_of poly zeros factors tol in
-    record { number = 0; poly = poly; tol = tol; roots = roots_of (finish_of poly c.0 tol); pairs = pairs_of c.1 }
+    record { poly = poly; tol = tol; roots = roots_of (finish_of poly c.0 tol); pairs = pairs_of c.1 }
 
--- where there is none: zeros
+-- `Scaled::solve`, then `finish`; `None` is a refusal. The tolerance is `tol.max(0.0)`: 'A NaN or negative tolerance counts as 0'
+unfoldable pub solve_of : List Float → Float → Result Solved Refusal
+solve_of coeffs tol = and_then (counted_of coeffs) (λ n. Ok (finished_of (poly_of coeffs) (zeros_of coeffs) (max_of tol zero64)))
+
+-- ---- what theorems say of a list that is refused too: that nothing is solved, zeros
 abbrev pub no_poly : Scaled
 no_poly = record { f = replicate 5 zero64; g = replicate 5 zero64; lg = replicate 5 zero64; d = 0; e = pos 0; unit = zero64 }
 
--- `None`: a refusal by its number, and nothing else
-abbrev pub refused_by : ℕ → Solved
-refused_by number = record { number = number; poly = no_poly; tol = zero64; roots = no_roots; pairs = no_pairs }
+abbrev pub no_solved : Solved
+no_solved = record { poly = no_poly; tol = zero64; roots = no_roots; pairs = no_pairs }
 
--- `Scaled::solve`, then `finish`. The tolerance is `tol.max(0.0)`: 'A NaN or negative tolerance counts as 0'
-unfoldable pub solve_of : List Float → Float → Solved
-solve_of coeffs tol =
-    let number = refusal_of coeffs in
-    let solved = finished_of (poly_of coeffs) (zeros_of coeffs) (max_of tol zero64) in
-    cond (eqb number 0) solved (refused_by number)
+abbrev pub solved_in : Result Solved Refusal → Solved
+solved_in s = value_or no_solved s

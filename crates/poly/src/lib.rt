@@ -1,49 +1,50 @@
-// real_roots of poly.rs: a list of coefficients of any length and any bits gives at most four roots, or the number of a refusal.
+// real_roots of poly.rs: a list of coefficients of any length and any bits gives at most four roots, or a refusal.
 // It rests on scaling, factoring, the band and finishing; the inquiry and the programs rest on it.
 #![tactic(auto)]
 
-ghost use Rattle.std.specs.Prelude.{◌≡◌, true, ◌≤◌, ◌<◌, ◌+◌, length};
+ghost use Rattle.std.specs.Prelude.{◌≡◌, ℕ, ◌+◌, ◌≤◌, ◌<◌, length, IfOk};
 ghost use Rattle.facts.specs.Count.{count_up};
 ghost use Rattle.factorize.specs.Factorize.{factorize_of};
 ghost use Rattle.factorize.specs.Discs.{rooted_of};
 ghost use Rattle.roots.specs.Roots.{roots_of, list_of};
 ghost use Rattle.push.specs.Quadratic.{found_of};
 ghost use Rattle.roots.specs.Listed.{Within};
-ghost use Rattle.poly.specs.Coefficients.{trimmed_of, degree_left, zeros_of, refusal_by, middle_of};
-ghost use Rattle.poly.specs.Solve.{zero_roots_of, candidates_of, finished_of, refused_by, solve_of};
+ghost use Rattle.poly.specs.Coefficients.{trimmed_of, degree_left, zeros_of, counted_of, middle_of};
+ghost use Rattle.poly.specs.Solve.{zero_roots_of, candidates_of, finished_of, solve_of};
 ghost use Rattle.poly.specs.Found.{with_lin_in, with_quad_in};
-ghost use Rattle.poly.specs.Brief.{Enough, ButLogs};
-ghost use Rattle.poly.specs.RealRoots.{unscaled_all, real_roots_of};
+ghost use Rattle.poly.specs.Brief.{Enough, SolvedBy, ButLogs};
+ghost use Rattle.poly.specs.RealRoots.{unscaled_all, real_roots_of, roots_in};
 
 use horner::Polynomial;
+use refusals::Refusal;
 
-// What Scaled::solve and finish give: the scaled polynomial, the tolerance, its finished roots and its complex pairs. On a refusal the number alone, and zeros.
+// What Scaled::solve and finish give: the scaled polynomial, the tolerance, its finished roots and its complex pairs.
 #[derive(Clone, Copy)]
 pub struct Solved {
-    pub number: u32,
     pub poly: scaled::Scaled,
     pub tol: f64,
     pub roots: roots::Roots,
     pub pairs: roots::Pairs,
 }
 
-// The roots in x, and 0; or the number of the refusal, and no root.
+// A scaled polynomial without the zeros that came first, how many those are, and the tolerance.
 #[derive(Clone, Copy)]
-pub struct Answer {
-    pub number: u32,
-    pub roots: roots::Roots,
+struct Stripped {
+    poly: scaled::Scaled,
+    zeros: usize,
+    tol: f64,
+    ghost room: { poly.d + zeros ≤ 4 },
 }
 
 // How many are left once trailing zeros are dropped.
+#[tactic(auto, using(crate::proofs::Coefficients::trimmed_none))]
 fn trimmed(coeffs: &[f64]) -> usize
     ensures { (result ≡ trimmed_of coeffs.now) × (result ≤ length coeffs.now) }
 {
-    for i in (0..coeffs.len()).rev() {
-        if coeffs[i] != 0.0 {
-            return i + 1;
-        }
+    match coeffs.iter().rposition(|&c| c != 0.0) {
+        Some(i) => i + 1,
+        None => 0,
     }
-    0
 }
 
 // How many zeros come first.
@@ -53,23 +54,27 @@ fn leading_zeros(coeffs: &[f64]) -> usize
     coeffs.iter().take_while(|&&c| c == 0.0).count()
 }
 
-// The number of the refusal, and 0 where there is none.
-fn refusal(finite: bool, n: usize) -> u32
-    ensures { result ≡ refusal_by finite n }
+// How many count, or why the list is refused.
+#[tactic(auto, using(crate::proofs::Coefficients::zeros_below), unfolding(crate::specs::Coefficients::counted_by))]
+fn counted(coeffs: &[f64]) -> Result<usize, Refusal>
+    ensures value { result ≡ counted_of coeffs.now }
+    ensures room { IfOk result (λ n. (zeros_of coeffs.now < n) × (n ≤ 5) × (n ≤ length coeffs.now)) }
 {
-    if finite {
-        if n <= 1 {
-            return refusals::TOO_FEW;
-        }
-        if n <= 5 {
-            return 0;
-        }
-        return refusals::TOO_MANY;
+    if !float::all_finite(coeffs) {
+        return Err(Refusal::NotFinite);
     }
-    refusals::NOT_FINITE
+    let n = trimmed(coeffs);
+    if n <= 1 {
+        return Err(Refusal::TooFew);
+    }
+    if 5 < n {
+        return Err(Refusal::TooMany);
+    }
+    Ok(n)
 }
 
 // The coefficients in from..to, zeros after them.
+#[tactic(auto, using(float::proofs::Made::made_by), unfolding(crate::specs::Coefficients::middle_at, crate::specs::Coefficients::middle_of))]
 fn middle(coeffs: &[f64], from: usize, to: usize) -> [f64; 5]
     requires { (from ≤ to) × (to ≤ length coeffs.now) }
     ensures { result ≡ middle_of coeffs.now from to }
@@ -78,6 +83,7 @@ fn middle(coeffs: &[f64], from: usize, to: usize) -> [f64; 5]
 }
 
 // The leading zeros are one root.
+#[tactic(auto, using(crate::proofs::Arrays::zeros_some, crate::proofs::Arrays::zeros_none))]
 fn zero_roots(zeros: usize) -> roots::Roots
     requires { zeros ≤ 4 }
     ensures { result ≡ roots_of (zero_roots_of zeros) }
@@ -90,148 +96,125 @@ fn zero_roots(zeros: usize) -> roots::Roots
 }
 
 // The candidates with the roots of the linear factors.
+#[tactic(auto, using(crate::proofs::Turns::turns))]
 fn with_lins(f: factors::Factors, start: roots::Roots) -> roots::Roots
     requires { f.nlin ≤ 4 }
     ensures { result ≡ count_up f.nlin (with_lin_in f) f.nlin start }
 {
     let mut s = start;
-    for i in 0..f.nlin {
-        s = s.keep(f.lin[i], 1);
+    for r in &f.lin[..f.nlin] {
+        s = s.keep(*r, 1);
     }
     s
 }
 
-// The same of the quadratic ones, and the pairs.
-fn with_quads(
-    poly: scaled::Scaled,
-    r: factorize::Rooted,
-    tol: f64,
-    start: push::Found,
-) -> push::Found
-    requires poly_d_high { poly.d ≤ 4 }
-    requires rooted { (r.f.nquad ≤ 2) × (r ≡ rooted_of r.f) }
-    ensures { result ≡ count_up r.f.nquad (with_quad_in poly r.f tol) r.f.nquad start }
-{
-    let mut s = start;
-    for i in 0..r.f.nquad {
-        let q = r.f.quad[i];
-        s = push::push_rooted(poly, q.al, q.be, r.disc[i], tol, s);
+impl Stripped {
+    // The candidates with the roots of the quadratic factors, and the pairs.
+    #[tactic(auto, using(crate::proofs::Turns::turns, push::proofs::Laws::same_push, factorize::proofs::Discs::disc_is))]
+    fn with_quads(self, r: factorize::Rooted, start: push::Found) -> push::Found
+        requires { (r.f.nquad ≤ 2) × (r ≡ rooted_of r.f) }
+        ensures { result ≡ count_up r.f.nquad (with_quad_in self.poly r.f self.tol) r.f.nquad start }
+    {
+        let mut s = start;
+        for i in 0..r.f.nquad {
+            let q = r.f.quad[i];
+            s = push::push_rooted(self.poly, q.al, q.be, r.disc[i], self.tol, s);
+        }
+        s
     }
-    s
-}
 
-fn candidates(poly: scaled::Scaled, zeros: usize, tol: f64) -> push::Found
-    requires poly_d_high { poly.d ≤ 4 }
-    requires zeros_high { zeros ≤ 4 }
-    ensures { result ≡ found_of (candidates_of poly zeros (factorize_of poly 0) tol) }
-{
-    let r = factorize::factorize_rooted(poly, 0);
-    let roots = with_lins(r.f, zero_roots(zeros));
-    let pairs = roots::Pairs::none();
-    with_quads(poly, r, tol, push::Found { roots, pairs })
-}
+    // The candidates and the complex pairs.
+    fn candidates(self) -> push::Found
+        ensures { result ≡ found_of (candidates_of self.poly self.zeros (factorize_of self.poly 0) self.tol) }
+    {
+        let r = factorize::factorize_rooted(self.poly, 0);
+        let roots = with_lins(r.f, zero_roots(self.zeros));
+        let pairs = roots::Pairs::none();
+        self.with_quads(r, push::Found { roots, pairs })
+    }
 
-fn finished(poly: scaled::Scaled, zeros: usize, tol: f64) -> Solved
-    requires { poly.d + zeros ≤ 4 }
-    ensures { result ≡ finished_of poly zeros tol }
-{
-    let found = candidates(poly, zeros, tol);
-    let roots = finish::finish(poly, found.roots, tol);
-    let pairs = found.pairs;
-    Solved {
-        number: 0,
-        poly,
-        tol,
-        roots,
-        pairs,
+    // Factored and finished.
+    #[tactic(auto, using(crate::proofs::Steps::finished_is))]
+    fn finished(self) -> Solved
+        ensures { result ≡ finished_of self.poly self.zeros self.tol }
+    {
+        let poly = self.poly;
+        let tol = self.tol;
+        let found = self.candidates();
+        let roots = finish::finish(poly, found.roots, tol);
+        let pairs = found.pairs;
+        Solved {
+            poly,
+            tol,
+            roots,
+            pairs,
+        }
     }
 }
 
-fn refused(number: u32) -> Solved
-    ensures { result ≡ refused_by number }
+// The degree whose logarithms factoring needs: d, or 0 where a level list needs none.
+fn needed(p: Polynomial) -> usize
+    ensures { (result ≤ 4) × Enough p.f p.d result }
 {
-    let poly = scaled::Scaled {
-        f: [0.0; 5],
-        g: [0.0; 5],
-        lg: [0.0; 5],
-        d: 0,
-        e: 0,
-        unit: 0.0,
-    };
-    let roots = roots::Roots::none();
-    let pairs = roots::Pairs::none();
-    Solved {
-        number,
-        poly,
-        tol: 0.0,
-        roots,
-        pairs,
-    }
-}
-
-// The degree whose logarithms are taken: d, or 0 where they are not all asked for and a level list needs none.
-fn logs(p: Polynomial, all: bool) -> usize
-    ensures { (result ≤ 4) × (all ≡ true → result ≡ p.d) × Enough p.f p.d result }
-{
-    if all {
-        return p.d;
-    }
     if level::level(p) {
         return 0;
     }
     p.d
 }
 
-// Solved with all logarithms, or with those that factoring needs.
-fn solve_by(coeffs: &[f64], tol: f64, all: bool) -> Solved
-    ensures { (all ≡ true → result ≡ solve_of coeffs.now tol) × ButLogs result (solve_of coeffs.now tol) }
+// Solved with the logarithms of the degree that `logs` gives.
+#[tactic(auto, using(crate::proofs::Steps::new_degree, crate::proofs::Steps::refused_by))]
+fn solve_by<F: Fn(Polynomial) -> usize>(
+    coeffs: &[f64],
+    tol: f64,
+    logs: F,
+) -> Result<Solved, Refusal>
+    requires callable { F.IsAlwaysCallable logs }
+    requires small { (p : Polynomial) (l : ℕ) → F.post logs p l → l ≤ 4 }
+    ensures { SolvedBy (F.post logs) coeffs.now tol result }
 {
-    let n = trimmed(coeffs);
-    let number = refusal(float::all_finite(coeffs), n);
-    if number != 0 {
-        return refused(number);
-    }
+    let n = counted(coeffs)?;
     let zeros = leading_zeros(coeffs);
     let a = middle(coeffs, zeros, n);
     let d = n - zeros - 1;
     let p = Polynomial { f: a, d };
-    let poly = scaled::Scaled::with_logs(p, logs(p, all));
-    finished(poly, zeros, float::max(tol, 0.0))
+    let poly = scaled::Scaled::with_logs(p, logs(p));
+    let tol = float::max(tol, 0.0);
+    Ok(Stripped { poly, zeros, tol }.finished())
 }
 
-pub fn solve(coeffs: &[f64], tol: f64) -> Solved
+#[tactic(auto, using(crate::proofs::Steps::solved_all))]
+pub fn solve(coeffs: &[f64], tol: f64) -> Result<Solved, Refusal>
     ensures { result ≡ solve_of coeffs.now tol }
 {
-    solve_by(coeffs, tol, true)
+    solve_by(coeffs, tol, |p| p.d)
 }
 
 // The same for those who never look at a logarithm.
-pub fn solve_brief(coeffs: &[f64], tol: f64) -> Solved
+#[tactic(auto, using(crate::proofs::Steps::solved_brief))]
+pub fn solve_brief(coeffs: &[f64], tol: f64) -> Result<Solved, Refusal>
     ensures { ButLogs result (solve_of coeffs.now tol) }
 {
-    solve_by(coeffs, tol, false)
+    solve_by(coeffs, tol, needed)
 }
 
 // The roots in x = y * 2^e that are finite.
+#[tactic(auto, using(crate::proofs::Arrays::unscaled_end), unfolding(crate::specs::RealRoots::unscaled_all))]
 fn unscaled_all(s: roots::Roots, e: i32) -> roots::Roots
     requires { s.len ≤ 4 }
     ensures { result ≡ roots_of (unscaled_all e (list_of s)) }
 {
     let mut out = roots::Roots::none();
-    for i in 0..s.len {
-        let r = s.root[i];
+    for r in &s.root[..s.len] {
         out = out.keep(ldexp::ldexp(r.value, e), r.multiplicity);
     }
     out
 }
 
 // Demand 1 holds of the answer: at most four finite roots, each counting at least once, together at most the degree left.
-pub fn real_roots(coeffs: &[f64], tol: f64) -> Answer
-    ensures { (result ≡ real_roots_of coeffs.now tol) × Within (degree_left coeffs.now) (list_of result.roots) }
+pub fn real_roots(coeffs: &[f64], tol: f64) -> Result<roots::Roots, Refusal>
+    ensures { (result ≡ real_roots_of coeffs.now tol) × Within (degree_left coeffs.now) (list_of (roots_in result)) }
 {
-    let s = solve_by(coeffs, tol, false);
-    Answer {
-        number: s.number,
-        roots: unscaled_all(s.roots, s.poly.e),
-    }
+    let s = solve_brief(coeffs, tol)?;
+    Ok(unscaled_all(s.roots, s.poly.e))
 }

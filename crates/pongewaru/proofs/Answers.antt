@@ -1,24 +1,33 @@
--- The two ways out of what may be refused.
-use mathlib.Core.Path.{◌≡◌, sym, subst}
+-- What is said and stored of an answer that may be refused.
+use mathlib.Core.Path.{◌≡◌, refl, sym, ap, subst, ◌∙◌}
 use mathlib.Core.List.{List, []}
 use Prim.Native.Nat.{ℕ}
 use native.Mathlib.Omega.{arith}
 use lib.Ieee.{Float}
-use Rattle.std.specs.Prelude.{Result, Ok, Err}
+use Rattle.std.specs.Prelude.{Result, Ok, Err, IsOkAnd, MatchResult}
 use Rattle.refusals.specs.declared.Refusal.{Refusal}
-use Rattle.refusals.specs.Refusals.{number_of}
+use Rattle.refusals.specs.Refusals.{number_of, outcome_of, value_or}
 use Rattle.refusals.proofs.Numbers.{number_bounds}
-use Rattle.lent_bytes.specs.Bytes.{Stored}
-use Rattle.lent_bytes.proofs.Whole.{stored_as}
-use Rattle.lent_bytes.proofs.Whole as whole
-use Rattle.pongewaru.specs.Answers.{AnsweredBy}
+use Rattle.lent_bytes.specs.Bytes.{Answered}
+use Rattle.lent_bytes.proofs.Whole.{answered_as, answered_if}
+use Rattle.pongewaru.specs.Answers.{numbers_in, AnsweredBy}
 
-module _ {A : Type 0} (numbers : A → List Float) (answer : Result A Refusal) (l : List ℕ) where
-  pub stored : {x : A} {xs : List Float} {r : ℕ} {m : List ℕ} → Ok x ≡ answer → xs ≡ numbers x → Stored xs l r m → AnsweredBy numbers answer l r m
-  stored {r = r} {m = m} is e s = subst (λ (a : Result A Refusal). AnsweredBy numbers a l r m) is (stored_as e s)
+module _ {A : Type 0} (numbers : A → List Float) where
+  -- `answer.map(numbers)`
+  abbrev pub Mapped : Result A Refusal → Result (List Float) Refusal → Type 0
+  Mapped s y = MatchResult s (λ x. IsOkAnd y (λ u. u ≡ numbers x)) (λ e. y ≡ Err e)
 
-  pub refused : {refusal : Refusal} {n : ℕ} → Err refusal ≡ answer → n ≡ number_of refusal → AnsweredBy numbers answer l n l
-  refused {refusal = refusal} {n} is e =
-      subst (λ (a : Result A Refusal). AnsweredBy numbers a l n l) is
-      (subst (λ (k : ℕ). AnsweredBy numbers (Err refusal) l k l) (sym e)
-      (whole.refused [] l (number_of refusal) (λ z. omega (arith, z, number_bounds refusal))))
+  module _ {k : ℕ} {ys : List Float} {l : List ℕ} {r : ℕ} {m : List ℕ} where
+    -- the answer that is told has the number k, and the numbers ys where it is not refused
+    pub told_as : (s : Result A Refusal) (y : Result (List Float) Refusal) → Mapped s y → outcome_of s ≡ k → ((x : A) → s ≡ Ok x → numbers x ≡ ys)
+        → Answered (outcome_of y) (value_or [] y) l r m → Answered k ys l r m
+    told_as (Ok x) (Ok u) same e p h = answered_as e (same ∙ p x refl) h
+    told_as (Ok x) (Err refusal) same e p h = absurd same
+    told_as (Err refusal) y same e p h =
+        answered_if (ap outcome_of same ∙ e) (λ z. absurd (omega (arith, e, z, (number_bounds refusal).0))) h
+
+  pub told_by : {l : List ℕ} {r : ℕ} {m : List ℕ} (s answer : Result A Refusal) (y : Result (List Float) Refusal) → s ≡ answer → Mapped s y
+      → Answered (outcome_of y) (value_or [] y) l r m → AnsweredBy numbers answer l r m
+  told_by {l} {r} {m} s answer y is same h =
+      subst (λ (a : Result A Refusal). AnsweredBy numbers a l r m) is
+      (told_as s y same refl (λ x e. sym (ap (numbers_in numbers) e)) h)

@@ -7,7 +7,7 @@ use lib.ListN.{get_or}
 use lib.Ieee.{Float, nan}
 use Rattle.roots.specs.declared.Roots.{Roots}
 use Rattle.lent_bytes.specs.Numbers.{number}
-use Rattle.c_clusters.specs.Clustering.{root_numbers}
+use Rattle.lent_bytes.specs.Lists.{root_numbers}
 use Rattle.pongewaru.specs.Inquiries.{shown_numbers}
 
 -- k before the numbers of an inquiry, in an array

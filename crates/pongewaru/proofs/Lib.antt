@@ -1,5 +1,5 @@
-pub mod Answers
 -- What the proofs of several functions use.
+pub mod Answers
 pub mod Listing
 pub mod Feeding
 pub mod Crank

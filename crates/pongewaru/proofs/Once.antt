@@ -1,27 +1,31 @@
 -- Replies that are put in at once and walked once show what they show one by one: the first that is not needed is refused, and so is each after it.
-use mathlib.Core.Path.{◌≡◌, refl, sym, ap, ◌∙◌, subst⁻¹}
+use mathlib.Core.Path.{◌≡◌, refl, sym, ap, ◌∙◌, subst, subst⁻¹}
 use mathlib.Core.Bool.{Bool, true, false}
 use mathlib.Core.List.{List, [], ◌∷◌, ◌++◌}
 use Prim.Native.Nat.{ℕ, zero, suc, ◌+◌, ◌≤◌, ◌<◌}
 use native.Mathlib.Omega.{arith}
 use lib.ListN.{length, take, length-take}
 use lib.Ieee.{Float}
+use Rattle.std.specs.Prelude.{Option, Some, Result, Ok, Err}
 use Rattle.facts.specs.Lists.{length_snoc}
+use Rattle.refusals.specs.declared.Refusal.{Refusal}
+use Rattle.refusals.specs.declared.Refusal.TheVariants.{NothingAsked}
+use Rattle.refusals.specs.Refusals.{outcome_of, number_in, value_or, and_then}
 use Rattle.roots.specs.declared.RealRoot.{RealRoot}
 use Rattle.roots.specs.Listed.{Fits}
+use Rattle.poly.specs.declared.Solved.{Solved}
 use Rattle.poly.specs.Short.{short_of}
+use Rattle.poly.specs.Solve.{solve_of}
+use Rattle.poly.proofs.Refusals.{then_number}
 use Rattle.asking.specs.Asking.{Asking, Stage, asks, ended, walked, left_by}
 use Rattle.asking.proofs.Laws.{ended_more, asks_more, none_left}
 use Rattle.touching.specs.declared.Replies.{Replies}
 use Rattle.touching.specs.Replies.{replied_by}
 use Rattle.inquiry.specs.declared.Inquiry.{Inquiry}
 use Rattle.inquiry.specs.declared.Asked.{Asked}
-use Rattle.inquiry.specs.declared.Replied.{Replied}
 use Rattle.inquiry.specs.declared.Seen.{Seen}
-use Rattle.inquiry.specs.declared.Started.{Started}
-use Rattle.inquiry.specs.declared.ShownAfter.{ShownAfter}
-use Rattle.inquiry.specs.Inquiry.{shown, over_by, seen_at, asked_of, seen_of}
-use Rattle.inquiry.specs.Start.{real_roots_touching, start_of, given, shown_after_of}
+use Rattle.inquiry.specs.Inquiry.{shown, place_of, list_in, is_question, over_by, seen_at, asked_of, seen_of, replied_of}
+use Rattle.inquiry.specs.Start.{real_roots_touching, fresh_by, start_of, inquiry_in, given, shown_after_of}
 use Rattle.inquiry.proofs.Questions.{reply_taken, reply_refused}
 use Rattle.inquiry.proofs.Shown.{seen_fits}
 use Rattle.inquiry.proofs.Short.{short_starts}
@@ -29,28 +33,40 @@ use Rattle.inquiry.proofs.Theorem.{Has, has_seen, has_asked, has_more, start_has
 use Rattle.trig_quartic.specs.declared.TrigEquation.{TrigEquation}
 use Rattle.trig_quartic.specs.declared.Crank.{Crank}
 use Rattle.trig_quartic.specs.Crank.{crank_front_of}
-use Rattle.crank.specs.declared.CrankReplied.{CrankReplied}
 use Rattle.crank.specs.declared.CrankShown.{CrankShown}
-use Rattle.crank.specs.Crank.{front_in, crank_start_of, crank_asked_of, crank_replied_of, crank_shown_of}
+use Rattle.crank.specs.declared.CrankInquiry.{CrankInquiry}
+use Rattle.crank.specs.Crank.{crank_start_of, crank_in, crank_asked_of, crank_replied_of, crank_shown_of}
 use Rattle.lent_bytes.specs.Numbers.{number}
-use Rattle.pongewaru.specs.Inquiries.{reply_at, each_reply, fresh, next, fed_all, inquiry_numbers, no_replies, first_replies, seen_numbers}
-use Rattle.pongewaru.specs.Cranks.{next_crank, crank_numbers, shown_after, crank_shown_numbers}
+use Rattle.pongewaru.specs.Inquiries.{reply_at, each_reply, shown_numbers, fresh, next, fed_all, inquiry_numbers, no_replies, first_replies, seen_numbers}
+use Rattle.pongewaru.specs.Cranks.{next_crank, crank_fed_all, crank_numbers, shown_after, crank_shown_numbers}
+
+-- ---- what is said of a reply, and what an inquiry shows: a number, and a question or a list
+abbrev step : Inquiry → Result Inquiry Refusal → ℕ × Inquiry
+step p r = (outcome_of r, value_or p r)
+
+abbrev showing : ℕ → Asked → ℕ × Asked
+showing n a = (n, a)
+
+abbrev told : Seen → ℕ × Asked
+told s = showing (number_in s.refused) s.asked
+
+abbrev seen_after : ℕ × Inquiry → ℕ × Asked
+seen_after f = showing f.0 (asked_of f.1)
+
+abbrev told_numbers : ℕ × Asked → List Float
+told_numbers u = shown_numbers u.0 (is_question u.1) (place_of u.1) (list_in u.1)
 
 -- ---- an inquiry that asks nothing refuses each reply
-refuses : (rs : List ℕ) (p : Inquiry) → (asked_of p).asking ≡ false
-    → each_reply next rs (record { number = 4; inquiry = p }) ≡ record { number = 4; inquiry = p }
+refuses : (rs : List ℕ) (p : Inquiry) → is_question (asked_of p) ≡ false → each_reply next rs (step p (Err NothingAsked)) ≡ step p (Err NothingAsked)
 unfolding each_reply
 refuses [] p e = refl
-refuses (b ∷ rs) p e = ap (each_reply next rs) (sym (reply_refused p (reply_at b) e)) ∙ refuses rs p e
-
-abbrev seen_after : Replied → Seen
-seen_after f = record { number = f.number; asked = asked_of f.inquiry }
+refuses (b ∷ rs) p e = ap (λ (r : Result Inquiry Refusal). each_reply next rs (step p r)) (sym (reply_refused p (reply_at b) e)) ∙ refuses rs p e
 
 -- ---- q asks what t asks, where replies that lead to a question are at most two
 module _ (q : Inquiry) (t : Asking (List RealRoot)) (room : (us : List Bool) (x : Float) → walked us t ≡ asks x → length us < 3) where
   -- one was not needed, and those after it are not
   over : (rs : List ℕ) (us left : List Bool) (s : Replies) (l : List RealRoot) (r : Bool) → Has t us (given q s) → length us + length rs ≤ 4
-      → walked us t ≡ ended l (r ∷ left) → seen_of (given q (each_reply replied_by rs s)) ≡ record { number = 4; asked = shown (ended l []) }
+      → walked us t ≡ ended l (r ∷ left) → seen_of (given q (each_reply replied_by rs s)) ≡ record { asked = shown (ended l []); refused = Some NothingAsked }
   unfolding each_reply shown left_by over_by
   over [] us left s l r h f e = has_seen t (given q s) us h ∙ ap seen_at e
   over (b ∷ rs) us left s l r h f e =
@@ -62,7 +78,7 @@ module _ (q : Inquiry) (t : Asking (List RealRoot)) (room : (us : List Bool) (x 
   abbrev Once : List ℕ → ℕ → List Bool → Replies → Type 0
   Once rs n us s =
       Has t us (given q s) → length us + n ≡ 3 → left_by (walked us t) ≡ []
-      → seen_after (each_reply next rs (fresh (given q s))) ≡ seen_of (given q (each_reply replied_by (take (suc n) rs) s))
+      → seen_after (each_reply next rs (fresh (given q s))) ≡ told (seen_of (given q (each_reply replied_by (take (suc n) rs) s)))
 
   one_more : (b : ℕ) (rs : List ℕ) → ((n : ℕ) (us : List Bool) (s : Replies) → Once rs n us s)
       → (st : Stage (List RealRoot)) (n : ℕ) (us : List Bool) (s : Replies) → walked us t ≡ st → Once (b ∷ rs) n us s
@@ -71,85 +87,138 @@ module _ (q : Inquiry) (t : Asking (List RealRoot)) (room : (us : List Bool) (x 
   one_more b rs go (asks x) (suc n) us s w h f e =
       let p = given q s in
       let y = reply_at b in
-      let on : (asked_of p).asking ≡ true = ap (λ (a : Asked). a.asking) (has_asked t p us h ∙ ap shown w) in
-      ap (λ (g : Replied). seen_after (each_reply next rs g)) (sym (reply_taken p y on))
+      let on : is_question (asked_of p) ≡ true = ap is_question (has_asked t p us h ∙ ap shown w) in
+      ap (λ (r : Result Inquiry Refusal). seen_after (each_reply next rs (step p r))) (sym (reply_taken p y on))
       ∙ go n (us ++ y ∷ []) (replied_by s y) (has_more t p us y (omega arith) h) (omega (arith, length_snoc us y)) (asks_more us t x y w)
   one_more b rs go (ended l left) n us s w h f e =
       let p = given q s in
       let y = reply_at b in
       let is = has_asked t p us h ∙ ap shown w in
-      let off : (asked_of p).asking ≡ false = ap (λ (a : Asked). a.asking) is in
+      let off : is_question (asked_of p) ≡ false = ap is_question is in
       let all : left ≡ [] = sym (ap left_by w) ∙ e in
-      ap (λ (g : Replied). seen_after (each_reply next rs g)) (sym (reply_refused p y off))
+      ap (λ (r : Result Inquiry Refusal). seen_after (each_reply next rs (step p r))) (sym (reply_refused p y off))
       ∙ ap seen_after (refuses rs p off)
-      ∙ ap (λ (a : Asked). record { number = 4; asked = a }) is
+      ∙ ap (showing 4) is
       ∙ sym
+      (ap told
       (over (take n rs) (us ++ y ∷ []) [] (replied_by s y) l y (has_more t p us y (omega arith) h) (omega (arith, length_snoc us y, length-take n rs))
-      (ended_more us t l left y w ∙ ap (λ (k : List Bool). ended l (k ++ y ∷ [])) all))
+      (ended_more us t l left y w ∙ ap (λ (k : List Bool). ended l (k ++ y ∷ [])) all)))
 
   once : (rs : List ℕ) (n : ℕ) (us : List Bool) (s : Replies) → Once rs n us s
   unfolding each_reply over_by
   once [] n us s h f e =
-      ap (λ (a : Asked). record { number = 0; asked = a }) (has_asked t (given q s) us h)
-      ∙ ap (λ (k : List Bool). record { number = over_by k; asked = shown (walked us t) }) (sym e)
-      ∙ sym (has_seen t (given q s) us h)
+      ap (showing 0) (has_asked t (given q s) us h)
+      ∙ ap (λ (k : List Bool). showing (number_in (over_by k)) (shown (walked us t))) (sym e)
+      ∙ sym (ap told (has_seen t (given q s) us h))
   once (b ∷ rs) n us s h f e = one_more b rs (once rs) (walked us t) n us s refl h f e
 
 -- ---- what `start` makes
+start_given : (r : Result Solved Refusal)
+    → let q = inquiry_in (and_then r (λ s. Ok (fresh_by s))) in q ≡ given q no_replies
+start_given (Ok s) = refl
+start_given (Err refusal) = refl
+
 module _ (coeffs : List Float) (tol : Float) (rs : List ℕ) where
   abbrev q : Inquiry
-  q = (start_of coeffs tol).inquiry
+  q = inquiry_in (start_of coeffs tol)
 
-  fed_once : seen_numbers (shown_after_of coeffs tol (first_replies rs)).seen ≡ inquiry_numbers (fed_all rs q)
-  unfolding start_of shown_after_of first_replies inquiry_numbers
+  q_given : q ≡ given q no_replies
+  unfolding start_of
+  q_given = start_given (solve_of coeffs tol)
+
+  fed_once : seen_numbers (seen_of (given q (first_replies rs))) ≡ inquiry_numbers (fed_all rs q)
+  unfolding first_replies inquiry_numbers
   fed_once =
       let t = real_roots_touching coeffs tol in
-      sym (ap seen_numbers (once q t (start_room coeffs tol) rs 3 [] no_replies (start_has coeffs tol) refl (none_left t)))
+      sym (ap told_numbers
+      (ap (λ (p : Inquiry). seen_after (each_reply next rs (fresh p))) q_given
+      ∙ once q t (start_room coeffs tol) rs 3 [] no_replies (subst (Has t []) q_given (start_has coeffs tol)) refl (none_left t)))
 
 -- what `shown_after` gives for the six numbers in place of the coefficients
-module _ (coeffs : List Float) (tol : Float) (rs : List ℕ) (s : ShownAfter) (is : s ≡ shown_after_of (short_of coeffs) tol (first_replies rs)) where
-  abbrev start : Started
-  start = start_of coeffs tol
+module _ (coeffs : List Float) (tol : Float) (rs : List ℕ) (s : Result Seen Refusal) (is : s ≡ shown_after_of (short_of coeffs) tol (first_replies rs)) where
+  abbrev shows : Result Inquiry Refusal → Result Seen Refusal
+  shows start = and_then start (λ p. Ok (seen_of (given p (first_replies rs))))
 
-  pub shown_fits : Fits s.seen.asked.list
+  short_shows : s ≡ shows (start_of coeffs tol)
   unfolding shown_after_of
-  shown_fits = subst⁻¹ (λ (t : ShownAfter). Fits t.seen.asked.list) is (seen_fits _)
+  short_shows = is ∙ ap shows (short_starts coeffs tol)
 
-  short_shows : s ≡ shown_after_of coeffs tol (first_replies rs)
-  unfolding shown_after_of
-  short_shows = is ∙ ap (λ (t : Started). record { number = t.number; seen = seen_of (given t.inquiry (first_replies rs)) }) (short_starts coeffs tol)
+  pub shown_number : outcome_of s ≡ outcome_of (start_of coeffs tol)
+  shown_number = ap outcome_of short_shows ∙ then_number (λ p. seen_of (given p (first_replies rs))) (start_of coeffs tol)
 
-  pub shown_number : s.number ≡ start.number
-  unfolding shown_after_of
-  shown_number = ap (λ (t : ShownAfter). t.number) short_shows
+  module _ (x : Seen) (e : s ≡ Ok x) where
+    shown_is : x ≡ seen_of (given (inquiry_in (start_of coeffs tol)) (first_replies rs))
+    shown_is = go (start_of coeffs tol) (sym short_shows ∙ e)
+      where
+        go : (start : Result Inquiry Refusal) → shows start ≡ Ok x → x ≡ seen_of (given (inquiry_in start) (first_replies rs))
+        go (Ok p) h = cc
+        go (Err refusal) h = absurd cc
 
-  pub shown_numbers_are : seen_numbers s.seen ≡ inquiry_numbers (fed_all rs start.inquiry)
-  shown_numbers_are = ap (λ (t : ShownAfter). seen_numbers t.seen) short_shows ∙ fed_once coeffs tol rs
+    pub shown_fits : Fits (list_in x.asked)
+    shown_fits = subst⁻¹ (λ (t : Seen). Fits (list_in t.asked)) shown_is (seen_fits _)
+
+    pub shown_numbers_are : seen_numbers x ≡ inquiry_numbers (fed_all rs (inquiry_in (start_of coeffs tol)))
+    shown_numbers_are = ap seen_numbers shown_is ∙ fed_once coeffs tol rs
 
 -- ---- a crank's inquiry, k beside it
-abbrev beside : ℕ → Replied → CrankReplied
-beside k p = record { number = p.number; crank = record { k = k; inquiry = p.inquiry } }
+abbrev with : ℕ → Inquiry → CrankInquiry
+with k p = record { k = k; inquiry = p }
 
-crank_fed_is : (k : ℕ) (rs : List ℕ) (p : Replied) → each_reply next_crank rs (beside k p) ≡ beside k (each_reply next rs p)
+abbrev beside : ℕ → ℕ × Inquiry → ℕ × CrankInquiry
+beside k p = (p.0, with k p.1)
+
+crank_step : (k : ℕ) (p : Inquiry) (r : Result Inquiry Refusal)
+    → let c = and_then r (λ i. Ok (with k i)) in (outcome_of c, value_or (with k p) c) ≡ beside k (step p r)
+crank_step k p (Ok i) = refl
+crank_step k p (Err refusal) = refl
+
+crank_fed_is : (k : ℕ) (rs : List ℕ) (p : ℕ × Inquiry) → each_reply next_crank rs (beside k p) ≡ beside k (each_reply next rs p)
 unfolding each_reply crank_replied_of
 crank_fed_is k [] p = refl
-crank_fed_is k (b ∷ rs) p = crank_fed_is k rs (next p (reply_at b))
+crank_fed_is k (b ∷ rs) p =
+    ap (each_reply next_crank rs) (crank_step k p.1 (replied_of p.1 (reply_at b))) ∙ crank_fed_is k rs (next p (reply_at b))
 
-module _ (confusion : Float) (trig : TrigEquation) (rs : List ℕ) (s : CrankShown) (is : s ≡ crank_shown_of confusion trig (first_replies rs)) where
-  abbrev front : Crank
-  front = front_in (crank_front_of trig)
+module _ (confusion : Float) (trig : TrigEquation) (rs : List ℕ) (s : Result CrankShown Refusal)
+    (is : s ≡ crank_shown_of confusion trig (first_replies rs)) where
+  abbrev shows_at : CrankInquiry → CrankShown
+  shows_at c = record { k = c.k; seen = seen_of (given c.inquiry (first_replies rs)) }
 
-  pub crank_fits : Fits s.seen.asked.list
+  pub crank_number : outcome_of s ≡ outcome_of (crank_start_of confusion trig)
   unfolding crank_shown_of
-  crank_fits = subst⁻¹ (λ (t : CrankShown). Fits t.seen.asked.list) is (seen_fits _)
+  crank_number = ap outcome_of is ∙ then_number shows_at (crank_start_of confusion trig)
 
-  pub crank_number : s.number ≡ (crank_start_of confusion trig).number
-  unfolding crank_shown_of
-  crank_number = ap (λ (t : CrankShown). t.number) is
+  module _ (x : CrankShown) (e : s ≡ Ok x) where
+    crank_is : x ≡ shows_at (crank_in (crank_start_of confusion trig))
+    unfolding crank_shown_of
+    crank_is = go (crank_start_of confusion trig) (sym is ∙ e)
+      where
+        go : (start : Result CrankInquiry Refusal) → and_then start (λ c. Ok (shows_at c)) ≡ Ok x → x ≡ shows_at (crank_in start)
+        go (Ok c) h = cc
+        go (Err refusal) h = absurd cc
 
-  pub crank_numbers_are : crank_shown_numbers s ≡ shown_after rs (crank_start_of confusion trig)
-  unfolding crank_start_of crank_shown_of shown_after_of crank_numbers crank_asked_of inquiry_numbers
-  crank_numbers_are =
-      ap crank_shown_numbers is
-      ∙ ap (λ (l : List Float). number front.k ∷ l) (fed_once front.q confusion rs)
-      ∙ sym (ap crank_numbers (crank_fed_is front.k rs (fresh (start_of front.q confusion).inquiry)))
+    pub crank_fits : Fits (list_in x.seen.asked)
+    crank_fits = subst⁻¹ (λ (t : CrankShown). Fits (list_in t.seen.asked)) crank_is (seen_fits _)
+
+    pub crank_numbers_are : crank_shown_numbers x ≡ shown_after rs (crank_start_of confusion trig)
+    unfolding crank_start_of crank_shown_of crank_numbers crank_asked_of inquiry_numbers
+    crank_numbers_are = by_front (crank_front_of trig) (sym is ∙ e)
+      where
+        shows : Result CrankInquiry Refusal → Result CrankShown Refusal
+        shows start = and_then start (λ c. Ok (shows_at c))
+
+        started : Crank → Result Inquiry Refusal → Result CrankInquiry Refusal
+        started front start = and_then start (λ i. Ok (with front.k i))
+
+        by_start : (front : Crank) (start : Result Inquiry Refusal) → start_of front.q confusion ≡ start → shows (started front start) ≡ Ok x
+            → crank_shown_numbers x ≡ crank_numbers (crank_fed_all rs (crank_in (started front start)))
+        by_start front (Ok i) h e =
+            let is : x ≡ shows_at (with front.k i) = cc in
+            let fed = subst (λ (st : Result Inquiry Refusal). seen_numbers (seen_of (given (inquiry_in st) (first_replies rs)))
+            ≡ inquiry_numbers (fed_all rs (inquiry_in st))) h (fed_once front.q confusion rs) in
+            ap crank_shown_numbers is ∙ ap (λ (l : List Float). number front.k ∷ l) fed ∙ sym (ap crank_numbers (crank_fed_is front.k rs (fresh i)))
+        by_start front (Err refusal) h e = absurd cc
+
+        by_front : (front : Result Crank Refusal) → shows (and_then front (λ front. started front (start_of front.q confusion))) ≡ Ok x
+            → crank_shown_numbers x ≡ crank_numbers (crank_fed_all rs (crank_in (and_then front (λ front. started front (start_of front.q confusion)))))
+        by_front (Ok front) e = by_start front (start_of front.q confusion) refl e
+        by_front (Err refusal) e = absurd cc

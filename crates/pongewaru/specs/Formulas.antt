@@ -1,11 +1,15 @@
 -- What the C functions for formulas store, and their refusals. Definitions only.
 use Rattle.std.specs.Prelude.{Bool, List, ◌∷◌, ℕ, ltb, length, Float}
-use Rattle.refusals.specs.Refusals.{text_too_long}
+use Rattle.refusals.specs.declared.Refusal.TheVariants.{TextTooLong}
+use Rattle.refusals.specs.Refusals.{number_of, outcome_of}
+use Rattle.poly.specs.RealRoots.{roots_in}
+use Rattle.formula.specs.declared.Expanded.{Expanded}
 use Rattle.formula.specs.Formula.{expand_of}
 use Rattle.formula_roots.specs.FormulaRoots.{formula_roots_of}
+use Rattle.formula_roots.specs.Claims.{expanded_in}
 use Rattle.lent_bytes.specs.Bytes.{unless}
 use Rattle.lent_bytes.specs.Numbers.{number, five}
-use Rattle.c_clusters.specs.Clustering.{root_numbers}
+use Rattle.lent_bytes.specs.Lists.{root_numbers}
 
 -- the text has more bytes than a record holds
 abbrev pub too_long : List ℕ → Bool
@@ -13,14 +17,18 @@ too_long s = ltb 255 (length s)
 
 -- the refusal of its roots, and their numbers
 abbrev pub formula_refusal : List ℕ → Float → ℕ
-formula_refusal s tol = unless text_too_long (too_long s) (formula_roots_of s tol).number
+formula_refusal s tol = unless (number_of TextTooLong) (too_long s) (outcome_of (formula_roots_of s tol))
 
 abbrev pub formula_numbers : List ℕ → Float → List Float
-formula_numbers s tol = root_numbers (formula_roots_of s tol).roots
+formula_numbers s tol = root_numbers (roots_in (formula_roots_of s tol))
 
--- the refusal of its coefficients; how many there are, and all five
+-- how many coefficients there are, and all five
+abbrev pub expanded_numbers : Expanded → List Float
+expanded_numbers e = number e.len ∷ five e.coeffs
+
+-- the refusal of its coefficients, and their numbers
 abbrev pub coefficients_refusal : List ℕ → ℕ
-coefficients_refusal s = unless text_too_long (too_long s) (expand_of s).number
+coefficients_refusal s = unless (number_of TextTooLong) (too_long s) (outcome_of (expand_of s))
 
 abbrev pub coefficients_numbers : List ℕ → List Float
-coefficients_numbers s = number (expand_of s).len ∷ five (expand_of s).coeffs
+coefficients_numbers s = expanded_numbers (expanded_in s)

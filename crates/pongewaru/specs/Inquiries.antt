@@ -1,19 +1,19 @@
 -- What the export for inquiries stores, and its answer. Definitions only.
-use Rattle.std.specs.Prelude.{Bool, false, not, List, [], ◌∷◌, ℕ, eqb, take, replicate, Float}
-use Rattle.refusals.specs.Refusals.{cut_double}
+use Rattle.std.specs.Prelude.{Bool, false, not, List, [], ◌∷◌, ℕ, eqb, take, replicate, Float, Result}
+use Rattle.refusals.specs.declared.Refusal.{Refusal}
+use Rattle.refusals.specs.declared.Refusal.TheVariants.{CutDouble}
+use Rattle.refusals.specs.Refusals.{number_of, outcome_of, number_in}
 use Rattle.roots.specs.declared.Roots.{Roots}
 use Rattle.touching.specs.declared.Replies.{Replies}
 use Rattle.touching.specs.Replies.{replied_by}
 use Rattle.inquiry.specs.declared.Inquiry.{Inquiry}
-use Rattle.inquiry.specs.declared.Started.{Started}
-use Rattle.inquiry.specs.declared.Replied.{Replied}
 use Rattle.inquiry.specs.declared.Seen.{Seen}
-use Rattle.inquiry.specs.Inquiry.{asked_of, replied_of}
-use Rattle.inquiry.specs.Start.{start_of}
+use Rattle.inquiry.specs.Inquiry.{asked_of, place_of, list_in, is_question, replied_of, after}
+use Rattle.inquiry.specs.Start.{start_of, inquiry_in}
 use Rattle.lent_bytes.specs.Bytes.{unless}
 use Rattle.lent_bytes.specs.Numbers.{number, flag_of}
 use Rattle.lent_coefficients.specs.Coefficients.{coefficients_at}
-use Rattle.c_clusters.specs.Clustering.{root_numbers}
+use Rattle.lent_bytes.specs.Lists.{root_numbers}
 use Rattle.pongewaru.specs.Lists.{not_doubles}
 
 -- a reply's byte: 0 is no, every other one yes
@@ -31,29 +31,30 @@ unfoldable pub shown_numbers : ℕ → Bool → Float → Roots → List Float
 shown_numbers n asks place list = number n ∷ flag_of asks ∷ place ∷ root_numbers list
 
 -- ---- lists
-abbrev pub fresh : Inquiry → Replied
-fresh q = record { number = 0; inquiry = q }
+-- the last reply's number, and the inquiry
+abbrev pub fresh : Inquiry → ℕ × Inquiry
+fresh q = (0, q)
 
-abbrev pub next : Replied → Bool → Replied
-next p reply = replied_of p.inquiry reply
+abbrev pub next : ℕ × Inquiry → Bool → ℕ × Inquiry
+next p reply = (outcome_of (replied_of p.1 reply), after p.1 reply)
 
 -- a refused reply leaves the inquiry as it was
-abbrev pub fed_all : List ℕ → Inquiry → Replied
+abbrev pub fed_all : List ℕ → Inquiry → ℕ × Inquiry
 fed_all rs q = each_reply next rs (fresh q)
 
-unfoldable pub inquiry_numbers : Replied → List Float
-inquiry_numbers p = let a = asked_of p.inquiry in shown_numbers p.number a.asking a.place a.list
+unfoldable pub inquiry_numbers : ℕ × Inquiry → List Float
+inquiry_numbers p = let a = asked_of p.1 in shown_numbers p.0 (is_question a) (place_of a) (list_in a)
 
 -- the inquiry about the doubles in the bytes
-unfoldable pub start_at : List ℕ → Float → Started
+unfoldable pub start_at : List ℕ → Float → Result Inquiry Refusal
 start_at s tol = start_of (coefficients_at s) tol
 
 -- the refusal of its start, which the bytes have where they are no doubles, and what it shows then
 abbrev pub inquiry_refusal : List ℕ → Float → ℕ
-inquiry_refusal s tol = unless cut_double (not_doubles s) (start_at s tol).number
+inquiry_refusal s tol = unless (number_of CutDouble) (not_doubles s) (outcome_of (start_at s tol))
 
 abbrev pub shown_at : List ℕ → Float → List ℕ → List Float
-shown_at s tol rs = inquiry_numbers (fed_all rs (start_at s tol).inquiry)
+shown_at s tol rs = inquiry_numbers (fed_all rs (inquiry_in (start_at s tol)))
 
 -- ---- the same with the replies put in at once, which proofs/Once.antt shows
 abbrev pub no_replies : Replies
@@ -64,4 +65,4 @@ unfoldable pub first_replies : List ℕ → Replies
 first_replies rs = each_reply replied_by (take 4 rs) no_replies
 
 abbrev pub seen_numbers : Seen → List Float
-seen_numbers s = let a = s.asked in shown_numbers s.number a.asking a.place a.list
+seen_numbers s = let a = s.asked in shown_numbers (number_in s.refused) (is_question a) (place_of a) (list_in a)

@@ -1,12 +1,14 @@
 // Pin contacts from the numbers of a path and a circle; the list out as for `pongewaru_real_roots`. The answer is how many bytes are stored, 104, or the number
 // of the refusal, or 0 where those lent are too few: nothing is stored then.
+ghost use Rattle.refusals.specs.Refusals.{outcome_of};
+ghost use Rattle.poly.specs.RealRoots.{roots_in};
 ghost use Rattle.lent_bytes.specs.Bytes.{Answered};
-ghost use Rattle.c_clusters.specs.Clustering.{root_numbers};
+ghost use Rattle.lent_bytes.specs.Lists.{root_numbers};
 ghost use Rattle.pongewaru.specs.Contacts.{contact_of};
 
-use c_clusters::root_numbers;
 use contact::{Circle, Path};
 use lent_bytes::answer;
+use lent_bytes::lists::root_numbers;
 
 #[unsafe(no_mangle)]
 pub extern "C" fn pongewaru_pin_contact(
@@ -22,8 +24,8 @@ pub extern "C" fn pongewaru_pin_contact(
     r: f64,
     out: &mut [u8],
 ) -> u64
-    ensures { Answered (contact_of confusion x0 x1 x2 y0 y1 y2 cx cy r).number (root_numbers (contact_of confusion x0 x1 x2 y0 y1 y2 cx cy r).roots)
-        out.old result out.new }
+    ensures { Answered (outcome_of (contact_of confusion x0 x1 x2 y0 y1 y2 cx cy r))
+        (root_numbers (roots_in (contact_of confusion x0 x1 x2 y0 y1 y2 cx cy r))) out.old result out.new }
 {
     let path = Path {
         x0,
@@ -34,6 +36,6 @@ pub extern "C" fn pongewaru_pin_contact(
         y2,
     };
     let circle = Circle { cx, cy, r };
-    let a = contact::pin_contact(confusion, path, circle);
-    answer(out, a.number, &root_numbers(a.roots))
+    let list = contact::pin_contact(confusion, path, circle);
+    answer(out, list.map(root_numbers))
 }

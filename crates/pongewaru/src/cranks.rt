@@ -2,6 +2,8 @@
 // seventeen doubles. The answer is how many bytes are stored, 136, or the number of the refused start, or 0 where those lent are too few: nothing is stored
 // then.
 ghost use Rattle.std.specs.Prelude.{◌≡◌};
+ghost use Rattle.refusals.specs.Refusals.{outcome_of};
+ghost use Rattle.inquiry.specs.Inquiry.{list_in};
 ghost use Rattle.crank.specs.Crank.{crank_start_of};
 ghost use Rattle.lent_bytes.specs.Bytes.{Answered};
 ghost use Rattle.roots.specs.Listed.{Fits};
@@ -13,8 +15,9 @@ use crank::CrankShown;
 use lent_bytes::answer;
 use trig_quartic::TrigEquation;
 
+// (Place by place, as `shown_numbers` of inquiries.)
 fn crank_shown_numbers(s: CrankShown) -> [f64; 17]
-    requires { Fits s.seen.asked.list }
+    requires { Fits (list_in s.seen.asked) }
     ensures { result ≡ crank_shown_numbers s }
 {
     let k = f64::from(s.k);
@@ -36,10 +39,10 @@ pub extern "C" fn pongewaru_crank_inquire(
     replies: &[u8],
     out: &mut [u8],
 ) -> u64
-    ensures { Answered (crank_start_of confusion (trig_of a2 b2 c1 d1 e)).number
+    ensures { Answered (outcome_of (crank_start_of confusion (trig_of a2 b2 c1 d1 e)))
         (shown_after replies.now (crank_start_of confusion (trig_of a2 b2 c1 d1 e))) out.old result out.new }
 {
     let trig = TrigEquation { a2, b2, c1, d1, e };
     let s = crank::shown_after(confusion, trig, first_replies(replies));
-    answer(out, s.number, &crank_shown_numbers(s))
+    answer(out, s.map(crank_shown_numbers))
 }

@@ -2,16 +2,18 @@
 // doubles: 0, or 4 where a reply was refused; 1 and the place where it asks, 0 and 0 where not; and the list as for `real_roots`. The answer is how many bytes
 // are stored, 128, or the number of the refused start, as for a list, or 0 where those lent are too few: nothing is stored then.
 ghost use Rattle.std.specs.Prelude.{◌≡◌};
+ghost use Rattle.refusals.specs.Refusals.{number_in};
 ghost use Rattle.roots.specs.Listed.{Fits};
+ghost use Rattle.inquiry.specs.Inquiry.{list_in};
 ghost use Rattle.lent_bytes.specs.Bytes.{Answered};
 ghost use Rattle.pongewaru.specs.Inquiries.{shown_numbers, first_replies, seen_numbers, inquiry_refusal, shown_at};
 
 use crate::lists::not_doubles;
-use c_clusters::root_numbers;
-use inquiry::Seen;
-use lent_bytes::{answer, flag};
+use inquiry::{Asked, Seen};
+use lent_bytes::answer;
+use lent_bytes::lists::root_numbers;
 use lent_coefficients::short_at;
-use refusals::CUT_DOUBLE;
+use refusals::Refusal;
 use roots::Roots;
 use touching::Replies;
 
@@ -35,7 +37,7 @@ fn shown_numbers(number: u32, asks: bool, place: f64, list: Roots) -> [f64; 16]
     requires { Fits list }
     ensures { result ≡ shown_numbers number asks place list }
 {
-    let asks = flag(asks);
+    let asks = f64::from(asks);
     let list = root_numbers(list);
     [
         number as f64,
@@ -57,12 +59,25 @@ fn shown_numbers(number: u32, asks: bool, place: f64, list: Roots) -> [f64; 16]
     ]
 }
 
+// The number of the refusal that there may be.
+fn number_in(refused: Option<Refusal>) -> u32
+    ensures { result ≡ number_in refused }
+{
+    match refused {
+        None => 0,
+        Some(refusal) => u32::from(refusal),
+    }
+}
+
 pub fn seen_numbers(s: Seen) -> [f64; 16]
-    requires { Fits s.asked.list }
+    requires { Fits (list_in s.asked) }
     ensures { result ≡ seen_numbers s }
 {
-    let a = s.asked;
-    shown_numbers(s.number, a.asking, a.place, a.list)
+    let number = number_in(s.refused);
+    match s.asked {
+        Asked::Question(place) => shown_numbers(number, true, place, Roots::none()),
+        Asked::Finished(list) => shown_numbers(number, false, 0.0, list),
+    }
 }
 
 #[unsafe(no_mangle)]
@@ -71,8 +86,8 @@ pub extern "C" fn pongewaru_inquire(coeffs: &[u8], tol: f64, replies: &[u8], out
         out.old result out.new }
 {
     if not_doubles(coeffs) {
-        return CUT_DOUBLE as u64;
+        return answer::<0>(out, Err(Refusal::CutDouble));
     }
     let s = inquiry::shown_after(&short_at(coeffs), tol, first_replies(replies));
-    answer(out, s.number, &seen_numbers(s.seen))
+    answer(out, s.map(seen_numbers))
 }

@@ -1,6 +1,6 @@
 // The entry points and the hall file as C functions on numbers and byte slices, under the contracts of what they pass on to. `rt lib pongewaru` makes
 // of them the archive that a controller links; include/pongewaru.h declares them. No C function here requires anything.
-// It rests on the crates whose functions it hands out, on `lent_bytes`, on `lent_coefficients`, and on `c_clusters` (a list as numbers); nothing rests on it.
+// It rests on the crates whose functions it hands out, on `lent_bytes` and on `lent_coefficients`; nothing rests on it.
 #![tactic(auto)]
 
 pub mod contacts;

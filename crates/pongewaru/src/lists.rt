@@ -5,10 +5,10 @@ ghost use Rattle.std.specs.Prelude.{◌≡◌};
 ghost use Rattle.lent_bytes.specs.Bytes.{Answered};
 ghost use Rattle.pongewaru.specs.Lists.{not_doubles, list_refusal, list_numbers};
 
-use c_clusters::root_numbers;
 use lent_bytes::answer;
+use lent_bytes::lists::root_numbers;
 use lent_coefficients::short_at;
-use refusals::CUT_DOUBLE;
+use refusals::Refusal;
 
 // The bytes are no whole doubles.
 pub fn not_doubles(s: &[u8]) -> bool
@@ -22,8 +22,8 @@ pub extern "C" fn pongewaru_real_roots(coeffs: &[u8], tol: f64, out: &mut [u8]) 
     ensures { Answered (list_refusal coeffs.now tol) (list_numbers coeffs.now tol) out.old result out.new }
 {
     if not_doubles(coeffs) {
-        return CUT_DOUBLE as u64;
+        return answer::<0>(out, Err(Refusal::CutDouble));
     }
-    let a = poly::real_roots(&short_at(coeffs), tol);
-    answer(out, a.number, &root_numbers(a.roots))
+    let list = poly::real_roots(&short_at(coeffs), tol);
+    answer(out, list.map(root_numbers))
 }

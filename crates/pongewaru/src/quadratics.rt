@@ -10,9 +10,9 @@ ghost use Rattle.pongewaru.specs.Answers.{AnsweredBy};
 ghost use Rattle.pongewaru.specs.Quadratics.{solution_of, solution_numbers, trig_of, front_numbers};
 ghost use Rattle.pongewaru.specs.Inquiries.{reply_at};
 
-use lent_bytes::store;
+use lent_bytes::{answer, store};
 use solution::QuadraticSolution;
-use trig_quartic::{TrigEquation, crank_front};
+use trig_quartic::{Crank, TrigEquation, crank_front};
 
 // (No From here nor below: the trait and the types are of other crates, so that it would take a type of its own.)
 fn solution_numbers(s: QuadraticSolution) -> [f64; 3]
@@ -28,7 +28,7 @@ fn solution_numbers(s: QuadraticSolution) -> [f64; 3]
 }
 
 #[unsafe(no_mangle)]
-#[tactic(auto, using(crate::proofs::Answers::stored, crate::proofs::Answers::refused))]
+#[tactic(auto, using(crate::proofs::Answers::told_by))]
 pub extern "C" fn pongewaru_quadratic(
     a: f64,
     b: f64,
@@ -39,10 +39,8 @@ pub extern "C" fn pongewaru_quadratic(
 ) -> u64
     ensures { AnsweredBy solution_numbers (quadratic_of a b c confusion angular) out.old result out.new }
 {
-    match equation::quadratic(a, b, c, confusion, angular) {
-        Ok(s) => store(out, &solution_numbers(s)),
-        Err(refusal) => u32::from(refusal) as u64,
-    }
+    let s = equation::quadratic(a, b, c, confusion, angular);
+    answer(out, s.map(solution_numbers))
 }
 
 #[unsafe(no_mangle)]
@@ -68,6 +66,7 @@ pub extern "C" fn pongewaru_quadratic_centre(a: f64, b: f64, angular: f64) -> f6
 }
 
 // The answer whose number is n.
+#[tactic(auto, unfolding(crate::specs::Quadratics::solution_of))]
 fn solution(n: u32, x: f64, y: f64) -> QuadraticSolution
     ensures { result ≡ solution_of n x y }
 {
@@ -105,8 +104,15 @@ pub extern "C" fn pongewaru_touching_at(
 }
 
 // k, and the quartic's coefficients, ascending.
+fn front_numbers(front: Crank) -> [f64; 6]
+    ensures { result ≡ front_numbers front }
+{
+    let q = front.q;
+    [f64::from(front.k), q[0], q[1], q[2], q[3], q[4]]
+}
+
 #[unsafe(no_mangle)]
-#[tactic(auto, using(crate::proofs::Answers::stored, crate::proofs::Answers::refused))]
+#[tactic(auto, using(crate::proofs::Answers::told_by))]
 pub extern "C" fn pongewaru_crank_front(
     a2: f64,
     b2: f64,
@@ -117,11 +123,6 @@ pub extern "C" fn pongewaru_crank_front(
 ) -> u64
     ensures { AnsweredBy front_numbers (crank_front_of (trig_of a2 b2 c1 d1 e)) out.old result out.new }
 {
-    match crank_front(TrigEquation { a2, b2, c1, d1, e }) {
-        Ok(front) => {
-            let q = front.q;
-            store(out, &[f64::from(front.k), q[0], q[1], q[2], q[3], q[4]])
-        }
-        Err(refusal) => u32::from(refusal) as u64,
-    }
+    let front = crank_front(TrigEquation { a2, b2, c1, d1, e });
+    answer(out, front.map(front_numbers))
 }

@@ -1,6 +1,7 @@
 -- What a quadratic factor is by what `push_quadratic` found.
 use mathlib.Core.Path.{◌≡◌, refl, sym, ◌∙◌}
 use mathlib.Core.Bool.{Bool, true, false}
+use Prim.Native.Nat.{ℕ}
 use lib.Ieee.{Float, binary64, mul, div, neg, lt, le}
 use Rattle.float.specs.Literals.{zero64, half64}
 use Rattle.horner.specs.Product.{discriminant_of}
@@ -15,7 +16,7 @@ use Rattle.horner.specs.declared.Polynomial.{Polynomial}
 use Rattle.band.specs.Band.{noise_of, band_of, within_band_of, bare}
 use Rattle.band.proofs.Laws.{barely, same_within}
 use Rattle.critical.specs.Critical.{critical_point_of, double_at}
-use Rattle.push.specs.Quadratic.{double, apart, complex, quadratic_roots_of, quadratic_by, push_quadratic_in, push_rooted_in}
+use Rattle.push.specs.Quadratic.{double, apart, complex, quadratic_roots_of, quadratic_by, push_factor_in, push_quadratic_in, push_rooted_in}
 
 -- f, d and unit suffice for a double root's place
 same_double : (poly : Scaled) (mid tol : Float) → double_at (barely poly) mid tol ≡ double_at poly mid tol
@@ -64,3 +65,10 @@ pub same_push : (poly : Scaled) (al be tol : Float) (out : Roots) (pairs : Pairs
     → push_rooted_in poly al be s tol out pairs ≡ push_quadratic_in poly al be tol out pairs
 unfolding push_rooted_in push_quadratic_in
 same_push poly al be tol out pairs is = rw (is, same_quadratic poly al be tol)
+
+-- What the functions' proofs rest on: the laws, and the definitions.
+pub ruleset laws = (near_is, place_is, double_is, is_apart, is_complex, same_push)
+
+unfoldable pub definitions : ℕ
+unfolding push_factor_in push_rooted_in
+definitions = 0

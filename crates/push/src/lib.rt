@@ -1,6 +1,6 @@
 // `push_quadratic` of poly.rs: what a quadratic factor is, and where it goes.
 // It rests on `isolated`, `scaled`, `roots`, `band` and `critical`; the lists rest on it.
-#![tactic(auto)]
+#![tactic(auto, using(crate::proofs::Laws::laws), unfolding(crate::proofs::Laws::definitions))]
 
 ghost use Rattle.std.specs.Prelude.{◌≡◌, ◌≤◌};
 ghost use Rattle.push.specs.Quadratic.{push_quadratic_in, push_rooted_in};

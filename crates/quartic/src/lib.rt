@@ -25,10 +25,11 @@ struct Depressed {
     w: f64,
 }
 
+#[tactic(auto, using(crate::proofs::Laws::largest_one, crate::proofs::Laws::largest_three))]
 fn largest(roots: CubicRoots) -> f64
     ensures { result ≡ largest_of (places_of roots) (count_of roots) }
 {
-    let least = -float::infinity();
+    let least = f64::NEG_INFINITY;
     match roots {
         CubicRoots::One(r) => float::max(least, r),
         CubicRoots::Three(roots) => roots.into_iter().fold(least, float::max),
@@ -77,7 +78,7 @@ fn ferrari(p: f64, q: f64, r: f64, m: f64) -> Depressed
     }
 }
 
-// With y = t + shift: t^4 + p*t^2 + q*t + r.
+// With y = t + shift: t^4 + p*t^2 + q*t + r. (The coefficients one by one, as in poly.rs and as C hands them in.)
 #[tactic(auto, unfolding(crate::specs::Quartic::quartic_factor_of))]
 pub fn quartic_factor(b: f64, c: f64, d: f64, e: f64) -> QuarticFactor
     ensures { result ≡ quartic_factor_of b c d e }

@@ -10,8 +10,9 @@ use lib.ListN.{length, get_or, set, drop, length-set, drop_of_length-le}
 use lib.Seq.{drop-cons, drop-set-lt, get_or-set_same, get_or-set_other}
 use lib.Ieee.{Float, nan, binary64, add, mul}
 use Rattle.facts.specs.Arrays.{fill_from, from_fn}
-use Rattle.facts.specs.Count.{count_down}
+use Rattle.facts.specs.Count.{count_down, down_turn, down_end}
 use Rattle.quotient.specs.Quotient.{product_term_of, next_at}
+use Rattle.quotient.proofs.Terms.{terms_all, terms_turn, none_after}
 
 -- ---- an array by a rule: rules that agree below its end, and its last place
 agreeing : (g h : ℕ → Float) (i k : ℕ) → ((j : ℕ) → j < i + k → g j ≡ h j) → fill_from i k g ≡ fill_from i k h
@@ -61,3 +62,6 @@ module _ (dl : ℕ) (f : List Float) where
 
   pub all_placed : (l : List Float) → length l ≡ 5 → count_down put_next 5 l ≡ from_fn 5 (next_at l dl f)
   all_placed l e = placed 5 l (omega arith) ∙ ap (λ (r : List Float). from_fn 5 (next_at l dl f) ++ r) (drop_of_length-le l {i = 5} (omega arith))
+
+-- What the product's proof rests on.
+pub ruleset terms = (down_turn, down_end, terms_all, terms_turn, none_after, all_placed)

@@ -8,7 +8,7 @@ ghost use Rattle.quotient.specs.Quotient.{mul_of, product_of, quotient_of, usabl
 
 use factors::Factors;
 
-// The polynomial l[0] + l[1]*y + .. + l[dl]*y^dl.
+// The polynomial l[0] + l[1]*y + .. + l[dl]*y^dl, in fixed memory. (Not a horner::Polynomial: quotient takes any dl, which that type bounds by 4.)
 #[derive(Clone, Copy)]
 pub struct Monic {
     pub l: [f64; 5],
@@ -18,6 +18,7 @@ pub struct Monic {
 impl Monic {
     // Times f, in place, from the top coefficient down: coefficient k is made of l[k] and those below it, and none of them is overwritten yet. So no second
     // array is made. From low on k - j is at most dl: the zeros after l[dl] are not multiplied, which an infinite coefficient of f would make NaNs.
+    #[tactic(auto, using(crate::proofs::InPlace::terms), unfolding(crate::specs::Quotient::mul_of))]
     fn multiply(&mut self, f: &[f64])
         requires { (0 < length f.now) × (self.old.dl + length f.now ≤ 5) }
         ensures { self.new ≡ mul_of self.old f.now }
@@ -43,6 +44,7 @@ pub fn mul(mut p: Monic, f: &[f64]) -> Monic
     p
 }
 
+#[tactic(auto, using(crate::proofs::Merging::loops), unfolding(crate::specs::Quotient::mul_of, crate::specs::Quotient::product_of))]
 pub fn product(large: Factors) -> Monic
     requires { degree_of large ≤ 4 }
     ensures { result ≡ product_of large }
@@ -61,6 +63,7 @@ pub fn product(large: Factors) -> Monic
 }
 
 // The inner loop takes off g[i] the products that the coefficients found so far make.
+#[tactic(auto, using(crate::proofs::Merging::loops), unfolding(crate::specs::Quotient::acc_of, crate::specs::Quotient::quotient_of))]
 pub fn quotient(g: [f64; 5], p: Monic, small: usize) -> [f64; 5]
     requires { small ≤ 4 }
     ensures { result ≡ quotient_of g p small }
@@ -84,6 +87,7 @@ pub fn usable(s: [f64; 5], small: usize) -> bool
     float::all_finite(&s[..small + 1]) && s[0] != 0.0 && s[small] != 0.0
 }
 
+#[tactic(auto, using(crate::proofs::Merging::merging))]
 pub fn merged(large: Factors, inner: Factors, e: i32) -> Factors
     requires sized { Sized inner }
     requires e_size { nat_abs e ≤ 2 ^ 13 }

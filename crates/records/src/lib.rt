@@ -6,6 +6,8 @@ ghost use Rattle.std.specs.Prelude.{◌≡◌, ◌+◌, ◌^◌, ◌≤◌, ◌<
 ghost use Rattle.records.specs.Marks.{mark_of, kind_at};
 ghost use Rattle.records.specs.Records.{ended_of, held_of, counted_of, record_at};
 
+use refusals::Refusal;
+
 // A record's mark says its kind.
 #[derive(Clone, Copy, PartialEq, Eq, Debug)]
 pub enum Kind {
@@ -17,11 +19,11 @@ pub enum Kind {
     Unknown,
 }
 
-// A record: its kind, the number under which its bytes are refused, 0 where it stands whole, and where the next one starts.
+// A record: its kind, why its bytes are refused where it doesn't stand whole, and where the next one starts.
 #[derive(Clone, Copy)]
 pub struct Record {
     pub kind: Kind,
-    pub number: u32,
+    pub refused: Option<Refusal>,
     pub next: usize,
 }
 
@@ -59,52 +61,56 @@ impl From<[u8; 2]> for Kind {
 }
 
 // A refusal after which reading ends.
-pub fn ended(s: &[u8], kind: Kind, number: u32) -> Record
-    ensures { result ≡ ended_of kind number s.now }
+pub fn ended(s: &[u8], kind: Kind, refusal: Refusal) -> Record
+    ensures { result ≡ ended_of kind refusal s.now }
 {
     Record {
         kind,
-        number,
+        refused: Some(refusal),
         next: s.len(),
     }
 }
 
 // A record of this many bytes, if so many are left.
+// (A file and a place, here and below: the listing's definitions count places from its start.)
+#[tactic(auto, unfolding(crate::specs::Records::held_of))]
 fn held(s: &[u8], at: usize, kind: Kind, size: usize) -> Record
     requires { (at ≤ length s.now) × (size < 2 ^ 32) }
     ensures { result ≡ held_of kind size s.now at }
 {
     if s.len() - at < size {
-        return ended(s, kind, refusals::CUT);
+        return ended(s, kind, Refusal::Cut);
     }
     Record {
         kind,
-        number: 0,
+        refused: None,
         next: at + size,
     }
 }
 
 // A count byte, of `most` at most, a tolerance, and as many entries of `size` bytes each as the count says.
+#[tactic(auto, unfolding(crate::specs::Records::counted_of))]
 fn counted(s: &[u8], at: usize, kind: Kind, size: usize, most: usize) -> Record
     requires { (at ≤ length s.now) × (size ≤ 8) }
     ensures { result ≡ counted_of kind size most s.now at }
 {
     if s.len() - at < 3 {
-        return ended(s, kind, refusals::CUT);
+        return ended(s, kind, Refusal::Cut);
     }
     let count = s[at + 2] as usize;
     if most < count {
-        return ended(s, kind, refusals::COUNT_TOO_LARGE);
+        return ended(s, kind, Refusal::CountTooLarge);
     }
     held(s, at, kind, 11 + size * count)
 }
 
+#[tactic(auto, using(crate::proofs::Places::reads), unfolding(crate::specs::Records::record_of))]
 pub fn record_at(s: &[u8], at: usize) -> Record
     requires { at ≤ length s.now }
     ensures { result ≡ record_at s.now at }
 {
     if s.len() - at < 2 {
-        return ended(s, Kind::Unknown, refusals::CUT);
+        return ended(s, Kind::Unknown, Refusal::Cut);
     }
     let kind = Kind::from([s[at], s[at + 1]]);
     match kind {
@@ -113,6 +119,6 @@ pub fn record_at(s: &[u8], at: usize) -> Record
         Kind::Crank => held(s, at, kind, 50),
         Kind::Contact => held(s, at, kind, 82),
         Kind::Formula => counted(s, at, kind, 1, 255),
-        Kind::Unknown => ended(s, kind, refusals::UNKNOWN_MARK),
+        Kind::Unknown => ended(s, kind, Refusal::UnknownMark),
     }
 }

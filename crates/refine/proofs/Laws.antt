@@ -3,6 +3,7 @@ use Rattle.std.proofs.Common.{◌≡◌, ℕ, ◌+◌, ◌-◌, ◌<◌, ◌≤�
 use mathlib.Core.Option.{none, some}
 use Rattle.std.specs.Prelude.{Option as RustOption, None, Some}
 use native.Mathlib.Nat.{sub-zero}
+use lib.ListN.{length-set}
 use lib.Ieee.{Float, nan, binary64, sub, div}
 use Rattle.facts.specs.Count.{up_turn, up_end}
 use Rattle.facts.specs.Arrays.{from_fn}
@@ -111,7 +112,7 @@ module _ (p : List Float) (y : Float) {v : ValueSlope} (here : v ≡ value_slope
     newton_moved t = simp (sym here, steep, sym there, t)
 
 -- What the functions' proofs rest on: the laws, and the definitions.
-pub ruleset loops = (sub-zero, up_turn, up_end, turns_stop, turns_go, turns_end)
+pub ruleset loops = (sub-zero, length-set, up_turn, up_end, turns_stop, turns_go, turns_end)
 
 pub ruleset laws = (loops, square_small, trial_none, trial_far, after_turns, newton_flat, newton_held, newton_moved)
 

@@ -21,6 +21,7 @@ fn over(r: f64, m: f64) -> f64
     if m > 0.0 { r / m } else { r }
 }
 
+// (over at each entry, with its test once for the row.)
 fn weigh_row<const N: usize>(row: &mut [f64; N], m: f64)
     ensures { row.new ≡ weigh_row_of row.old m }
 {
@@ -31,6 +32,7 @@ fn weigh_row<const N: usize>(row: &mut [f64; N], m: f64)
     }
 }
 
+// (By index: of the rows that a zip lends a proof knows no entry.)
 fn weigh_rows<const N: usize>(j: &mut [[f64; N]; N], mag: &[f64; N])
     ensures { j.new ≡ weigh_rows_of N j.old mag.now }
 {
@@ -165,6 +167,7 @@ impl Equations<3> for Cubic {
     }
 }
 
+// (The coefficients one by one, here and below, as in poly.rs and as C hands them in.)
 pub fn refine_cubic(b: f64, c: f64, d: f64, x0: [f64; 3]) -> [f64; 3]
     ensures { result ≡ refine_of 3 (cubic_system b c d) x0 }
 {
@@ -220,7 +223,7 @@ pub fn refine_quartic(b: f64, c: f64, d: f64, e: f64, x0: [f64; 4]) -> [f64; 4]
     refine(&Quartic { b, c, d, e }, x0)
 }
 
-// y^4 + b*y^3 + c*y^2 + d*y + e = (y - x0) * (y^3 + x1*y^2 + x2*y + x3)
+// y^4 + b*y^3 + c*y^2 + d*y + e = (y - x0) * (y^3 + x1*y^2 + x2*y + x3). (The coefficients of Quartic once more: the type says which system they stand in.)
 #[derive(Clone, Copy)]
 struct Peel {
     b: f64,
@@ -283,7 +286,7 @@ pub fn no_gain(fy: f64, nf: f64) -> bool
     abs(nf) >= abs(fy) || float::is_nan(nf)
 }
 
-// The cubic stands as [c0, c1, c2, c3, 0].
+// The cubic stands as [c0, c1, c2, c3, 0]. (A loop of its own beside those of critical and polish, whose steps have other tests.)
 pub fn newton_cubic(p: [f64; 5], y0: f64) -> f64
     ensures { result ≡ newton_cubic_of p y0 }
 {

@@ -1,5 +1,5 @@
 -- The refusals of documents 01 and 02, with the number that is said of each, and the two of the C functions alone. Definitions only.
-use Rattle.std.specs.Prelude.{ℕ, Result, Ok, Err}
+use Rattle.std.specs.Prelude.{ℕ, Option, Some, None, Result, Ok, Err}
 use Rattle.refusals.specs.declared.Refusal.{Refusal}
 use Rattle.refusals.specs.declared.Refusal.TheVariants.{NotFinite, TooFew, TooMany, NothingAsked, AnswerNotFinite, UnknownMark, Cut, CountTooLarge, FileTooLong}
 use Rattle.refusals.specs.declared.Refusal.TheVariants.{RecordNotFinite, NoRadius, MadeNotFinite, NotASum, DegreeTooHigh, CoefficientTooLarge, CutDouble}
@@ -46,54 +46,17 @@ abbrev pub outcome_of : {A : Type 0} → Result A Refusal → ℕ
 outcome_of (Ok x) = 0
 outcome_of (Err refusal) = number_of refusal
 
--- ---- each number by itself
-abbrev pub not_finite : ℕ
-not_finite = number_of NotFinite
+-- the same of a refusal that there may be
+abbrev pub number_in : Option Refusal → ℕ
+number_in None = 0
+number_in (Some refusal) = number_of refusal
 
-abbrev pub too_few : ℕ
-too_few = number_of TooFew
+-- what a function gives, and x where it refuses
+abbrev pub value_or : {A : Type 0} → A → Result A Refusal → A
+value_or x (Ok a) = a
+value_or x (Err refusal) = x
 
-abbrev pub too_many : ℕ
-too_many = number_of TooMany
-
-abbrev pub nothing_asked : ℕ
-nothing_asked = number_of NothingAsked
-
-abbrev pub answer_not_finite : ℕ
-answer_not_finite = number_of AnswerNotFinite
-
-abbrev pub unknown_mark : ℕ
-unknown_mark = number_of UnknownMark
-
-abbrev pub cut : ℕ
-cut = number_of Cut
-
-abbrev pub count_too_large : ℕ
-count_too_large = number_of CountTooLarge
-
-abbrev pub file_too_long : ℕ
-file_too_long = number_of FileTooLong
-
-abbrev pub record_not_finite : ℕ
-record_not_finite = number_of RecordNotFinite
-
-abbrev pub no_radius : ℕ
-no_radius = number_of NoRadius
-
-abbrev pub made_not_finite : ℕ
-made_not_finite = number_of MadeNotFinite
-
-abbrev pub notASum : ℕ
-notASum = number_of NotASum
-
-abbrev pub degree_too_high : ℕ
-degree_too_high = number_of DegreeTooHigh
-
-abbrev pub coefficient_too_large : ℕ
-coefficient_too_large = number_of CoefficientTooLarge
-
-abbrev pub cut_double : ℕ
-cut_double = number_of CutDouble
-
-abbrev pub text_too_long : ℕ
-text_too_long = number_of TextTooLong
+-- `?`: what is made of what a function gives, and its refusal where it refuses
+abbrev pub and_then : {A B : Type 0} → Result A Refusal → (A → Result B Refusal) → Result B Refusal
+and_then (Ok a) f = f a
+and_then (Err refusal) f = Err refusal

@@ -68,38 +68,3 @@ impl From<Refusal> for u32 {
         }
     }
 }
-
-// The same numbers, for the operations that say a number.
-pub const NOT_FINITE: u32 = 1;
-
-pub const TOO_FEW: u32 = 2;
-
-pub const TOO_MANY: u32 = 3;
-
-pub const NOTHING_ASKED: u32 = 4;
-
-pub const ANSWER_NOT_FINITE: u32 = 5;
-
-pub const UNKNOWN_MARK: u32 = 6;
-
-pub const CUT: u32 = 7;
-
-pub const COUNT_TOO_LARGE: u32 = 8;
-
-pub const FILE_TOO_LONG: u32 = 9;
-
-pub const RECORD_NOT_FINITE: u32 = 10;
-
-pub const NO_RADIUS: u32 = 11;
-
-pub const MADE_NOT_FINITE: u32 = 12;
-
-pub const NOT_A_SUM: u32 = 13;
-
-pub const DEGREE_TOO_HIGH: u32 = 14;
-
-pub const COEFFICIENT_TOO_LARGE: u32 = 15;
-
-pub const CUT_DOUBLE: u32 = 20;
-
-pub const TEXT_TOO_LONG: u32 = 21;

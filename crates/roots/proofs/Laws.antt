@@ -10,7 +10,7 @@ use lib.ListN.{length, drop, get_or, set, length-set}
 use lib.Seq.{length-take-le, take-append_seam}
 use Rattle.facts.specs.Arrays.{from_fn}
 use Rattle.facts.specs.Cond.{either_way}
-use Rattle.facts.specs.Lists.{of_four, length_snoc, left_cons, left_nil, take_pushed, length_padded, padded_push}
+use Rattle.facts.specs.Lists.{length_mapped, of_four, length_snoc, left_cons, left_nil, take_pushed, length_padded, padded_push}
 use Rattle.float.specs.Methods.{is_finite_of}
 use Rattle.roots.specs.declared.RealRoot.{RealRoot}
 use Rattle.roots.specs.declared.Roots.{Roots}
@@ -45,18 +45,28 @@ four_set {A} l d k r four h = of_four (λ (l : List A). four_with l d k r ≡ se
     go (suc (suc (suc (suc k)))) h a b c e = absurd (omega arith)
 
 module _ (s : Roots) (r : RealRoot) where
-  pub pushed_at : (k : ℕ) → length s.root ≡ 4 → k < 4 → s.len ≡ k → record { root = four_with s.root blank k r; len = k + 1 } ≡ pushed_of s r
+  pushed_at : (k : ℕ) → length s.root ≡ 4 → k < 4 → s.len ≡ k → record { root = four_with s.root blank k r; len = k + 1 } ≡ pushed_of s r
   unfolding pushed_of
   pushed_at k four h e = rw (e, lt-ltb k 4 h) (ap (λ (l : List RealRoot). record { root = l; len = k + 1 }) (four_set s.root blank k r four h))
 
-  -- the last place, as the search finds it for the code
-  pub pushed_last : length s.root ≡ 4 → s.len ≡ 3
-      → record { root = get_or s.root 0 blank ∷ get_or s.root 1 blank ∷ get_or s.root 2 blank ∷ r ∷ []; len = 4 } ≡ pushed_of s r
+  -- each place, as the search finds it for the code
+  pub pushed_first : length s.root ≡ 4 → s.len ≡ 0 → record { root = r ∷ get_or s.root 1 blank ∷ get_or s.root 2 blank ∷ get_or s.root 3 blank ∷ []; len = 1 } ≡ pushed_of s r
+  pushed_first four e = pushed_at 0 four (omega arith) e
+
+  pub pushed_second : length s.root ≡ 4 → s.len ≡ 1 → record { root = get_or s.root 0 blank ∷ r ∷ get_or s.root 2 blank ∷ get_or s.root 3 blank ∷ []; len = 2 } ≡ pushed_of s r
+  pushed_second four e = pushed_at 1 four (omega arith) e
+
+  pub pushed_third : length s.root ≡ 4 → s.len ≡ 2 → record { root = get_or s.root 0 blank ∷ get_or s.root 1 blank ∷ r ∷ get_or s.root 3 blank ∷ []; len = 3 } ≡ pushed_of s r
+  pushed_third four e = pushed_at 2 four (omega arith) e
+
+  pub pushed_last : length s.root ≡ 4 → s.len ≡ 3 → record { root = get_or s.root 0 blank ∷ get_or s.root 1 blank ∷ get_or s.root 2 blank ∷ r ∷ []; len = 4 } ≡ pushed_of s r
   pushed_last four e = pushed_at 3 four (omega arith) e
 
   pub pushed_not : 4 ≤ s.len → s ≡ pushed_of s r
   unfolding pushed_of
   pushed_not h = rw (le-ltb s.len 4 h)
+
+pub ruleset pushes = (length_mapped, pushed_first, pushed_second, pushed_third, pushed_last, pushed_not)
 
 pub pushed_fits : (s : Roots) (r : RealRoot) → Fits s → Fits (pushed_of s r)
 unfolding pushed_of
@@ -126,13 +136,25 @@ two_set (a ∷ []) k p e h = absurd (omega (arith, e))
 two_set (a ∷ b ∷ x ∷ l) k p e h = absurd (omega (arith, e))
 
 module _ (s : Pairs) (p : Pair) (finite : is_finite_of p.centre ≡ true) where
-  pub paired_at : (k : ℕ) → length s.pair ≡ 2 → k < 2 → s.len ≡ k → record { pair = two_with s.pair k p; len = k + 1 } ≡ paired_in s p
+  paired_at : (k : ℕ) → length s.pair ≡ 2 → k < 2 → s.len ≡ k → record { pair = two_with s.pair k p; len = k + 1 } ≡ paired_in s p
   unfolding paired_in
   paired_at k two h e = rw (finite, e, lt-ltb k 2 h) (ap (λ (l : List Pair). record { pair = l; len = k + 1 }) (two_set s.pair k p two h))
+
+  pub paired_first : length s.pair ≡ 2 → s.len ≡ 0 → record { pair = p ∷ get_or s.pair 1 blank_pair ∷ []; len = 1 } ≡ paired_in s p
+  paired_first two e = paired_at 0 two (omega arith) e
+
+  pub paired_second : length s.pair ≡ 2 → s.len ≡ 1 → record { pair = get_or s.pair 0 blank_pair ∷ p ∷ []; len = 2 } ≡ paired_in s p
+  paired_second two e = paired_at 1 two (omega arith) e
 
   pub paired_not : 2 ≤ s.len → s ≡ paired_in s p
   unfolding paired_in
   paired_not h = rw (finite, le-ltb s.len 2 h)
+
+pub paired_none : (s : Pairs) (p : Pair) → is_finite_of p.centre ≡ false → s ≡ paired_in s p
+unfolding paired_in
+paired_none s p f = rw f
+
+pub ruleset pairings = (length_mapped, paired_first, paired_second, paired_not, paired_none)
 
 pub paired_fits : (s : Pairs) (p : Pair) → PairsFit s → PairsFit (paired_in s p)
 unfolding paired_in

@@ -25,7 +25,8 @@ pub struct RealRoot {
     pub kind: RootKind,
 }
 
-// Candidates of poly.rs, and its list of at most four roots, in the order found. An array with a count, as Pairs is: both are passed by value.
+// Candidates of poly.rs, and its list of at most four roots, in the order found. (An array with a count, as document 01 names it; an ArrayVec is
+// not Copy, and an inquiry takes any len, which a bound here would refuse.)
 #[derive(Clone, Copy)]
 pub struct Roots {
     pub root: [RealRoot; 4],
@@ -39,6 +40,7 @@ pub struct Pair {
     pub half: f64,
 }
 
+// As Roots.
 #[derive(Clone, Copy)]
 pub struct Pairs {
     pub pair: [Pair; 2],
@@ -110,7 +112,7 @@ impl Roots {
     }
 
     // Each place by its number: the compiler then keeps the roots in registers, where a place that is counted would put them into memory.
-    #[tactic(auto, using(crate::proofs::Laws::pushed_last, facts::specs::Lists::length_mapped))]
+    #[tactic(auto, using(crate::proofs::Laws::pushes))]
     pub fn push(self, r: RealRoot) -> Roots
         ensures { result ≡ pushed_of self r }
     {
@@ -184,6 +186,7 @@ impl Pairs {
     }
 
     // One more, where its centre is finite and there is room.
+    #[tactic(auto, using(crate::proofs::Laws::pairings))]
     pub fn push(self, centre: f64, half: f64) -> Pairs
         ensures { result ≡ paired_in self (pair centre half) }
     {

@@ -10,6 +10,8 @@ use lib.Dec.{T}
 use lib.Pow.{pow_pos}
 use lib.IntN.{ℤ, pos, ◌+ℤ◌, ◌-ℤ◌, nat_abs}
 use lib.Signed.{◌≤ℤ◌}
+use mir.Syntax.{w32}
+use mir.Val.{to_z, of_z}
 use lib.ListN.{get_or}
 use lib.Ieee.{Float, nan}
 use lib.Ieee.Bits.{is_true, is_false}
@@ -18,12 +20,17 @@ use Rattle.algebra.specs.NatOrder.{le_or_lt}
 use Rattle.algebra.specs.IntOrder.{≤ℤ_add, nat_abs_pos_sub}
 use Rattle.facts.specs.Cond.{both_hold, first_fails, either_way}
 use Rattle.float.specs.Units.{units_of}
+use Rattle.std.specs.Prelude.{Some}
 use Rattle.decode.specs.Exponent.{regular_of}
+use Rattle.decode.specs.Shape.{Decoded}
+use Rattle.decode.specs.declared.digits.Digits.{Digits}
+use Rattle.decode.proofs.Class.{decoded_irregular, decoded_regular, decoded_normal}
 use Rattle.nearest.specs.Greatest.{greatest}
 use Rattle.nearest.proofs.Search.{found}
 use Rattle.nearest.proofs.ByTest.{Monotone, apart}
 use Rattle.scaled.specs.Exponent.{held_at, held_below, candidate, too_small, scale_exponent_of, Least}
 use Rattle.scaled.proofs.Held.{held, not_held, one_held_more, held_more}
+use Rattle.scaled.proofs.Signed.{less}
 
 -- ---- the candidates rise
 pub rising : (k k' : ℕ) → k ≤ k' → candidate k ≤ℤ candidate k'
@@ -83,7 +90,7 @@ module _ (a : List Float) (d n k r w z : ℕ) (N : w * 2 ^ z ≡ units_of (get_o
   next {s} = subst (λ (m : ℕ). Best a d m s) (let e : suc n ≡ n + 1 = omega arith in e)
 
   -- it needs more than the others
-  pub best_raised : (s : ℕ) → s ≡ r → k < r → Best a d (n + 1) s
+  best_raised : (s : ℕ) → s ≡ r → k < r → Best a d (n + 1) s
   unfolding held_below
   best_raised s q l =
       subst (λ (t : ℕ). Best a d (n + 1) t) (sym q)
@@ -95,7 +102,7 @@ module _ (a : List Float) (d n k r w z : ℕ) (N : w * 2 ^ z ≡ units_of (get_o
       }))
 
   -- it does not
-  pub best_kept : (s : ℕ) → s ≡ k → r ≤ k → Best a d (n + 1) s
+  best_kept : (s : ℕ) → s ≡ k → r ≤ k → Best a d (n + 1) s
   unfolding held_below
   best_kept s q l =
       subst (λ (t : ℕ). Best a d (n + 1) t) (sym q)
@@ -107,8 +114,14 @@ module _ (a : List Float) (d n k r w z : ℕ) (N : w * 2 ^ z ≡ units_of (get_o
       }))
 
   -- whichever it does
-  pub best_more : (s : ℕ) → (k < r → s ≡ r) → (r ≤ k → s ≡ k) → Best a d (n + 1) s
-  best_more s p q = ⊎_elim (λ l. best_kept s (q l) l) (λ l. best_raised s (p l) l) (le_or_lt r k)
+  either : (s : ℕ) → (k < r → s ≡ r) → (r ≤ k → s ≡ k) → Best a d (n + 1) s
+  either s p q = ⊎_elim (λ l. best_kept s (q l) l) (λ l. best_raised s (p l) l) (le_or_lt r k)
+
+-- s is the larger of the two, whatever function gives it
+pub best_more : (a : List Float) (d n k r : ℕ) (lead : Digits) → Decoded (get_or a d nan) (Some lead)
+    → Least (lead.w * 2 ^ lead.k) (units_of (get_or a n nan) * 2 ^ 52) (d - n) r → Best a d n k
+    → (s : ℕ) → (k < r → s ≡ r) → (r ≤ k → s ≡ k) → Best a d (n + 1) s
+best_more a d n k r lead D L B = either a d n k r lead.w lead.k (decoded_normal _ _ D).value L B
 
 -- ---- the definition's e
 pub exponent_is : (a : List Float) (d : ℕ) → scale_exponent_of a d
@@ -163,8 +176,9 @@ module _ (a : List Float) (d n k : ℕ) (R : regular_of (get_or a d nan) ≡ tru
   pub exponent_none : k ≡ 0 → pos 0 ≡ scale_exponent_of a d
   exponent_none z = rw (exponent_is, R, is_false (too_small a d 0) (subst (λ (m : ℕ). T (not (too_small a d m))) z (large k all.holds)))
 
-  pub exponent_some : (k ≡ 0 → ⊥) → candidate k ≡ scale_exponent_of a d
-  exponent_some z = go k all (λ (h : 0 ≡ k). z (sym h))
+  -- as the machine computes it
+  pub exponent_some : (k ≡ 0 → ⊥) → scale_exponent_of a d ≡ to_z w32 (of_z w32 (to_z w32 k -ℤ pos 2098))
+  exponent_some z = sym (less k all.bound ∙ go k all (λ (h : 0 ≡ k). z (sym h)))
     where
       go : (k : ℕ) → Best a d d k → (0 ≡ k → ⊥) → candidate k ≡ scale_exponent_of a d
       go zero A z = absurd (z refl)
@@ -174,3 +188,6 @@ module _ (a : List Float) (d n k : ℕ) (R : regular_of (get_or a d nan) ≡ tru
           let top = large (2 ^ 13) (held_more a d (candidate (suc m)) (candidate (2 ^ 13)) d (rising (suc m) (2 ^ 13) (omega (arith, A.bound))) A.holds) in
           rw (exponent_is, R, is_true (too_small a d 0) first) (ap (λ (x : ℕ). candidate (suc x))
           (sym (one_above (too_small a d) (falling a d) m first top low (large (suc m) A.holds))))
+
+-- What the function's proof rests on.
+pub ruleset best = (decoded_irregular, decoded_regular, decoded_normal, best_none, exponent_irregular, exponent_none)

@@ -12,7 +12,7 @@ use Rattle.algebra.specs.NatOrder.{pow2_join}
 use Rattle.float.specs.Units.{units_of}
 use Rattle.std.specs.Prelude.{Some, None}
 use Rattle.decode.specs.Shape.{Normal, Decoded}
-use Rattle.decode.specs.declared.Digits.{Digits}
+use Rattle.decode.specs.declared.digits.Digits.{Digits}
 use Rattle.decode.proofs.Class.{decoded_irregular, decoded_normal, irregular_units}
 use Rattle.scaled.specs.Exponent.{Least}
 
@@ -96,7 +96,13 @@ reach_none x top j D =
     subst (λ (n : ℕ). Least top (n * 2 ^ 52) j 0) (sym (irregular_units x (decoded_irregular x D)))
     (record { holds = le_trans (le_of_eq (zero-mul (2 ^ (2098 * j)))) zero-le; least = λ p. absurd (lt_irrefl 0 p); bound = omega arith })
 
-module _ (x : Float) (w k : ℕ) (n : Digits) (j : ℕ) (D : Decoded x (Some n)) (W : (2 ^ 52 ≤ w) × (w < 2 ^ 53)) (K : k < 2098) (J : 0 < j) where
+module _ (x : Float) (lead n : Digits) (j : ℕ) (D : Decoded x (Some n)) (J : 0 < j) where
+  abbrev w : ℕ
+  w = lead.w
+
+  abbrev k : ℕ
+  k = lead.k
+
   abbrev w' : ℕ
   w' = n.w
 
@@ -107,7 +113,7 @@ module _ (x : Float) (w k : ℕ) (n : Digits) (j : ℕ) (D : Decoded x (Some n))
   N = decoded_normal x n D
 
   pub reach_same : w' ≤ w → Least (w * 2 ^ k) (units_of x * 2 ^ 52) j ((k' + 2098 * j - k + (j - 1)) / j)
-  reach_same h = subst (λ (u : ℕ). Least (w * 2 ^ k) u j ((k' + 2098 * j - k + (j - 1)) / j)) N.value (same w k w' k' j J K N.reach W.1 N.led h)
+  reach_same h = subst (λ (u : ℕ). Least (w * 2 ^ k) u j ((k' + 2098 * j - k + (j - 1)) / j)) N.value (same w k w' k' j J lead.reach N.reach lead.short N.led h)
 
   pub reach_more : w < w' → Least (w * 2 ^ k) (units_of x * 2 ^ 52) j ((k' + 2098 * j - k + j) / j)
-  reach_more h = subst (λ (u : ℕ). Least (w * 2 ^ k) u j ((k' + 2098 * j - k + j) / j)) N.value (more w k w' k' j J K N.reach W.0 N.short h)
+  reach_more h = subst (λ (u : ℕ). Least (w * 2 ^ k) u j ((k' + 2098 * j - k + j) / j)) N.value (more w k w' k' j J lead.reach N.reach lead.led N.short h)

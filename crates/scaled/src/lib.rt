@@ -36,9 +36,8 @@ struct Shift {
 
 // e + 2098 for one coefficient x alone, j places below the leading one: t says how far apart the exponents are, and a comparison of the digits whether one more
 // is needed. An x without digits, as a zero, needs nothing.
+#[tactic(auto, using(crate::proofs::Needed::reach_none, decode::proofs::Class::decoded_normal))]
 fn reach(lead: Digits, x: f64, j: u64) -> u64
-    requires w_in_range { (2 ^ 52 ≤ lead.w) × (lead.w < 2 ^ 53) }
-    requires k_high { lead.k < 2098 }
     requires j_in_range { (0 < j) × (j ≤ 4) }
     ensures { Least (lead.w * 2 ^ lead.k) (units_of x * 2 ^ 52) j result }
 {
@@ -53,6 +52,7 @@ fn reach(lead: Digits, x: f64, j: u64) -> u64
 }
 
 // e: the largest that one of the coefficients below the leading one needs.
+#[tactic(auto, using(crate::proofs::Best::best))]
 pub fn scale_exponent(p: Polynomial) -> i32
     ensures { result ≡ scale_exponent_of p.f p.d }
 {
@@ -70,6 +70,7 @@ pub fn scale_exponent(p: Polynomial) -> i32
 }
 
 // The leading coefficient x has this exponent in y.
+#[tactic(auto, using(crate::proofs::Signed::sum, crate::proofs::Digits::exponent_small))]
 fn top_of(x: f64, e: i32, d: usize) -> i32
     requires e_size { nat_abs e ≤ 2 ^ 13 }
     requires d_high { d ≤ 4 }
@@ -79,6 +80,7 @@ fn top_of(x: f64, e: i32, d: usize) -> i32
 }
 
 impl Shift {
+    #[tactic(auto, using(crate::proofs::Signed::difference), unfolding(crate::specs::Scaled::shift_of))]
     fn at(self, i: usize) -> i32
         requires { i ≤ 4 }
         ensures { result ≡ shift_of self.e self.top i }
@@ -86,6 +88,7 @@ impl Shift {
         self.e * i as i32 - self.top
     }
 
+    #[tactic(auto, using(crate::proofs::Signed::read), unfolding(crate::specs::Scaled::coefficient_of))]
     fn coefficient(self, a: [f64; 5], i: usize) -> f64
         ensures { result ≡ coefficient_of a self.d self.e self.top i }
     {
@@ -95,32 +98,36 @@ impl Shift {
         0.0
     }
 
+    #[tactic(auto, using(float::proofs::Made::made_by), unfolding(crate::specs::Scaled::coefficients_of))]
     fn coefficients(self, a: [f64; 5]) -> [f64; 5]
         ensures { result ≡ coefficients_of a self.d self.e self.top }
     {
         std::array::from_fn(|i| self.coefficient(a, i))
     }
 
+    #[tactic(auto, using(crate::proofs::Signed::read, crate::proofs::Built::no_log), unfolding(crate::specs::Scaled::log_size_of))]
     fn log_size(self, l: f64, i: usize) -> f64
         ensures { result ≡ log_size_of l self.d self.e self.top i }
     {
         if i <= self.d {
             return l + self.at(i) as f64;
         }
-        -float::infinity()
+        f64::NEG_INFINITY
     }
 
+    #[tactic(auto, using(crate::proofs::Built::no_logs))]
     fn log_sizes(self, a: [f64; 5]) -> [f64; 5]
         ensures { result ≡ log_sizes_of a self.d self.e self.top }
     {
         if self.d < 3 {
-            return [-float::infinity(); 5];
+            return [f64::NEG_INFINITY; 5];
         }
         let l = log2::log2_five(sizes(a));
         std::array::from_fn(|i| self.log_size(l[i], i))
     }
 }
 
+#[tactic(auto, unfolding(crate::specs::Scaled::monic_at))]
 fn monic_at(p: Polynomial, i: usize) -> f64
     ensures { result ≡ monic_at p.f p.d i }
 {
@@ -133,16 +140,18 @@ fn monic_at(p: Polynomial, i: usize) -> f64
     0.0
 }
 
+#[tactic(auto, using(float::proofs::Made::made_by), unfolding(crate::specs::Scaled::monic_of))]
 fn monic(p: Polynomial) -> [f64; 5]
     ensures { result ≡ monic_of p.f p.d }
 {
     std::array::from_fn(|i| monic_at(p, i))
 }
 
+#[tactic(auto, unfolding(crate::specs::Scaled::sizes_of))]
 fn sizes(a: [f64; 5]) -> [f64; 5]
     ensures { result ≡ sizes_of a }
 {
-    std::array::from_fn(|i| float::abs(a[i]))
+    a.map(float::abs)
 }
 
 impl Scaled {
@@ -156,6 +165,7 @@ impl Scaled {
     }
 
     // With the logarithms that a list of degree l has: below 3 it has none.
+    #[tactic(auto, using(crate::proofs::Built::built), unfolding(crate::specs::Scaled::scaled_of, crate::specs::Scaled::with_logs_of))]
     pub fn with_logs(p: Polynomial, l: usize) -> Scaled
         requires { l ≤ 4 }
         ensures { result ≡ with_logs_of p.f p.d l }
@@ -180,6 +190,7 @@ impl Scaled {
         }
     }
 
+    #[tactic(auto, unfolding(crate::specs::Scaled::scaled_of, crate::specs::Scaled::with_logs_of))]
     pub fn new(p: Polynomial) -> Scaled
         ensures { result ≡ scaled_of p.f p.d }
     {

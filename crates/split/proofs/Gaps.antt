@@ -26,9 +26,9 @@ module _ (lg : List Float) (at : List ℕ) (k : ℕ) (P : 0 < k) (lo hi : Float)
   unfolding split_from
   step = let e : k ≡ suc (k - 1) = omega arith in ap (λ (n : ℕ). split_from lg at n) e ∙ rw (L, H)
 
-  pub gap_found : (t : Float) → t ≡ exp2_of (mul binary64 half64 (add binary64 lo hi)) → lt eight64 (sub binary64 hi lo) ≡ true
-      → Some (record { small = get_or at (k - 1 + 1) 0; threshold = t }) ≡ split_from lg at k
-  gap_found t T q = rw (step, q, T)
+  pub gap_found : lt eight64 (sub binary64 hi lo) ≡ true
+      → split_from lg at k ≡ Some (record { small = get_or at (k - 1 + 1) 0; threshold = exp2_of (mul binary64 half64 (add binary64 lo hi)) })
+  gap_found q = rw (step, q)
 
   pub gap_next : lt eight64 (sub binary64 hi lo) ≡ false → split_from lg at k ≡ split_from lg at (k - 1)
   gap_next q = rw (step, q)
@@ -76,3 +76,6 @@ split_inside lg d D = ⊎_elim (λ l. some l) (λ l. none l) (le_or_lt 2 (hull_o
 pub inside_up : (d n : ℕ) (s : Option Gap) → Inside d s → d ≤ n → Inside n s
 inside_up d n (Some gap) h l = (h.0, omega (arith, h.1))
 inside_up d n None h l = tt
+
+-- What the search's proof rests on.
+pub ruleset gaps = (seek_start, seek_rising, gap_found, gap_next, no_edge)

@@ -10,12 +10,12 @@ use lib.ListN.{get_or, set, length-set}
 use lib.Seq.{get_or-set_same, get_or-set_other}
 use lib.Ieee.{Float, nan}
 use Rattle.algebra.specs.NatOrder.{le_or_lt}
-use Rattle.facts.specs.Count.{count_up, up_turn}
+use Rattle.facts.specs.Count.{count_up, up_turn, up_end}
 use Rattle.facts.specs.Cond.{either_way}
 use Rattle.float.specs.Methods.{is_finite_of}
 use Rattle.split.specs.declared.Hull.{Hull}
 use Rattle.split.specs.Hull.{popped_of, hull_step, no_hull, hull_of, Rising}
-use Rattle.split.proofs.Dropped.{popped_le}
+use Rattle.split.proofs.Dropped.{pop_go, pop_stop, pop_end, popped_le}
 
 -- ---- two points one after the other
 pub neighbours : (n : ℕ) (s : Hull) → Rising n s → (k : ℕ) → k + 1 < s.h → (get_or s.at k 0 ≤ get_or s.at (k + 1) 0) × (get_or s.at (k + 1) 0 < n)
@@ -87,18 +87,20 @@ hull_rising lg d D = go (d + 1) no_hull (subst (λ (i : ℕ). Rising i no_hull) 
         (omega arith)
 
 -- ---- the two ways of a turn
-module _ (lg : List Float) (i : ℕ) (s r : Hull) where
-  pub step_in : (k : ℕ) → k ≡ popped_of lg s.at i s.h → is_finite_of (get_or lg i nan) ≡ true → r ≡ record { at = set s.at k i; h = k + 1 }
-      → r ≡ hull_step lg i s
+module _ (lg : List Float) (i : ℕ) (s : Hull) where
+  pub step_in : is_finite_of (get_or lg i nan) ≡ true
+      → hull_step lg i s ≡ record { at = set s.at (popped_of lg s.at i s.h) i; h = popped_of lg s.at i s.h + 1 }
   unfolding hull_step
-  step_in k e f p = rw (f, p, e)
+  step_in f = rw f
 
-  pub step_out : is_finite_of (get_or lg i nan) ≡ false → r ≡ s → r ≡ hull_step lg i s
+  pub step_out : is_finite_of (get_or lg i nan) ≡ false → hull_step lg i s ≡ s
   unfolding hull_step
-  step_out f p = rw (f, p)
+  step_out f = rw f
 
--- ---- a turn of the loop: what is left after it gives the whole
-pub turned : (lg : List Float) (d i : ℕ) (s r : Hull) → i < d + 1 → d ≤ 4 → r ≡ hull_step lg i s → Rising i s
-    → count_up (d + 1) (hull_step lg) (d + 1 - i) s ≡ hull_of lg d
-    → Rising (i + 1) r × (count_up (d + 1) (hull_step lg) (d + 1 - (i + 1)) r ≡ hull_of lg d)
-turned lg d i s r l D e R h = (step_rising lg i s r (omega arith) e R, rw e (sym (up_turn (d + 1) (hull_step lg) i s l) ∙ h))
+  pub turn_rising : i ≤ 4 → Rising i s → Rising (i + 1) (hull_step lg i s)
+  turn_rising l R = step_rising lg i s (hull_step lg i s) l refl R
+
+-- What the proofs of the hull's functions rest on.
+pub ruleset dropped = (pop_go, pop_stop, pop_end, last_two)
+
+pub ruleset hulls = (up_turn, up_end, none_rising, step_in, step_out, turn_rising)

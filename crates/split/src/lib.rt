@@ -20,19 +20,12 @@ pub struct Gap {
     pub threshold: f64,
 }
 
-// b - a, from a table: a `match` on constants is compiled to read-only data.
 fn width(a: usize, b: usize) -> f64
     requires a_high { a ≤ b }
     requires b_high { b ≤ 4 }
     ensures { result ≡ width_of a b }
 {
-    match b - a {
-        0 => 0.0,
-        1 => 1.0,
-        2 => 2.0,
-        3 => 3.0,
-        _ => 4.0,
-    }
+    (b - a) as f64
 }
 
 // At least 0 where the point b lies on or below the line from a to i.
@@ -48,12 +41,14 @@ fn cross(lg: &[f64; 5], a: usize, b: usize, i: usize) -> f64
 
 impl Hull {
     // How many points stay once those that do not stand above the line to i are dropped.
+    #[tactic(auto, using(crate::proofs::Rises::dropped))]
     fn popped(&self, lg: &[f64; 5], i: usize) -> usize
         requires rising { Rising i self.now }
         requires i_high { i ≤ 4 }
         ensures { (result ≡ popped_of lg.now self.now.at i self.now.h) × (result ≤ self.now.h) }
     {
         let mut k = self.h;
+        // A while: how many points are dropped is read off the points.
         while 2 <= k && cross(lg, self.at[k - 2], self.at[k - 1], i) >= 0.0 {
             k -= 1;
         }
@@ -73,6 +68,7 @@ impl Hull {
     }
 }
 
+#[tactic(auto, using(crate::proofs::Rises::hulls), unfolding(crate::specs::Hull::hull_of))]
 pub fn upper_hull(lg: [f64; 5], d: usize) -> Hull
     requires { d ≤ 4 }
     ensures { result ≡ hull_of lg d }
@@ -100,6 +96,7 @@ fn exp2(x: f64) -> f64
     }
 }
 
+#[tactic(auto, using(crate::proofs::Gaps::gaps))]
 pub fn magnitude_split(lg: [f64; 5], d: usize) -> Option<Gap>
     requires { d ≤ 4 }
     ensures { result ≡ magnitude_split_of lg d }

@@ -6,7 +6,7 @@ use Rattle.std.specs.Prelude.{swap, None, Some}
 use Prim.Native.Nat.{ℕ, suc, ◌+◌, ◌-◌, ◌≤◌, ◌<◌}
 use native.Mathlib.Omega.{arith}
 use native.Mathlib.Nat.{sub-zero}
-use lib.ListN.{length, get_or}
+use lib.ListN.{length, get_or, length-set}
 use lib.Ieee.{Float, nan, lt, le}
 use Rattle.std.proofs.lemmas.List.{get_or_default, length-replicate}
 use Rattle.facts.specs.Cond.{either_way}
@@ -55,7 +55,7 @@ unfolding solve_from
 solve_end n least col s h = let e : n - col ≡ 0 = omega arith in ap (λ (k : ℕ). solve_from n least k s) e
 
 -- What the functions' proofs rest on: the laws, and the definitions.
-pub ruleset laws = (sub-zero, length-replicate, up_turn, up_end, down_turn, down_end, larger_below, swap_is, solve_stop, solve_go, solve_end)
+pub ruleset laws = (sub-zero, length-set, length-replicate, up_turn, up_end, down_turn, down_end, larger_below, swap_is, solve_stop, solve_go, solve_end)
 
 unfoldable pub definitions : ℕ
 unfolding size_sum_of scale_of least_pivot_of larger_of pivot_of lose_of remainder_of substitute_step substitute_of reduce_step reduce_of solve_square_of

@@ -4,9 +4,6 @@
 ghost use Rattle.std.specs.Prelude.{◌≡◌, ◌<◌, ◌≤◌, length};
 ghost use Rattle.square.specs.Square.{size_sum_of, least_pivot_of, larger_of, pivot_of, lines, lose_of, remainder_of, substitute_of, solve_square_of};
 
-// 2^-1022
-const MIN_POSITIVE: f64 = 2.2250738585072014e-308;
-
 // The sum of the sizes of l's numbers, on top of acc.
 pub fn sizes(l: &[f64], acc: f64) -> f64
     ensures { result ≡ size_sum_of l.now acc }
@@ -26,10 +23,11 @@ fn least<const N: usize>(m: &[[f64; N]; N], tol: f64) -> f64
     for row in m {
         scale = sizes(row, scale);
     }
-    tol * float::max(scale, MIN_POSITIVE)
+    tol * float::max(scale, f64::MIN_POSITIVE)
 }
 
-// The row, i or j, whose entry is larger in size, j where neither is.
+// The row, i or j, whose entry is larger in size, j where neither is. (By hand: max_by takes the last of equals and an order of all doubles; here the first
+// of equals stands, and a NaN never replaces it.)
 fn larger(i: usize, a: f64, j: usize, b: f64) -> usize
     ensures { result ≡ larger_of i a j b }
 {

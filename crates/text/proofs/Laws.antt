@@ -6,7 +6,8 @@ use native.Mathlib.Numerals.{add-one}
 use native.Mathlib.Omega.{arith}
 use lib.ListN.{length, take, get_or, set, length-append}
 use lib.Seq.{sets, take-suc, take_all, length-sets}
-use Rattle.text.specs.Written.{Written}
+use Rattle.text.specs.declared.Text.{Text}
+use Rattle.text.specs.Written.{holding, Written}
 
 pub sets_append : (l : List ℕ) (at : ℕ) (s t : List ℕ) → sets (sets l at s) (at + length s) t ≡ sets l at (s ++ t)
 sets_append l at [] t =
@@ -16,29 +17,31 @@ sets_append l at (a ∷ s) t =
     let e : at + suc (length s) ≡ suc at + length s = omega arith in
     ap (λ (k : ℕ). sets (sets (set l at a) (suc at) s) k t) e ∙ sets_append (set l at a) (suc at) s t
 
-pub written_length : {a b : List ℕ} {at k : ℕ} {t : List ℕ} → Written a at t b k → length b ≡ length a
-written_length {a} {b} {at} {k} {t} w = ap length w.bytes ∙ length-sets a at t
+pub written_length : {a b : Text} {t : List ℕ} → Written a t b → length b.out.now ≡ length a.out.now
+written_length {a} {b} {t} w = ap (λ o. length o.now) w.bytes ∙ length-sets a.out.now a.at t
 
-pub written_none : (a : List ℕ) (at : ℕ) → Written a at [] a at
-written_none a at = record { bytes = refl; place = omega arith }
+pub written_none : (a : Text) → Written a [] a
+written_none a = record { bytes = refl; place = omega arith }
 
 -- Nested to the right, `written_then p (written_then q r)` says the text s ++ (t ++ u) as a definition has it.
-pub written_then : {a b c : List ℕ} {at j k : ℕ} {s t : List ℕ} → Written a at s b j → Written b j t c k → Written a at (s ++ t) c k
-written_then {a} {b} {c} {at} {j} {k} {s} {t} p q =
+pub written_then : {a b c : Text} {s t : List ℕ} → Written a s b → Written b t c → Written a (s ++ t) c
+written_then {a} {b} {c} {s} {t} p q =
     record {
-      bytes = q.bytes ∙ ap (λ (l : List ℕ). sets l j t) p.bytes ∙ ap (λ (i : ℕ). sets (sets a at s) i t) p.place ∙ sets_append a at s t;
+      bytes = q.bytes
+          ∙ ap (λ o. holding o (sets o.now b.at t)) p.bytes
+          ∙ ap (λ (i : ℕ). holding a.out (sets (sets a.out.now a.at s) i t)) p.place
+          ∙ ap (holding a.out) (sets_append a.out.now a.at s t);
       place = omega (arith, p.place, q.place, length-append s t);
     }
 
-pub written_as : {a b : List ℕ} {at k : ℕ} {s t : List ℕ} → s ≡ t → Written a at s b k → Written a at t b k
-written_as {a} {b} {at} {k} e w = subst (λ (t : List ℕ). Written a at t b k) e w
+pub written_as : {a b : Text} {s t : List ℕ} → s ≡ t → Written a s b → Written a t b
+written_as {a} {b} e w = subst (λ (t : List ℕ). Written a t b) e w
 
 -- one byte more of s
-pub written_next : {a b c : List ℕ} {at j k : ℕ} (s : List ℕ) (i : ℕ) → i < length s → Written a at (take i s) b j
-    → Written b j (get_or s i 0 ∷ []) c k → Written a at (take (i + 1) s) c k
+pub written_next : {a b c : Text} (s : List ℕ) (i : ℕ) → i < length s → Written a (take i s) b → Written b (get_or s i 0 ∷ []) c → Written a (take (i + 1) s) c
 written_next s i h p q = written_as (rw (add-one, take-suc s i 0)) (written_then p q)
 
-pub written_all : {a b : List ℕ} {at k : ℕ} (s : List ℕ) (i : ℕ) → length s ≤ i → Written a at (take i s) b k → Written a at s b k
+pub written_all : {a b : Text} (s : List ℕ) (i : ℕ) → length s ≤ i → Written a (take i s) b → Written a s b
 written_all s i h w = written_as (take_all i s h) w
 
 -- ---- the texts of a list's elements, one after another
@@ -55,14 +58,13 @@ module _ {A : Type 0} where
       rw (add-one, take-suc xs i d)
       (ap (λ (l : List ℕ). flat_map f (take i xs) ++ l) (sym (append-nil (f (get_or xs i d)))) ∙ sym (flat_append f (take i xs) (get_or xs i d ∷ [])))
 
-  pub flat_none : (f : A → List ℕ) (a : List ℕ) (at : ℕ) (xs : List A) → Written a at (flat_map f (take 0 xs)) a at
+  pub flat_none : (f : A → List ℕ) (a : Text) (xs : List A) → Written a (flat_map f (take 0 xs)) a
   unfolding flat_map
-  flat_none f a at xs = written_none a at
+  flat_none f a xs = written_none a
 
-  pub written_flat : {a b c : List ℕ} {at j k : ℕ} (f : A → List ℕ) (xs : List A) (i : ℕ) (d : A) → i < length xs
-      → Written a at (flat_map f (take i xs)) b j → Written b j (f (get_or xs i d)) c k → Written a at (flat_map f (take (i + 1) xs)) c k
+  pub written_flat : {a b c : Text} (f : A → List ℕ) (xs : List A) (i : ℕ) (d : A) → i < length xs
+      → Written a (flat_map f (take i xs)) b → Written b (f (get_or xs i d)) c → Written a (flat_map f (take (i + 1) xs)) c
   written_flat f xs i d h p q = written_as (flat_next f xs i d h) (written_then p q)
 
-  pub flat_all : {a b : List ℕ} {at k : ℕ} (f : A → List ℕ) (xs : List A) (i : ℕ) → length xs ≤ i → Written a at (flat_map f (take i xs)) b k
-      → Written a at (flat_map f xs) b k
+  pub flat_all : {a b : Text} (f : A → List ℕ) (xs : List A) (i : ℕ) → length xs ≤ i → Written a (flat_map f (take i xs)) b → Written a (flat_map f xs) b
   flat_all f xs i h w = written_as (ap (flat_map f) (take_all i xs h)) w

@@ -36,8 +36,8 @@ use Rattle.touching.specs.declared.Links.{Links}
 use Rattle.touching.specs.declared.Chain.{Chain}
 use Rattle.touching.specs.Touching.{touches_at, pair_order, reach_of, apart_by, all_apart, apart_of, pair_item, pair_at, pair_turn, ordered, no_chain}
 use Rattle.touching.specs.Touching.{double_of, opened_by, extended_by, contact_of, emitted, parted, link_at, item_turn, chained, touching}
-use Rattle.touching.specs.Walk.{walk_at, links_at, chain_of, at_hand, PairAdds}
-use Rattle.touching.proofs.Lists.{pushed_more, pairs_none, pairs_one, pairs_two}
+use Rattle.touching.specs.Walk.{walk_at, links_at, chain_of, at_hand, Tidy, PairAdds}
+use Rattle.touching.proofs.Lists.{tidy_more, reply_cons, reply_nil, pushed_more, pairs_none, pairs_one, pairs_two}
 
 -- ---- stages
 module _ {A : Type 0} where
@@ -125,6 +125,10 @@ module _ (poly : Scaled) (tol : Float) (rs : List Bool) (its : List RealRoot) wh
   unfolding pair_turn
   pair_step p reach f e h = rw (h, e)
 
+  pub pair_passed : (p : Pair) (reach : Float) → reach ≡ reach_of p.centre p.half its
+      → None ≡ extremum_of poly p.centre (sub binary64 p.centre reach) (add binary64 p.centre reach) tol → ended its rs ≡ walked rs (pair_turn poly tol its p)
+  pair_passed p reach e h = pair_nowhere ∙ pair_step p reach None e h
+
 at_most_two : (b : Bool) → cond b 2 0 ≤ 2
 at_most_two true = omega arith
 at_most_two false = omega arith
@@ -140,6 +144,13 @@ pair_added s s' y r reply fits room e er =
     ∙ sum_snoc (λ (r : RealRoot). r.multiplicity) (list_of s) r in
     let two : r.multiplicity ≤ 2 = rw er (at_most_two reply) in
     (list ∙ ap (λ (x : RealRoot). list_of s ++ x ∷ []) er, (rw e grown.1, omega arith, omega arith))
+
+pub pair_more : (poly : Scaled) (tol : Float) (rs left : List Bool) (s s' : Roots) (y : Float) (r : RealRoot) (reply : Bool) → Fits s → s.len < 4
+    → all_apart (apart_of poly tol y) y (list_of s) ≡ true → ended reply left ≡ walked rs (touches_at poly.e y) → s' ≡ pushed_of s r → r ≡ pair_item y reply
+    → (ended (list_of s') left ≡ walked rs (pair_at poly tol (list_of s) (Some y))) × PairAdds s s'
+pair_more poly tol rs left s s' y r reply fits room far h e er =
+    let more = pair_added s s' y r reply fits room e er in
+    (ap (λ (l : List RealRoot). ended l left) more.0 ∙ pair_heard poly tol rs (list_of s) y reply left far h, more.1)
 
 -- ---- pairs: in their order
 pub order_short : (q : Pair) (ps : Pairs) → PairsFit ps → (ps.len ≡ 2 → ⊥)
@@ -192,6 +203,15 @@ module _ (e : ℤ) (out : List RealRoot) (c : Chain) where
   unfolding emitted
   emit_root y x n h g f = simp (ne_eqb _ _ n, sym h, sym g, f)
 
+pub emit_more : (e : ℤ) (s s' : Roots) (o : Option Chain) (c : Chain) (y x : Float) → Tidy s → s.len + at_hand o ≤ 4 → at_hand o ≤ (chain_of o).mult → o ≡ Some c
+    → y ≡ contact_of c → x ≡ unscaled_of e y → is_finite_of x ≡ true → s' ≡ pushed_of s (record { value = x; multiplicity = c.mult; kind = c.kind })
+    → (list_of s' ≡ emitted e (list_of s) (chain_of o)) × Tidy s' × (s'.len ≤ s.len + at_hand o)
+emit_more e s s' o c y x t room counted i h g f is =
+    let hand = at_hand_is o c i in
+    let some : c.mult ≡ 0 → ⊥ = omega (arith, counted, hand.1, ap (λ (k : Chain). k.mult) hand.0) in
+    let more = tidy_more s (record { value = x; multiplicity = c.mult; kind = c.kind }) t (omega (arith, room, hand.1)) in
+    rw is (more.0 ∙ emit_root e (list_of s) c y x some h g f ∙ sym (ap (emitted e (list_of s)) hand.0), more.1, omega (arith, hand.1, more.2))
+
 -- ---- link_at
 module _ (e : ℤ) (rs : List Bool) (out : List RealRoot) (c : Chain) (it : RealRoot) where
   abbrev link_by : Float → Bool → Asking (Chain × List RealRoot)
@@ -241,6 +261,11 @@ module _ (poly : Scaled) (tol : Float) (rs : List Bool) (out : List RealRoot) (c
   unfolding item_turn
   item_link f n m g = rw g (simp (ne_eqb _ _ n, ne_eqb _ _ m))
 
+  pub item_parted : (it.multiplicity ≡ 0 → ⊥) → (c.mult ≡ 0 → ⊥)
+      → None ≡ extremum_of poly (mul binary64 half64 (add binary64 c.last it.value)) c.last it.value tol
+      → ended (parted poly.e out c it) rs ≡ walked rs (item_turn poly tol (c, out) it)
+  item_parted n m g = link_nowhere poly.e rs out c it ∙ item_link None n m g
+
 -- ---- chained, and the whole
 module _ (poly : Scaled) (tol : Float) (rs : List Bool) where
   abbrev closed : Chain × List RealRoot → Asking (List RealRoot)
@@ -282,3 +307,18 @@ ordered_some ps qs p l e = rw e
 pub sum_next : (l : List RealRoot) (d : RealRoot) (k : ℕ) → k < length l → multiplicities (drop k l)
     ≡ (get_or l k d).multiplicity + multiplicities (drop (k + 1) l)
 sum_next l d k h = ap multiplicities (drop_next l k d h)
+
+-- ---- the laws that each function's proof takes
+pub ruleset touches = (reply_cons, reply_nil, touch_none, touch_reply, touch_ask)
+
+pub ruleset pairs_at = (walk_err, pair_near, pair_asked)
+
+pub ruleset pair_turns = (pair_passed, pair_step)
+
+pub ruleset orders = (order_short, order_kept, order_turned)
+
+pub ruleset emits = (at_hand_is, none_at_hand, emit_none, emit_lost)
+
+pub ruleset links = (at_hand_is, double_most, links_err, link_outside, link_asks, link_yes, link_no)
+
+pub ruleset turns = (at_hand_is, none_at_hand, link_nowhere, item_separator, item_first, item_link, item_parted)

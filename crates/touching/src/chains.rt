@@ -15,6 +15,7 @@ fn double(m: u32) -> u32
     u32::from(m >= 2)
 }
 
+// (Without the ends, which critical::is_between takes too.)
 fn between(lo: f64, y: f64, hi: f64) -> bool
     ensures { result ≡ (lt lo y && lt y hi) }
 {
@@ -51,6 +52,7 @@ impl Chain {
     }
 
     // Of one touching point that point, of several the midpoint.
+    #[tactic(auto, unfolding(crate::specs::Touching::contact_of))]
     fn contact(self) -> f64
         ensures { result ≡ contact_of self }
     {
@@ -64,6 +66,7 @@ impl Chain {
 
 impl Walker {
     // A chain's root goes into the list, if finite.
+    #[tactic(auto, using(crate::proofs::Steps::emits))]
     fn emit(&self, out: roots::Roots, chain: Option<Chain>) -> roots::Roots
         requires { Tidy out × (out.len + at_hand chain ≤ 4) × (at_hand chain ≤ (chain_of chain).mult) }
         ensures { (list_of result ≡ emitted self.now.poly.e (list_of out) (chain_of chain)) × Tidy result × (result.len ≤ out.len + at_hand chain) }
@@ -83,6 +86,7 @@ impl Walker {
     }
 
     // The chain ends, and the item begins one.
+    #[tactic(auto, using(crate::proofs::Steps::double_most))]
     fn part(&self, it: roots::RealRoot, w: Links, used: usize) -> Links
         requires { ItemRoom w it × (1 ≤ it.multiplicity) }
         ensures { (links_at self.now.replies (Ok result)
@@ -94,6 +98,7 @@ impl Walker {
     }
 
     // The item after the chain c at hand, where the critical point between them is y.
+    #[tactic(auto, using(crate::proofs::Steps::links))]
     fn link_at(&self, it: roots::RealRoot, w: Links, c: Chain, y: f64) -> Result<Links, Question>
         requires { ItemRoom w it × (1 ≤ it.multiplicity) × (w.chain ≡ Some c) }
         ensures { (links_at self.now.replies result
@@ -117,6 +122,7 @@ impl Walker {
     }
 
     // One item after the chain so far.
+    #[tactic(auto, using(crate::proofs::Steps::turns))]
     fn item_turn(&self, it: roots::RealRoot, w: Links) -> Result<Links, Question>
         requires { ItemRoom w it }
         ensures { (links_at self.now.replies result

@@ -11,6 +11,7 @@ ghost use Rattle.touching.specs.Walk.{left_of, heard_at, walk_at, PairAdds, Held
 use crate::{Heard, Question, Walk, Walker};
 
 // Half the distance from m to the nearest item, or far where that is less.
+#[tactic(auto, using(crate::proofs::Steps::reach_fold))]
 fn reach(items: roots::Roots, m: f64, far: f64) -> f64
     requires { Fits items }
     ensures { result ≡ reach_of m far (list_of items) }
@@ -21,6 +22,7 @@ fn reach(items: roots::Roots, m: f64, far: f64) -> f64
 }
 
 // Every item is farther than b from y.
+#[tactic(auto, using(crate::proofs::Steps::apart_all))]
 fn all_apart(items: roots::Roots, b: f64, y: f64) -> bool
     requires { Fits items }
     ensures { result ≡ all_apart b y (list_of items) }
@@ -37,6 +39,7 @@ fn pair_item(y: f64, yes: bool) -> roots::RealRoot
     roots::RealRoot::by(yes, y, if yes { 2 } else { 0 })
 }
 
+#[tactic(auto, using(crate::proofs::Steps::orders))]
 fn narrower_first(ps: roots::Pairs) -> [roots::Pair; 2]
     requires { PairsFit ps }
     ensures { take ps.len result ≡ pair_order (pair_list_of ps) }
@@ -58,6 +61,7 @@ impl Walker {
     }
 
     // A place that is not finite is not asked about, and does not touch.
+    #[tactic(auto, using(crate::proofs::Steps::touches))]
     pub fn touches_at(&self, used: usize, y: f64) -> Result<Heard, Question>
         ensures { heard_at self.now.replies result ≡ walked (left_of self.now.replies used) (touches_at self.now.poly.e y) }
     {
@@ -75,6 +79,7 @@ impl Walker {
         Err(Question { place: x })
     }
 
+    #[tactic(auto, using(crate::proofs::Steps::pairs_at))]
     fn pair_at(&self, w: Walk, y: f64) -> Result<Walk, Question>
         requires { Fits w.items × (w.items.len < 4) }
         ensures { (walk_at self.now.replies result ≡ walked (left_of self.now.replies w.used) (pair_at self.now.poly self.now.tol (list_of w.items) (Some y)))
@@ -93,6 +98,7 @@ impl Walker {
         })
     }
 
+    #[tactic(auto, using(crate::proofs::Steps::pair_turns))]
     fn pair_turn(&self, p: roots::Pair, w: Walk) -> Result<Walk, Question>
         requires { Fits w.items × (w.items.len < 4) }
         ensures { (walk_at self.now.replies result ≡ walked (left_of self.now.replies w.used) (pair_turn self.now.poly self.now.tol (list_of w.items) p))

@@ -10,7 +10,7 @@ pub mod chains;
 pub mod items;
 pub mod whole;
 
-// The replies so far: at most degree - 1.
+// The replies so far: at most degree - 1. An array with a count, as Roots is: an inquiry goes by value and takes any count.
 #[derive(Clone, Copy)]
 pub struct Replies {
     pub reply: [bool; 4],

@@ -139,7 +139,7 @@ const KINDS: [(&str, &str); 4] = [
     ("Answered ", "`Answered`: the same, or a refusal's number and nothing stored"),
     (
         "Written ",
-        "`Written`: this text stands in the lent bytes from a place on, as far as they reach; where it ends is answered",
+        "`Written`: this text is written behind the place of the one that is lent, as far as its buffer reaches",
     ),
     ("sets ", "`sets`: these bytes stand in the lent bytes, which are otherwise unaltered"),
 ];

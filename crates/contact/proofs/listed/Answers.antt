@@ -1,39 +1,43 @@
 -- The inquiry has the replies of the definition to its first questions, until it asks no more.
-use mathlib.Core.Path.{ap}
+use mathlib.Core.Path.{refl, ap, ◌∙◌}
 use native.Mathlib.Omega.{arith}
+use borrow.Author.Rules.{rules}
+use Rattle.std.specs.Prelude.{Ok}
+use Rattle.roots.specs.declared.Roots.{Roots}
 use Rattle.touching.specs.declared.Replies.{Replies}
+use Rattle.inquiry.specs.declared.Asked.TheVariants.{Question, Finished}
 use Rattle.inquiry.proofs.Theorem.{start_few}
 use Rattle.inquiry.proofs.Loop.{brief_has, along_start, along_room, along_next, along_end}
-use Rattle.contact.specs.Contact.{touches_of}
-use Rattle.contact.proofs.Answer.{listed_is}
+use Rattle.contact.proofs.Answer.{listed_is, listed_refused}
 use Rattle.contact.proofs.listed.Goals as goal
 
-pub loop-shown-init : goal.loop-shown-init
-loop-shown-init c =
-    let a = c.args in
-    let s = c.solve_brief-s in
-    (c.asked_with-shown.ensures, along_start (touches_of a.confusion a.p a.r) _ s.result (brief_has _ _ s.result s.ensures))
+pub returns-in_err-s : goal.returns-in_err-s
+returns-in_err-s c = listed_refused _ _ _ _ _ c.in_err-s.ensures (search rules)
+
+pub loop-t-init : goal.loop-t-init
+loop-t-init c = let s = c.in_ok-s in along_start _ _ s.s (brief_has _ _ (Ok s.s) s.ensures)
 
 pub with-replies-requires : goal.with-replies-requires
 with-replies-requires c =
-    let at = c.loop-shown.invariant in
-    let room = along_room _ _ (start_few _ _ _) _ _ at.0 at.1 c.loop-shown-test.true in
+    let at = c.in-Question in
+    let room = along_room _ _ (start_few _ _ _) _ (Question at.t) at.ensures c.loop-t.invariant refl in
     omega (arith, room)
 
-pub loop-shown-smaller : goal.loop-shown-smaller
-loop-shown-smaller c =
-    let at = c.loop-shown.invariant in
-    let room = along_room _ _ (start_few _ _ _) _ _ at.0 at.1 c.loop-shown-test.true in
+pub loop-t-smaller : goal.loop-t-smaller
+loop-t-smaller c =
+    let at = c.in-Question in
+    let room = along_room _ _ (start_few _ _ _) _ (Question at.t) at.ensures c.loop-t.invariant refl in
     let more = ap (λ (rs : Replies). rs.count) c.with-replies.ensures in
     omega (arith, room, more)
 
-pub loop-shown-preserved : goal.loop-shown-preserved
-loop-shown-preserved c =
-    let at = c.loop-shown.invariant in
-    let next = along_next _ _ (start_few _ _ _) _ _ at.0 at.1 c.loop-shown-test.true in
-    (c.asked_with-shown-in-loop-shown.ensures, rw (c.with-replies.ensures, c.touches-yes.ensures) next)
+pub loop-t-preserved : goal.loop-t-preserved
+loop-t-preserved c =
+    let at = c.in-Question in
+    rw (c.with-replies.ensures, c.touches.ensures)
+    (along_next _ _ (start_few _ _ _) _ (Question at.t) at.ensures c.loop-t.invariant refl)
 
-pub returns : goal.returns
-returns c =
-    listed_is _ _ _ _ _ _ c.solve_brief-s.ensures
-    (along_end _ _ (start_few _ _ _) _ _ c.loop-shown.invariant.0 c.loop-shown.invariant.1 c.loop-shown-test.false)
+pub returns-in-Finished : goal.returns-in-Finished
+returns-in-Finished c =
+    let at = c.in-Finished in
+    ap (λ (l : Roots). Ok l) (along_end _ _ (start_few _ _ _) _ (Finished at.roots) at.ensures c.loop-t.invariant refl)
+    ∙ listed_is _ _ _ _ (Ok c.in_ok-s.s) c.in_ok-s.ensures

@@ -1,27 +1,14 @@
--- `crank` is its definition, by whether the start is refused, and demand 1 holds of that.
-use mathlib.Core.Path.{◌≡◌, subst⁻¹}
-use lib.Ieee.{Float}
-use Rattle.roots.specs.Roots.{list_of}
-use Rattle.roots.specs.Listed.{Within}
-use Rattle.poly.specs.Coefficients.{degree_left}
-use Rattle.trig_quartic.specs.declared.TrigEquation.{TrigEquation}
-use Rattle.crank.specs.declared.CrankAnswer.{CrankAnswer}
-use Rattle.crank.specs.Crank.{trig_quartic_of, crank_of}
-use Rattle.crank.proofs.Answer.{answer_listed, answer_refused}
-use Rattle.crank.proofs.Theorem.{cranks}
+-- `crank` is its definition: the refusal of its start, or the list that four replies no end with; they are enough, so that no question is left.
+use Rattle.crank.proofs.Answer.{never_asks, answer_listed, answer_refused}
+use Rattle.crank.proofs.Theorem.{with_demand}
+use borrow.Author.Rules.{rules}
 use Rattle.crank.proofs.crank.Goals as goal
 
-with_demand : (confusion : Float) (trig : TrigEquation) (r : CrankAnswer) → r ≡ crank_of confusion trig
-    → (r ≡ crank_of confusion trig) × Within (degree_left (trig_quartic_of trig)) (list_of r.roots)
-with_demand confusion trig r is =
-    (is, subst⁻¹ (λ (a : CrankAnswer). Within (degree_left (trig_quartic_of trig)) (list_of a.roots)) is (cranks confusion trig).answer)
+pub returns-in_err-s : goal.returns-in_err-s
+returns-in_err-s c = with_demand _ _ (answer_refused _ _ _ c.in_err-s.ensures (search rules))
 
-pub returns-then-s-eq0 : goal.returns-then-s-eq0
-returns-then-s-eq0 c =
-    let s = c.shown_after-s in
-    with_demand _ _ _ (answer_listed _ _ s.result s.ensures c.if-s-eq0.true)
+pub unreachable-requires : goal.unreachable-requires
+unreachable-requires c = never_asks _ _ _ c.in_ok-s.ensures _ c.in-Question.is
 
 pub returns : goal.returns
-returns c =
-    let s = c.shown_after-s in
-    with_demand _ _ _ (answer_refused _ _ s.result s.ensures _ c.if-s-eq0.false c.none.ensures)
+returns c = with_demand _ _ (answer_listed _ _ _ c.in_ok-s.ensures _ c.in-Finished.is)

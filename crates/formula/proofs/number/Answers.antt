@@ -2,11 +2,8 @@
 use mathlib.Core.Path.{refl}
 use native.Mathlib.Omega.{arith}
 use Rattle.formula.proofs.Bytes.{digit_inside}
-use Rattle.formula.proofs.Factors.{counted_none, counted_small, counted_next, number_none, number_some}
+use Rattle.formula.proofs.Factors.{counted_next, number_none, number_some}
 use Rattle.formula.proofs.number.Goals as goal
-
-pub loop-d-init : goal.loop-d-init
-loop-d-init c = counted_none _ _ c.requires
 
 pub loop-d-smaller : goal.loop-d-smaller
 loop-d-smaller c = omega (arith, digit_inside _ _ c.in-Some.ensures.0)
@@ -14,22 +11,10 @@ loop-d-smaller c = omega (arith, digit_inside _ _ c.in-Some.ensures.0)
 pub loop-d-preserved : goal.loop-d-preserved
 loop-d-preserved c = counted_next _ _ _ _ _ c.loop-d.invariant (λ e. omega arith) c.in-Some.ensures.0 (c.in-Some.ensures.1, c.in-Some.ensures.2)
 
-pub overflow_add-n : goal.overflow_add-n
-overflow_add-n c = omega (arith, counted_small _ _ _ _ c.loop-d.invariant, c.in-Some.ensures.2)
-
-pub overflow_mul-n : goal.overflow_mul-n
-overflow_mul-n c = omega (arith, counted_small _ _ _ _ c.loop-d.invariant)
-
-pub overflow_add-i : goal.overflow_add-i
-overflow_add-i c = omega (arith, digit_inside _ _ c.in-Some.ensures.0)
-
-pub number-requires : goal.number-requires
-number-requires c = omega (arith, counted_small _ _ _ _ c.loop-d.invariant)
-
 pub returns-then-i-at-clause-based : goal.returns-then-i-at-clause-based
 returns-then-i-at-clause-based c = number_none _ _ c.loop-d.i c.loop-d.n c.loop-d.invariant c.in_default.ensures c.if-i-at.true
 
 pub returns : goal.returns
 returns c =
-    let is = number_some _ _ c.loop-d.i c.loop-d.n c.loop-d.invariant c.in_default.ensures c.if-i-at.false _ refl c.number.ensures.value in
+    let is = number_some _ _ c.loop-d.i c.loop-d.n c.loop-d.invariant c.in_default.ensures c.if-i-at.false _ refl c.number.ensures in
     record { ahead = is.0; based = is.1 }

@@ -12,5 +12,5 @@ returns-in_err-d-clause-powered c =
 
 pub returns : goal.returns
 returns c =
-    let is = powered_digit _ c.args.base (sym c.is_at.ensures ∙ c.if-not-is_at.false) _ c.in_ok-d.ensures _ refl c.power.ensures.value in
+    let is = powered_digit _ c.args.base (sym c.is_at.ensures ∙ c.if-not-is_at.false) _ c.in_ok-d.ensures _ refl c.power.ensures in
     record { ahead = is.0; powered = is.1 }

@@ -5,10 +5,8 @@ use Rattle.formula.proofs.unit.Goals as goal
 
 pub returns-then-is_at : goal.returns-then-is_at
 returns-then-is_at c =
-    let is = unit_letter _ _ (sym c.is_at.ensures ∙ c.if-is_at.true) _ refl c.letter.ensures.value in
+    let is = unit_letter _ _ (sym c.is_at.ensures ∙ c.if-is_at.true) _ refl c.letter.ensures in
     record { ahead = is.0; based = is.1 }
 
-pub returns : goal.returns
-returns c =
-    let r = c.number.ensures in
-    record { ahead = r.ahead; based = unit_number _ _ (sym c.is_at.ensures ∙ c.if-is_at.false) _ r.based }
+pub returns-clause-based : goal.returns-clause-based
+returns-clause-based c = unit_number _ _ (sym c.is_at.ensures ∙ c.if-is_at.false) _ c.number.ensures.based

@@ -1,15 +1,9 @@
 use Rattle.std.specs.Float.{nan}
 use Rattle.facts.specs.Lists.{length_mapped}
 use Rattle.large_factors.specs.Large.{unit_of}
-use Rattle.large_factors.proofs.Taken.{units_fit, SizesOf, large_is}
+use Rattle.large_factors.proofs.Taken.{SizesOf, large_is}
 use borrow.Author.Rules.{rules}
 use Rattle.large_factors.proofs.large.Goals as goal
-
-pub falling-order-requires : goal.falling-order-requires
-falling-order-requires c = units_fit _ c.requires _ c.units_of-u.ensures
-
-pub take_large-requires : goal.take_large-requires
-take_large-requires c = record { n_high = units_fit _ c.requires _ c.units_of-u.ensures; places = c.falling-order.ensures.1 }
 
 pub returns : goal.returns
 returns c =

@@ -4,5 +4,5 @@ use Rattle.roots.specs.Roots.{list_of, roots_of}
 use Rattle.poly.specs.RealRoots.{unscaled_all}
 use Rattle.poly.proofs.unscaled_all.Given as goal
 
-abbrev pub invariant-loop-i : goal.invariant-loop-i
-invariant-loop-i l = l.out ≡ roots_of (unscaled_all l.e (take l.i (list_of l.s)))
+abbrev pub invariant-loop-r : goal.invariant-loop-r
+invariant-loop-r l = l.out ≡ roots_of (unscaled_all l.e (take l.r-index (list_of l.fn.s)))

@@ -1,43 +1,20 @@
 -- Each kind has its case of `answer_text`, and what the solver answers can be printed.
-use mathlib.Core.Path.{subst}
 use Rattle.text.proofs.Laws.{written_none, written_as}
-use Rattle.records.specs.declared.Kind.{Kind}
-use Rattle.records.specs.Records.{Whole}
 use Rattle.listing.proofs.Asked.{polynomial_prints, crank_prints, contact_prints, formula_prints}
 use Rattle.listing.proofs.Asked.{polynomial_text_is, quadratic_text_is, crank_text_is, contact_text, formula_text, unknown_text}
 use Rattle.listing.proofs.lines.put_answer.Goals as goal
-
-pub polynomial_at-requires : goal.polynomial_at-requires
-polynomial_at-requires c =
-    subst (λ (k : Kind). Whole k c.args.s.now c.args.at) c.in-Polynomial.is c.requires.1
 
 pub put_polynomial-requires : goal.put_polynomial-requires
 put_polynomial-requires c =
     (c.requires.0, polynomial_prints c.args.s.now c.args.at c.polynomial_at.result c.polynomial_at.ensures)
 
-pub quadratic_at-requires : goal.quadratic_at-requires
-quadratic_at-requires c =
-    subst (λ (k : Kind). Whole k c.args.s.now c.args.at) c.in-Quadratic.is c.requires.1
-
-pub crank_at-requires : goal.crank_at-requires
-crank_at-requires c =
-    subst (λ (k : Kind). Whole k c.args.s.now c.args.at) c.in-Crank.is c.requires.1
-
 pub put_crank-requires : goal.put_crank-requires
 put_crank-requires c =
     (c.requires.0, crank_prints c.args.s.now c.args.at c.crank_at.result c.crank_at.ensures)
 
-pub contact_at-requires : goal.contact_at-requires
-contact_at-requires c =
-    subst (λ (k : Kind). Whole k c.args.s.now c.args.at) c.in-Contact.is c.requires.1
-
 pub put_polynomial-requires-in-Contact : goal.put_polynomial-requires-in-Contact
 put_polynomial-requires-in-Contact c =
     (c.requires.0, contact_prints c.args.s.now c.args.at c.contact_at.result c.contact_at.ensures)
-
-pub formula_at-requires : goal.formula_at-requires
-formula_at-requires c =
-    subst (λ (k : Kind). Whole k c.args.s.now c.args.at) c.in-Formula.is c.requires.1
 
 pub put_polynomial-requires-in-Formula : goal.put_polynomial-requires-in-Formula
 put_polynomial-requires-in-Formula c =
@@ -70,4 +47,4 @@ returns-in-Formula c =
 
 pub returns-in-Unknown : goal.returns-in-Unknown
 returns-in-Unknown c =
-    written_as (unknown_text c.args.s.now c.args.at _ c.in-Unknown.is) (written_none c.args.out.now c.args.w)
+    written_as (unknown_text c.args.s.now c.args.at _ c.in-Unknown.is) (written_none c.args.out.now)

@@ -7,23 +7,23 @@ use Rattle.listing.proofs.Texts.{head_length}
 use Rattle.listing.proofs.Asked.{words_length}
 use Rattle.listing.proofs.lines.put_line.Goals as goal
 
-pub put_head-words-requires : goal.put_head-words-requires
-put_head-words-requires c =
+pub put_head-requires : goal.put_head-requires
+put_head-requires c =
     (c.requires.0, decimal_length 5 c.args.n (omega arith) c.requires.1.0)
 
-pub put_words-end-requires : goal.put_words-end-requires
-put_words-end-requires c =
+pub put_words-requires : goal.put_words-requires
+put_words-requires c =
     (omega (arith, head_length c.args.n c.args.found.kind c.requires.1.0), c.requires.1.1)
 
-pub put_byte-requires : goal.put_byte-requires
-put_byte-requires c =
+pub byte-requires : goal.byte-requires
+byte-requires c =
     omega (
       arith,
       head_length c.args.n c.args.found.kind c.requires.1.0,
-      words_length c.args.s.now c.args.at c.args.found c.requires.1.1.short,
+      words_length c.args.s.now c.args.at c.args.found,
     )
 
 pub returns : goal.returns
 unfolding line_of
 returns c =
-    written_then c.put_head-words.ensures (written_then c.put_words-end.ensures c.put_byte.ensures)
+    written_then c.put_head.ensures (written_then c.put_words.ensures c.byte.ensures)

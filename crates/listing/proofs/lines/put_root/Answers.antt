@@ -6,12 +6,12 @@ use Rattle.listing.specs.Lines.{root_text}
 use Rattle.listing.proofs.Texts.{place_length}
 use Rattle.listing.proofs.lines.put_root.Goals as goal
 
-pub put_byte-digits-requires : goal.put_byte-digits-requires
-put_byte-digits-requires c =
+pub byte-requires : goal.byte-requires
+byte-requires c =
     omega (arith, place_length c.args.root.value)
 
-pub put_decimal-end-requires : goal.put_decimal-end-requires
-put_decimal-end-requires c =
+pub decimal-requires : goal.decimal-requires
+decimal-requires c =
     omega (arith, place_length c.args.root.value, decimal_length 2 c.args.root.multiplicity (omega arith) c.requires.1)
 
 pub put_kind-requires : goal.put_kind-requires
@@ -21,5 +21,5 @@ put_kind-requires c =
 pub returns : goal.returns
 unfolding root_text
 returns c =
-    written_then c.put_place-blank.ensures
-    (written_then c.put_byte-digits.ensures (written_then c.put_decimal-end.ensures c.put_kind.ensures))
+    written_then c.put_place.ensures
+    (written_then c.byte.ensures (written_then c.decimal.ensures c.put_kind.ensures))

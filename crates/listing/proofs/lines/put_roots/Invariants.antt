@@ -7,5 +7,5 @@ use Rattle.listing.proofs.lines.put_roots.Given as goal
 
 abbrev pub invariant-loop-i : goal.invariant-loop-i
 invariant-loop-i l =
-    (l.next ≤ l.initial.next + 22 * l.i)
-    × Written l.initial.out l.initial.next (flat_map root_text (take l.i l.root)) l.out l.next
+    (l.out.at ≤ l.initial.out.at + 22 * l.i)
+    × Written l.initial.out (flat_map root_text (take l.i l.root)) l.out

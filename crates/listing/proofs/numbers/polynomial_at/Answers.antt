@@ -1,23 +1,14 @@
 -- The coefficients handed to the solver are those read.
-use mathlib.Core.Path.{sym, ap, ◌∙◌}
+use mathlib.Core.Path.{ap, ◌∙◌}
 use mathlib.Core.List.{List}
-use Prim.Native.Nat.{◌+◌, ◌≤◌}
-use lib.ListN.{length}
-use lib.Seq.{length-take-le}
+use Prim.Native.Nat.{◌+◌}
 use lib.Ieee.{Float}
 use Rattle.poly.specs.RealRoots.{real_roots_of}
 use Rattle.lent_bytes.specs.Bytes.{f64s_at}
 use Rattle.lent_bytes.proofs.Doubles.{f64s_taken}
 use Rattle.records.specs.Records.{count_at}
 use Rattle.listing.specs.Answers.{polynomial_at}
-use borrow.Author.Rules.{rules}
 use Rattle.listing.proofs.numbers.polynomial_at.Goals as goal
-
-pub slice_bounds-real_roots-end : goal.slice_bounds-real_roots-end
-slice_bounds-real_roots-end c =
-    let count = count_at c.args.s.now c.args.at in
-    let h : count ≤ length c.f64s_at-coeffs.result = search rules in
-    sym (length-take-le count c.f64s_at-coeffs.result h)
 
 pub returns : goal.returns
 unfolding polynomial_at

@@ -1,16 +1,21 @@
 -- All the numbers of the answer, or the refusal.
-use mathlib.Core.Path.{subst⁻¹, ap, ◌∙◌}
+use mathlib.Core.Path.{sym, ap, subst, ◌∙◌}
+use Rattle.std.specs.Prelude.{Result}
+use Rattle.refusals.specs.declared.Refusal.{Refusal}
+use Rattle.refusals.specs.Refusals.{outcome_of}
+use Rattle.roots.specs.declared.Roots.{Roots}
 use Rattle.roots.specs.Listed.{Fits}
-use Rattle.poly.specs.declared.Answer.{Answer}
+use Rattle.poly.specs.RealRoots.{roots_in}
+use Rattle.lent_bytes.specs.Lists.{root_numbers}
 use Rattle.contact.proofs.Theorem.{contacts}
-use Rattle.c_clusters.specs.Clustering.{root_numbers}
-use Rattle.lent_bytes.proofs.Whole.{answered_as}
+use Rattle.pongewaru.proofs.Answers.{told_as}
 use Rattle.pongewaru.proofs.contacts.pongewaru_pin_contact.Goals as goal
 
-pub root_numbers-requires : goal.root_numbers-requires
-root_numbers-requires c = subst⁻¹ (λ (a : Answer). Fits a.roots) c.pin_contact-a.ensures.0 (contacts _ _ _).array
+pub map-requires : goal.map-requires
+map-requires c x e = subst (λ (a : Result Roots Refusal). Fits (roots_in a)) (sym c.pin_contact-list.ensures.0 ∙ e) (contacts _ _ _).array
 
 pub returns : goal.returns
 returns c =
-    let is = c.pin_contact-a.ensures.0 in
-    answered_as (ap (λ (a : Answer). a.number) is) (c.root_numbers.ensures ∙ ap (λ (a : Answer). root_numbers a.roots) is) c.answer.ensures
+    let is = c.pin_contact-list.ensures.0 in
+    told_as root_numbers _ _ c.map.ensures.cases (ap outcome_of is)
+    (λ x e. ap (λ (a : Result Roots Refusal). root_numbers (roots_in a)) (sym e ∙ is)) c.answer.ensures

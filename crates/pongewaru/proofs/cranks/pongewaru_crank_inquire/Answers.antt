@@ -1,14 +1,13 @@
 -- The replies put in at once show what they show one by one.
-use mathlib.Core.Path.{◌∙◌}
-use Rattle.lent_bytes.proofs.Whole.{answered_as}
+use Rattle.pongewaru.specs.Cranks.{crank_shown_numbers}
+use Rattle.pongewaru.proofs.Answers.{told_as}
 use Rattle.pongewaru.proofs.Once.{crank_fits, crank_number, crank_numbers_are}
 use Rattle.pongewaru.proofs.cranks.pongewaru_crank_inquire.Goals as goal
 
-pub crank_shown_numbers-requires : goal.crank_shown_numbers-requires
-crank_shown_numbers-requires c =
-    crank_fits _ _ _ _ (rw c.first_replies.ensures at c.shown_after-s.ensures)
+pub map-requires : goal.map-requires
+map-requires c x e = crank_fits _ _ _ _ (rw c.first_replies.ensures at c.shown_after-s.ensures) x e
 
 pub returns : goal.returns
 returns c =
     let is = rw c.first_replies.ensures at c.shown_after-s.ensures in
-    answered_as (crank_number _ _ _ _ is) (c.crank_shown_numbers.ensures ∙ crank_numbers_are _ _ _ _ is) c.answer.ensures
+    told_as crank_shown_numbers _ _ c.map.ensures.cases (crank_number _ _ _ _ is) (crank_numbers_are _ _ _ _ is) c.answer.ensures

@@ -2,12 +2,9 @@ use Rattle.std.proofs.Common.{rules}
 use Rattle.std.specs.Prelude.{get_or}
 use Rattle.std.specs.Float.{nan}
 use Rattle.float.proofs.Made.{made_by}
-use Rattle.scaled.proofs.Built.{no_logs, logs_are}
+use Rattle.scaled.proofs.Built.{logs_are}
 use Rattle.scaled.specs.Scaled.{log_size_of}
 use Rattle.scaled.proofs.Shift.log_sizes.Goals as goal
-
-pub returns-then-self-lt3 : goal.returns-then-self-lt3
-returns-then-self-lt3 c = no_logs _ _ _ _ _ c.if-self-lt3.true c.infinity.ensures
 
 pub returns : goal.returns
 returns c =

@@ -1,9 +1,0 @@
--- All the numbers of the answer, or none.
-use mathlib.Core.Path.{ap}
-use Rattle.c_layers.specs.Numbers.{cubic_numbers}
-use Rattle.lent_bytes.proofs.Whole.{stored_as}
-use Rattle.c_layers.proofs.factoring.pongewaru_cubic_factor.Goals as goal
-
-pub returns : goal.returns
-returns c =
-    stored_as (ap cubic_numbers c.cubic_factor-x.ensures) c.store.ensures

@@ -1,0 +1,21 @@
+-- The arrays hold the lists of the definition.
+use mathlib.Core.Path.{refl, ◌∙◌}
+use Rattle.factorize.proofs.Discs.{the_factors, handed_on_is}
+use Rattle.poly.proofs.Sums.{counts_fit}
+use Rattle.poly.proofs.Arrays.{candidates_found}
+use borrow.Author.Rules.{rules}
+use Rattle.poly.proofs.Stripped.candidates.Goals as goal
+
+pub with_lins-roots-requires : goal.with_lins-roots-requires
+with_lins-roots-requires c = (counts_fit c.args.self.poly _ (the_factors c.factorize_rooted-r.ensures) (search rules)).0
+
+pub with_quads-requires : goal.with_quads-requires
+with_quads-requires c =
+    let is = c.factorize_rooted-r.ensures in
+    ((counts_fit c.args.self.poly _ (the_factors is) (search rules)).1, handed_on_is _ is refl)
+
+pub returns : goal.returns
+returns c =
+    let f = the_factors c.factorize_rooted-r.ensures in
+    rw (← f) (candidates_found _ _ _ _ _ _ _ c.zero_roots.ensures c.with_lins-roots.ensures
+    (c.with_quads.ensures ∙ rw c.none-pairs.ensures))

@@ -1,5 +1,0 @@
--- By recursion on n: the digits of n / 10, and the last one.
-use Rattle.text.proofs.+put_decimal.Given as goal
-
-abbrev pub decreases-put_decimal : goal.decreases-put_decimal
-decreases-put_decimal l = l.n

@@ -1,5 +1,0 @@
--- By recursion on the number of digits: those of n / 16, and the last one.
-use Rattle.text.proofs.+put_hex.Given as goal
-
-abbrev pub decreases-put_hex : goal.decreases-put_hex
-decreases-put_hex l = l.digits
