@@ -154,15 +154,26 @@ fn structs() {
     }
 }
 
+/// `NotASum` as `NOT_A_SUM`.
+fn shouted(name: &str) -> String {
+    let mut out = String::new();
+    for (at, c) in name.char_indices() {
+        if at > 0 && c.is_uppercase() {
+            out.push('_');
+        }
+        out.extend(c.to_uppercase());
+    }
+    out
+}
+
 #[test]
 fn refusals() {
     let (header, source) = (text("include/pongewaru.h"), text("crates/refusals/src/lib.rt"));
-    let consts: Vec<&str> = source.split("pub const ").skip(1).collect();
-    assert_eq!(consts.len(), 17);
-    for one in consts {
-        let (name, rest) = one.split_once(": u32 = ").expect("a number");
-        let number = rest.split_once(';').expect("an end").0;
-        let wanted = format!("#define PONGEWARU_{name} {number} ");
+    let named = source.split("Refusal::").filter_map(|one| one.split_once(" => "));
+    let all: Vec<_> = named.map(|(n, rest)| (n, rest.split_once(',').expect("an end").0)).collect();
+    assert_eq!(all.len(), 17);
+    for (name, number) in all {
+        let wanted = format!("#define PONGEWARU_{} {number} ", shouted(name));
         assert!(header.contains(&wanted), "include/pongewaru.h has no `{wanted}`");
     }
 }
