@@ -117,7 +117,8 @@ fn closed(s: &[u8], inner: Cursor) -> Option<Cursor>
     None
 }
 
-// What was read, to the power that comes next, if one does.
+// What was read, to the power that comes next, if one does. (Its copies stand in no reader's frame: that spares stack for each open bracket.)
+#[inline(never)]
 fn powered(s: &[u8], base: Cursor) -> Option<Cursor>
     requires { base.next ≤ length s.now }
     ensures ahead { IfSome result (Ahead s.now base.next) }
@@ -136,7 +137,8 @@ fn powered(s: &[u8], base: Cursor) -> Option<Cursor>
 
 // ---- joins
 
-// The result takes the place of the right operand, which spares 64 bytes of stack for each open bracket.
+// The result takes the place of the right operand. (Likewise.)
+#[inline(never)]
 fn joined(op: Operator, left: Cursor, right: Cursor) -> Cursor
     ensures { Joined op left right result }
 {
