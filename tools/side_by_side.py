@@ -1,6 +1,7 @@
 #!/usr/bin/env python3
-"""side_by_side.py OLD NEW: what the public functions and the definitions of two trees say, old and new, where they differ, as the tables of
-docs/DESIGN-PASS.md. OLD and NEW are folders with crates/; the kit's contracts.py compares them."""
+"""side_by_side.py OLD NEW: what the public functions, the public types and the definitions of two trees say, old and new, where they differ, as the tables
+of docs/DESIGN-PASS.md. OLD and NEW are folders with crates/; the kit's contracts.py compares functions and definitions, types are compared here."""
+import glob
 import json
 import re
 import subprocess
@@ -34,6 +35,17 @@ def clauses(kinds):
     return "<br>".join(cell(it) for it in said) or "no clause"
 
 
+def types(tree):
+    """The public structs and enums of a tree, each by crate and name, without its comments."""
+    found = {}
+    for file in sorted(glob.glob(f"{tree}/crates/*/src/**/*.rt", recursive=True)):
+        crate = file.split("/crates/")[1].split("/")[0]
+        source = re.sub(r" *//[^\n]*", "", open(file, encoding="utf-8").read())
+        for name, body in re.findall(r"^pub ((?:struct|enum) \w+.*?) ?\{\n(.*?)^\}", source, re.M | re.S):
+            found[crate, name.split("<")[0]] = body.strip().rstrip(",")
+    return found
+
+
 print("### Public functions that have another signature\n\n| function | old | new |\n|---|---|---|")
 for place, before, after in sorted(found["signatures changed"]):
     if is_public(new, place):
@@ -45,6 +57,12 @@ for place, requires, ensures, requires_now, ensures_now in sorted(found["contrac
         before = clauses([("requires", requires), ("ensures", ensures)])
         after = clauses([("requires", requires_now), ("ensures", ensures_now)])
         print(f"| {short(place)} | {before} | {after} |")
+
+print("\n### Public types that read otherwise, or are new\n\n| type | old | new |\n|---|---|---|")
+before, after = types(old), types(new)
+for crate, name in sorted(after):
+    if before.get((crate, name)) != after[crate, name]:
+        print(f"| `{crate}`: `{name}` | {cell(before.get((crate, name), ''))} | {cell(after[crate, name])} |")
 
 print("\n### Definitions that read otherwise\n\n| definition | old | new |\n|---|---|---|")
 for row in sorted(found["definitions"]["changed"]):

@@ -169,10 +169,11 @@ fn shouted(name: &str) -> String {
 #[test]
 fn refusals() {
     let (header, source) = (text("include/pongewaru.h"), text("crates/refusals/src/lib.rt"));
-    let named = source.split("Refusal::").filter_map(|one| one.split_once(" => "));
-    let all: Vec<_> = named.map(|(n, rest)| (n, rest.split_once(',').expect("an end").0)).collect();
+    let named = source.split(',').filter_map(|one| one.rsplit_once(" = "));
+    let all: Vec<_> = named.filter(|(_, number)| number.parse::<u32>().is_ok()).collect();
     assert_eq!(all.len(), 17);
-    for (name, number) in all {
+    for (before, number) in all {
+        let name = before.rsplit(' ').next().expect("a name");
         let wanted = format!("#define PONGEWARU_{} {number} ", shouted(name));
         assert!(header.contains(&wanted), "include/pongewaru.h has no `{wanted}`");
     }

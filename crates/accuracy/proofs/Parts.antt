@@ -1,6 +1,6 @@
--- A double in the two parts that `two_prod` takes, hi = `split_high` x and lo = x - hi: they add up to x, and where x has all of its 53 digits in use, each part
--- has 26. x = X U with U = 2 ^ i units and 2 ^ 52 ≤ |X| < 2 ^ 53 (`Full`): hi = H 2 ^ 27 U and lo = L U, with X = 2 ^ 27 H + L and |H|, |L| ≤ 2 ^ 26 (`Cut`).
--- Else x is below 2 ^ 52 units, and neither part is above 3 |x| (`Loose`). The argument on the four roundings is that of rounding's Split.
+-- A double in the two parts that `two_prod` takes, hi = `split_high` x and lo = x - hi: they add up to x, and where x has all of its 53 digits in use, each
+-- part has 26. x = X U with U = 2 ^ i units and 2 ^ 52 ≤ |X| < 2 ^ 53 (`Full`): hi = H 2 ^ 27 U and lo = L U, with X = 2 ^ 27 H + L and |H|, |L| ≤ 2 ^ 26
+-- (`Cut`). Else x is below 2 ^ 52 units, and neither part is above 3 |x| (`Loose`). The argument on the four roundings is that of rounding's Split.
 use mathlib.Core.Path.{◌≡◌, refl, sym, ap, ◌∙◌, subst}
 use mathlib.Core.Logic.{◌⊎◌, inl, inr}
 use Prim.Native.Nat.{ℕ, ◌+◌, ◌-◌, ◌*◌, ◌^◌, ◌≤◌, ◌<◌}

@@ -71,7 +71,9 @@ module _ (f : List Float) (d : ℕ) (y : Float) where
 
   term_is : (k : ℕ) → term_of f d y k ≡ signed_units (get_or f k nan) ⊡ one_units ^ (d - k) ⊠ power_of y k
   unfolding term_of
-  term_is k = sym (go (is_sign_negative_of (get_or f k nan)) (is_sign_negative_of y && eqb (k % 2) 1) (units_of (get_or f k nan)) (units_of y ^ k) (one_units ^ (d - k)))
+  term_is k =
+      sym (go (is_sign_negative_of (get_or f k nan)) (is_sign_negative_of y && eqb (k % 2) 1) (units_of (get_or f k nan)) (units_of y ^ k)
+      (one_units ^ (d - k)))
     where
       go : (s t : Bool) (a b c : ℕ) → signed_diff s a ⊡ c ⊠ signed_diff t b ≡ signed_diff (unlike s t) (a * b * c)
       go s t a b c = ap (λ (x : Diff). x ⊠ signed_diff t b) (signed_multiple s a c) ∙ signed_times s t (a * c) b ∙ ap (signed_diff (unlike s t)) (omega arith)
@@ -101,7 +103,8 @@ module _ (f : List Float) (d : ℕ) (y : Float) where
   term_size : (k : ℕ) → size_of (term_of f d y k) ≡ magnitude (term_of f d y k)
   unfolding term_of
   term_size k =
-      go (unlike (is_sign_negative_of (get_or f k nan)) (is_sign_negative_of y && eqb (k % 2) 1)) (units_of (get_or f k nan) * units_of y ^ k * one_units ^ (d - k))
+      go (unlike (is_sign_negative_of (get_or f k nan)) (is_sign_negative_of y && eqb (k % 2) 1))
+      (units_of (get_or f k nan) * units_of y ^ k * one_units ^ (d - k))
     where
       go : (s : Bool) (a : ℕ) → size_of (signed_diff s a) ≡ magnitude (signed_diff s a)
       go s a = signed_size s a ∙ sym (signed_magnitude s a)

@@ -76,7 +76,8 @@ at_most_fits : (c x : Float) → at_most c x ≡ true → T (fits binary64 x)
 unfolding at_most
 at_most_fits c x h = subst T (sym (first_holds (fits binary64 x) _ h)) tt
 
-module _ (c : Float) (k : ℕ) (above : abs_of c ≡ c) (finite : is_finite_of c ≡ true) (is : units_of c ≡ k * one_units) (x : Float) (h : at_most c x ≡ true) where
+module _ (c : Float) (k : ℕ) (above : abs_of c ≡ c) (finite : is_finite_of c ≡ true) (is : units_of c ≡ k * one_units) (x : Float)
+    (h : at_most c x ≡ true) where
   compared : (is_finite_of x ≡ true) × (units_of x ≤ units_of c)
   unfolding at_most
   compared = no_larger x c finite (ap (le (abs_of x)) above ∙ second_holds (fits binary64 x) _ h)

@@ -1,7 +1,7 @@
 -- The exact value of a polynomial at a place, in whole numbers: P and M of demand 3. Definitions only.
--- f holds the coefficients a_0, a_1, .., and d is the degree. A finite double is a whole number of units of 2^-1074, `units_of` in size, and 1 is `one_units` of
--- them, 2^1074. So a_i·y^i, times one_units ^ (d + 1), is the whole number ± units_of a_i * units_of y ^ i * one_units ^ (d - i). Everything here is times that
--- power.
+-- f holds the coefficients a_0, a_1, .., and d is the degree. A finite double is a whole number of units of 2^-1074, `units_of` in size, and 1 is `one_units`
+-- of them, 2^1074. So a_i·y^i, times one_units ^ (d + 1), is the whole number ± units_of a_i * units_of y ^ i * one_units ^ (d - i). Everything here is times
+-- that power.
 use Rattle.std.specs.Prelude.{Bool, cond, ◌&&◌, List, ℕ, ◌+◌, ◌-◌, ◌*◌, ◌%◌, ◌^◌, eqb, get_or, Float}
 use Rattle.std.specs.Float.{nan}
 use Rattle.std.specs.Float.Ieee.{unlike}

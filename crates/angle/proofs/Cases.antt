@@ -171,13 +171,15 @@ both : (v c s : Float) → c ≡ cos_of v → s ≡ sin_of (cos_of v) → angle 
 unfolding third_angle_of
 both v c s a b = ap₂ angle a b
 
-pub both_none : (v : Float) → CosineDigits (cos_of v) None → angle (of_bits binary64 0x7FF8_0000_0000_0000) (of_bits binary64 0x7FF8_0000_0000_0000) ≡ third_angle_of v
+pub both_none : (v : Float) → CosineDigits (cos_of v) None
+    → angle (of_bits binary64 0x7FF8_0000_0000_0000) (of_bits binary64 0x7FF8_0000_0000_0000) ≡ third_angle_of v
 unfolding of_bits sin_of
 both_none v d = let e = d.none refl in both v _ _ (sym e) (sym (ap sin_of e))
 
-pub both_some : (v c s : Float) (m : ℕ) → CosineDigits (cos_of v) (Some m) → c ≡ odd 54 false m 1021 1074 → s ≡ sin_of (odd 54 false m 1021 1074)
-    → angle c s ≡ third_angle_of v
-both_some v c s m d a b = let e = (d.some m refl).2 in both v c s (a ∙ sym e) (b ∙ sym (ap sin_of e))
+pub both_some : (v : Float) (m : ℕ) → CosineDigits (cos_of v) (Some m)
+    → ((third_angle_of v).cos ≡ odd 54 false m 1021 1074) × ((third_angle_of v).sin ≡ sin_of (odd 54 false m 1021 1074))
+unfolding third_angle_of
+both_some v m d = let e = (d.some m refl).2 in (e, ap sin_of e)
 
 -- what `third_digits` rests on
 pub ruleset digits = (digits_zero, digits_none, digits_above, digits_over, digits_up, digits_down)

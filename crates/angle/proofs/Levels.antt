@@ -73,16 +73,14 @@ exact w k n a v =
     (sym (add-zero (w * 2 ^ (k - 966) * 2 ^ 966) ∙ mul_assoc w (2 ^ (k - 966)) (2 ^ 966)
     ∙ ap (λ (x : ℕ). w * x) (joined (k - 966) 966 k (let e : k - 966 + 966 ≡ k = omega arith in e)))) (pow_pos 966) refl)
 
-pub mid : (w k h l : ℕ) → 966 ≤ k → k < 1030 → h * 2 ^ 64 + l ≡ w * (1 * 2 ^ (k - 966) % 2 ^ 64) → WholePart w k (value 0 h l) false
-mid w k h l a b e =
-    exact w k (value 0 h l) a (ap (λ (x : ℕ). x * 2 ^ 64 + l) (zero-add h) ∙ e
-    ∙ ap (λ (x : ℕ). w * x) (bit (k - 966) (let q : k - 966 < 64 = omega arith in q)))
+pub mid : (w k n : ℕ) → 966 ≤ k → k < 1030 → n ≡ w * (1 * 2 ^ (k - 966) % 2 ^ 64) → WholePart w k n false
+mid w k n a b e = exact w k n a (e ∙ ap (λ (x : ℕ). w * x) (bit (k - 966) (let q : k - 966 < 64 = omega arith in q)))
 
-pub high : (w k h l : ℕ) → 1030 ≤ k → k < 1074 → h * 2 ^ 64 + l ≡ w * (1 * 2 ^ (k - 1030) % 2 ^ 64) → WholePart w k (value h l 0) false
-high w k h l a b e =
-    exact w k (value h l 0) (let q : 966 ≤ k = omega arith in q)
-    (add-zero ((h * 2 ^ 64 + l) * 2 ^ 64)
-    ∙ ap (λ (x : ℕ). x * 2 ^ 64) (e ∙ ap (λ (x : ℕ). w * x) (bit (k - 1030) (let q : k - 1030 < 64 = omega arith in q)))
+pub high : (w k n : ℕ) → 1030 ≤ k → k < 1074 → n ≡ w * (1 * 2 ^ (k - 1030) % 2 ^ 64) * 2 ^ 64 → WholePart w k n false
+high w k n a b e =
+    exact w k n (let q : 966 ≤ k = omega arith in q)
+    (e
+    ∙ ap (λ (x : ℕ). x * 2 ^ 64) (ap (λ (x : ℕ). w * x) (bit (k - 1030) (let q : k - 1030 < 64 = omega arith in q)))
     ∙ mul_assoc w (2 ^ (k - 1030)) (2 ^ 64)
     ∙ ap (λ (x : ℕ). w * x) (joined (k - 1030) 64 (k - 966) (let q : k - 1030 + 64 ≡ k - 966 = omega arith in q)))
 

@@ -1,14 +1,24 @@
 -- The last way out of `within_band`, and what it looks at.
-use mathlib.Core.Path.{◌≡◌, refl, sym}
+use mathlib.Core.Path.{◌≡◌, refl, sym, ◌∙◌}
 use mathlib.Core.Bool.{false}
-use Prim.Native.Nat.{ℕ}
+use Prim.Native.Nat.{ℕ, ◌+◌, ◌<◌}
+use native.Mathlib.Omega.{arith}
 use lib.ListN.{get_or}
+use Rattle.std.specs.Prelude.{List, length, take, reverse, fold}
 use lib.Ieee.{Float, nan, binary64, add, sub, mul, lt, le}
-use Rattle.facts.specs.Count.{up_turn, up_end, down_turn, down_end}
+use Rattle.facts.specs.Count.{up_turn, up_end}
+use Rattle.float.specs.Literals.{zero64}
 use Rattle.float.specs.Methods.{abs_of, powi_of}
+use Rattle.horner.proofs.Loops.{end_all}
 use Rattle.scaled.specs.declared.Scaled.{Scaled}
 use Rattle.band.specs.Band.{magnitude_step, magnitude_of, budget_of, kth_root_of, radius_step, radius_of, noise_within, noise_of, base_of, band_of}
 use Rattle.band.specs.Band.{within_band_of, bare}
+
+-- ---- the sum of the terms' sizes, as a fold from the degree down
+pub magnitude_folded : (f : List Float) (d : ℕ) (y r : Float) → d < length f
+    → r ≡ fold (λ acc c. magnitude_step (abs_of y) c acc) zero64 (reverse (take (d + 1) f)) → r ≡ magnitude_of f d y
+unfolding magnitude_of
+magnitude_folded f d y r l e = e ∙ end_all (magnitude_step (abs_of y)) f (d + 1) zero64 (omega (arith, l))
 
 -- ---- the band: beyond the caller's, and not beyond the crude bound: the noise decides
 pub noise_decides : (poly : Scaled) (half y tol : Float) {base budget power lead noise : Float} → base ≡ base_of poly.unit y tol
@@ -27,8 +37,8 @@ unfolding within_band_of noise_of
 same_within poly half y tol = refl
 
 -- What the functions' proofs rest on: the laws, and the definitions.
-pub ruleset laws = (up_turn, up_end, down_turn, down_end, noise_decides)
+pub ruleset laws = (up_turn, up_end, noise_decides)
 
 unfoldable pub definitions : ℕ
-unfolding magnitude_step magnitude_of budget_of kth_root_of radius_step radius_of noise_within noise_of base_of band_of within_band_of
+unfolding budget_of kth_root_of radius_step radius_of noise_within noise_of base_of band_of within_band_of
 definitions = 0

@@ -10,15 +10,16 @@ use horner::Polynomial;
 const NOISE_FACTOR: f64 = 4.0;
 
 // The sum of the sizes of p's terms at y.
+#[tactic(auto, using(crate::proofs::Laws::magnitude_folded), unfolding(crate::specs::Band::magnitude_step))]
 fn magnitude(p: Polynomial, y: f64) -> f64
     ensures { result ≡ magnitude_of p.f p.d y }
 {
     let ay = float::abs(y);
-    let mut acc = 0.0;
-    for i in (0..p.d + 1).rev() {
-        acc = acc * ay + float::abs(p.f[i]);
-    }
-    acc
+    p.f[..=p.d]
+        .iter()
+        .copied()
+        .rev()
+        .fold(0.0, |acc, c| acc * ay + float::abs(c))
 }
 
 // What rounding may do to p at y.
@@ -51,12 +52,13 @@ fn radius_step(t: [f64; 5], budget: f64, k: usize, r: f64) -> f64
     r
 }
 
+// (By number: k is the place of t_k and the root that is taken of it.)
 fn radius(t: [f64; 5], d: usize, budget: f64) -> f64
     requires { d ≤ 4 }
     ensures { result ≡ radius_of t d budget }
 {
-    let mut r = float::infinity();
-    for k in 2..d + 1 {
+    let mut r = f64::INFINITY;
+    for k in 2..=d {
         r = radius_step(t, budget, k, r);
     }
     r
@@ -103,7 +105,7 @@ pub fn within_band(poly: scaled::Scaled, half: f64, y: f64, tol: f64) -> bool
     within(poly.polynomial(), poly.unit, half, y, tol)
 }
 
-// The crude bound first: the noise needs roots.
+// The crude bound first: the noise needs roots. (p and unit by themselves, here and in critical::double_at: push makes one Polynomial of its Scaled for both.)
 pub fn within(p: Polynomial, unit: f64, half: f64, y: f64, tol: f64) -> bool
     ensures { result ≡ within_band_of (bare p.f p.d unit) half y tol }
 {

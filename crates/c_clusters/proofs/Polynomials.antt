@@ -1,8 +1,8 @@
 -- What the C functions below the list are handed, and that counts and multiplicities stay within theirs.
 use mathlib.Core.Path.{◌≡◌, refl, sym, ap, ◌∙◌}
 use mathlib.Core.Bool.{Bool, false, ◌||◌}
-use mathlib.Core.List.{List, [], ◌∷◌, ◌++◌}
-use Prim.Native.Nat.{ℕ, zero, suc, ◌+◌, ◌^◌, ◌≤◌, ◌<◌}
+use mathlib.Core.List.{List, [], ◌∷◌}
+use Prim.Native.Nat.{ℕ, zero, suc, ◌^◌, ◌≤◌, ◌<◌}
 use native.Mathlib.Omega.{arith}
 use borrow.Author.Tests.{ltb-false}
 use lib.Dec.{ltb}
@@ -11,12 +11,11 @@ use lib.Ieee.{Float, nan}
 use Rattle.std.specs.Prelude.{Option, Some, None, unwrap_or}
 use Rattle.facts.specs.Arrays.{from_fn}
 use Rattle.scaled.specs.declared.Scaled.{Scaled}
-use Rattle.scaled.specs.Scaled.{scaled_of}
+use Rattle.scaled.proofs.Built.{degree_is}
 use Rattle.roots.specs.declared.RealRoot.{RealRoot}
 use Rattle.roots.specs.declared.Roots.{Roots}
 use Rattle.roots.specs.declared.Pair.{Pair}
 use Rattle.roots.specs.declared.Pairs.{Pairs}
-use Rattle.lent_bytes.specs.Lists.{root_numbers}
 use Rattle.roots.specs.Listed.{multiplicities, Fits, PairsFit}
 use Rattle.roots.proofs.Laws.{kept_fits, paired_fits}
 use Rattle.push.specs.declared.Found.{Found}
@@ -24,11 +23,7 @@ use Rattle.push.specs.Quadratic.{Factor, double, apart, complex, quadratic_roots
 use Rattle.lent_bytes.proofs.Five.{none_holds, accepted}
 use Rattle.lent_bytes.proofs.Whole.{no_bytes}
 use Rattle.float.proofs.Bits.{nan_pattern}
-use Rattle.c_clusters.specs.Clustering.{turning_or_nan, candidate_at, candidates_at, pair_at, pairs_at, found_number, found_numbers, lacks_of}
-
-pub degree_is : (a : List Float) (d : ℕ) → (scaled_of a d).d ≡ d
-unfolding scaled_of
-degree_is a d = refl
+use Rattle.c_clusters.specs.Clustering.{turning_or_nan, candidate_at, candidates_at, pair_at, pairs_at, lacks_of}
 
 pub holding : (c : List ℕ) (size n m : ℕ) {b : Bool} → b ≡ lacks_of c size n m → b ≡ false → (size ≤ length c) × ((n ≤ 4) × (m ≤ 2))
 unfolding lacks_of
@@ -44,7 +39,8 @@ pub ruleset handed = (no_bytes, accepted, nan_pattern, degree_is)
 pub ruleset counted = (no_bytes, holding)
 
 -- ---- candidates
-pub four_candidates : (c : List ℕ) (n : ℕ) {l : List RealRoot} → l ≡ from_fn 4 (candidate_at c) → ◌≡◌ {A = Roots} (record { root = l; len = n }) (candidates_at c n)
+pub four_candidates : (c : List ℕ) (n : ℕ) {l : List RealRoot} → l ≡ from_fn 4 (candidate_at c)
+    → ◌≡◌ {A = Roots} (record { root = l; len = n }) (candidates_at c n)
 unfolding candidates_at
 four_candidates c n e = ap (λ (l : List RealRoot). record { root = l; len = n }) e
 
@@ -94,8 +90,3 @@ quadratic_fits poly al be tol c n m h k o p e =
     let fit = factor_fits (record { roots = candidates_at c n; pairs = pairs_at c m }) (quadratic_roots_of poly al be tol)
     (candidates_fit c n h) (pairs_fit c m k) in
     rw (e, o, p) fit
-
--- ---- handed out
-pub all_found : (s : Found) (x : List Float) → x ≡ root_numbers s.roots → from_fn 18 (found_number x s.pairs) ≡ found_numbers s
-unfolding found_numbers root_numbers found_number
-all_found s x e = rw e

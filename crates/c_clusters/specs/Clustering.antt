@@ -1,5 +1,5 @@
 -- What the C functions below the list answer. Definitions only.
-use Rattle.std.specs.Prelude.{Bool, ◌||◌, List, [], ◌∷◌, ◌++◌, ℕ, ◌+◌, ◌-◌, ◌*◌, ◌/◌, ◌%◌, cond, eqb, ltb, length, get_or, Float, Option, Some, None}
+use Rattle.std.specs.Prelude.{Bool, ◌||◌, List, [], ◌∷◌, ◌++◌, ℕ, ◌+◌, ◌*◌, ltb, length, get_or, Float, Option, Some, None}
 use Rattle.std.specs.Float.{nan}
 use Rattle.float.specs.Bytes.{f64_at}
 use Rattle.scaled.specs.declared.Scaled.{Scaled}
@@ -44,12 +44,6 @@ unfoldable pub pairs_at : List ℕ → ℕ → Pairs
 pairs_at c n = record { pair = pair_at c 0 ∷ pair_at c 1 ∷ []; len = n }
 
 -- ---- handed out
--- number i of what is found, from those of the roots: how many pairs there are, and the centre and the half of each, come behind
-unfoldable pub found_number : List Float → Pairs → ℕ → Float
-found_number x s i =
-    let p = get_or s.pair ((i - 14) / 2) blank_pair in
-    cond (ltb i 13) (get_or x i nan) (cond (eqb i 13) (number s.len) (cond (eqb (i % 2) 0) p.centre p.half))
-
 -- what is found: the roots as in a list, the number of pairs, and the centre and half of each
 unfoldable pub found_numbers : Found → List Float
 found_numbers s =

@@ -13,13 +13,14 @@ ghost use Rattle.critical.specs.Critical.{critical_point_of, extremum_of};
 ghost use Rattle.polish.specs.Polish.{polish_of};
 ghost use Rattle.lent_bytes.specs.Bytes.{lacks_five, unless, Stored};
 ghost use Rattle.c_clusters.specs.Clustering.{poly_at, turning_or_nan, candidate_at, lacks_of, candidates_at};
-ghost use Rattle.c_clusters.specs.Clustering.{pair_at, pairs_at, found_number, found_numbers, pushed_numbers, finished_numbers};
+ghost use Rattle.c_clusters.specs.Clustering.{pair_at, pairs_at, found_numbers, pushed_numbers, finished_numbers};
 
 use horner::Polynomial;
 use lent_bytes::lists::root_numbers;
 use lent_bytes::{doubles_at, lacks_five, store};
 
-// The polynomial Scaled::new of the five doubles that a holds and the degree d, if a holds them and d is at most 4.
+// The polynomial Scaled::new of the five doubles that a holds and the degree d, if a holds them and d is at most 4. (Beside polynomial_at of c_layers: a
+// function of both would stand in `lent_bytes`, which has no polynomials and would rest on `horner` for it.)
 fn poly_at(a: &[u8], d: u64) -> Option<scaled::Scaled>
     ensures { MatchOption result (lacks_five a.now d ≡ true)
         (λ p. (lacks_five a.now d ≡ false) × (p ≡ poly_at a.now d) × (p.d ≤ 4)) }
@@ -35,40 +36,28 @@ fn poly_at(a: &[u8], d: u64) -> Option<scaled::Scaled>
 pub extern "C" fn pongewaru_noise(a: &[u8], d: u64, y: f64) -> f64
     ensures { result ≡ unless nan (lacks_five a.now d) (noise_of (poly_at a.now d) y) }
 {
-    let Some(p) = poly_at(a, d) else {
-        return f64::NAN;
-    };
-    band::noise(p, y)
+    poly_at(a, d).map_or(f64::NAN, |p| band::noise(p, y))
 }
 
 #[unsafe(no_mangle)]
 pub extern "C" fn pongewaru_band(a: &[u8], d: u64, y: f64, tol: f64) -> f64
     ensures { result ≡ unless nan (lacks_five a.now d) (band_of (poly_at a.now d) y tol) }
 {
-    let Some(p) = poly_at(a, d) else {
-        return f64::NAN;
-    };
-    band::band(p, y, tol)
+    poly_at(a, d).map_or(f64::NAN, |p| band::band(p, y, tol))
 }
 
 #[unsafe(no_mangle)]
 pub extern "C" fn pongewaru_within_band(a: &[u8], d: u64, half: f64, y: f64, tol: f64) -> bool
     ensures { result ≡ unless false (lacks_five a.now d) (within_band_of (poly_at a.now d) half y tol) }
 {
-    let Some(p) = poly_at(a, d) else {
-        return false;
-    };
-    band::within_band(p, half, y, tol)
+    poly_at(a, d).is_some_and(|p| band::within_band(p, half, y, tol))
 }
 
 #[unsafe(no_mangle)]
 pub extern "C" fn pongewaru_critical_point(a: &[u8], d: u64, y: f64, lo: f64, hi: f64) -> f64
     ensures { result ≡ unless nan (lacks_five a.now d) (critical_point_of (poly_at a.now d) y lo hi) }
 {
-    let Some(p) = poly_at(a, d) else {
-        return f64::NAN;
-    };
-    critical::critical_point(p, y, lo, hi)
+    poly_at(a, d).map_or(f64::NAN, |p| critical::critical_point(p, y, lo, hi))
 }
 
 // The place, NaN where there is none.
@@ -77,20 +66,16 @@ pub extern "C" fn pongewaru_critical_point(a: &[u8], d: u64, y: f64, lo: f64, hi
 pub extern "C" fn pongewaru_extremum(a: &[u8], d: u64, y: f64, lo: f64, hi: f64, tol: f64) -> f64
     ensures { result ≡ unless nan (lacks_five a.now d) (turning_or_nan (extremum_of (poly_at a.now d) y lo hi tol)) }
 {
-    let Some(p) = poly_at(a, d) else {
-        return f64::NAN;
-    };
-    critical::extremum(p, y, lo, hi, tol).unwrap_or(f64::NAN)
+    poly_at(a, d)
+        .and_then(|p| critical::extremum(p, y, lo, hi, tol))
+        .unwrap_or(f64::NAN)
 }
 
 #[unsafe(no_mangle)]
 pub extern "C" fn pongewaru_polish(a: &[u8], d: u64, y: f64, gap: f64) -> f64
     ensures { result ≡ unless nan (lacks_five a.now d) (polish_of 4 (poly_at a.now d).f (poly_at a.now d).d gap y) }
 {
-    let Some(p) = poly_at(a, d) else {
-        return f64::NAN;
-    };
-    polish::polish(p.polynomial(), y, gap)
+    poly_at(a, d).map_or(f64::NAN, |p| polish::polish(p.polynomial(), y, gap))
 }
 
 // The double at place i, and the byte at place i behind four doubles.
@@ -149,38 +134,22 @@ fn pairs_at(c: &[u8], n: u64) -> roots::Pairs
     }
 }
 
-// Number i of what is found: those of the roots, how many pairs there are, and the centre and the half of each.
-#[tactic(auto, unfolding(crate::specs::Clustering::found_number))]
-fn found_number(x: [f64; 13], s: roots::Pairs, i: usize) -> f64
-    requires fits { PairsFit s }
-    requires i_high { i < 18 }
-    ensures { result ≡ found_number x s i }
-{
-    if i < 13 {
-        return x[i];
-    }
-    if i == 13 {
-        return s.len as f64;
-    }
-    let p = s.pair[(i - 14) / 2];
-    if i % 2 == 0 {
-        return p.centre;
-    }
-    p.half
-}
-
+// What is found: the numbers of the roots, how many pairs there are, and the centre and the half of each.
+#[tactic(auto, unfolding(crate::specs::Clustering::found_numbers))]
 fn found_numbers(s: push::Found) -> [f64; 18]
     requires fits { Fits s.roots }
     requires pairs_fit { PairsFit s.pairs }
     ensures { result ≡ found_numbers s }
 {
-    let x = root_numbers(s.roots);
-    let pairs = s.pairs;
-    std::array::from_fn(|i| found_number(x, pairs, i))
+    let [p, q] = s.pairs.pair;
+    let mut numbers = [s.pairs.len as f64; 18];
+    numbers[14..].copy_from_slice(&[p.centre, p.half, q.centre, q.half]);
+    numbers[..13].copy_from_slice(&root_numbers(s.roots));
+    numbers
 }
 
 // The candidates, n on entry, and the complex pairs, m on entry, after the factor y^2 + al*y + be. Nothing is stored where c is short, or where
-// they have no such count.
+// they have no such count. (By let else here and below: of a map_or whose closure stores, the proof does not find what is stored.)
 #[tactic(auto, using(crate::proofs::Polynomials::counted), unfolding(lent_bytes::specs::Bytes::unless, lent_bytes::specs::Bytes::whole))]
 #[unsafe(no_mangle)]
 pub extern "C" fn pongewaru_push_quadratic(

@@ -16,7 +16,7 @@ use Rattle.split.specs.declared.Gap.{Gap}
 use Rattle.factors.specs.declared.Factors.{Factors}
 use Rattle.factors.specs.Factors.{lin_at, quad_at}
 use Rattle.lent_bytes.specs.Bytes.{f64s_at}
-use Rattle.lent_bytes.specs.Numbers.{number, five, flag_of}
+use Rattle.lent_bytes.specs.Numbers.{number, five}
 
 -- ---- evaluation
 abbrev pub product_numbers : TwoProd → List Float

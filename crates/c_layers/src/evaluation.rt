@@ -10,7 +10,8 @@ ghost use Rattle.c_layers.specs.Numbers.{product_numbers, slope_numbers, derivs_
 use horner::Polynomial;
 use lent_bytes::{doubles_at, lacks_five, store};
 
-// The polynomial of degree d that p holds, if it holds one.
+// The polynomial of degree d that p holds, if it holds one. (By let else where it is used: of a map_or whose closure stores, the proof does not find what is
+// stored.)
 pub(super) fn polynomial_at(p: &[u8], d: u64) -> Option<Polynomial>
     ensures { MatchOption result (lacks_five p.now d ≡ true)
         (λ q. (lacks_five p.now d ≡ false) × (q.f ≡ five_at p.now) × (q.d ≡ d)) }

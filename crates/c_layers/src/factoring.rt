@@ -12,7 +12,7 @@ use lent_bytes::store;
 use quartic::QuarticFactor;
 
 // (No From, here and for the others: the trait and the types are of other crates.)
-#[tactic(auto, unfolding(crate::specs::Numbers::roots_numbers))]
+#[tactic(auto, using(lent_bytes::proofs::Counts::counts), unfolding(crate::specs::Numbers::roots_numbers))]
 fn roots_numbers(roots: CubicRoots) -> [f64; 4]
     ensures { result ≡ roots_numbers roots }
 {

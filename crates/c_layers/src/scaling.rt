@@ -11,19 +11,19 @@ ghost use Rattle.c_layers.specs.Numbers.{scaled_numbers, split_numbers, factor_n
 use crate::evaluation::polynomial_at;
 use lent_bytes::{doubles_at, lacks_five, store};
 
-// Number by number, as the definition has them: part by part it would be copies into zeros, which is longer, and whose proof did not close.
-#[tactic(auto, unfolding(crate::specs::Numbers::scaled_numbers))]
+// (From the back: of a part written behind another part the proof does not find that it is within the array. No From here nor below, as in `factoring`.)
+#[tactic(auto, using(crate::proofs::Sizes::scaled_are))]
 fn scaled_numbers(s: scaled::Scaled) -> [f64; 18]
     requires { s.d ≤ 4 }
     ensures { result ≡ scaled_numbers s }
 {
-    let f = s.f;
-    let g = s.g;
-    let lg = s.lg;
-    [
-        f[0], f[1], f[2], f[3], f[4], g[0], g[1], g[2], g[3], g[4], lg[0], lg[1], lg[2], lg[3],
-        lg[4], s.d as f64, s.e as f64, s.unit,
-    ]
+    let mut numbers = [s.unit; 18];
+    numbers[15] = s.d as f64;
+    numbers[16] = s.e as f64;
+    numbers[10..15].copy_from_slice(&s.lg);
+    numbers[5..10].copy_from_slice(&s.g);
+    numbers[..5].copy_from_slice(&s.f);
+    numbers
 }
 
 // f, g, lg, d, e and unit of the polynomial with the coefficients a, ascending, and the degree d.
@@ -65,28 +65,17 @@ pub extern "C" fn pongewaru_magnitude_split(lg: &[u8], d: u64, out: &mut [u8]) -
     store(out, &split_numbers(s))
 }
 
-// Likewise.
+// nlin, lin, nquad, and the al and be of both quad.
 #[tactic(auto, unfolding(crate::specs::Numbers::factor_numbers))]
 fn factor_numbers(f: factors::Factors) -> [f64; 10]
     requires { Sized f }
     ensures { result ≡ factor_numbers f }
 {
-    let lin = f.lin;
-    let quad = f.quad;
-    let p = quad[0];
-    let q = quad[1];
-    [
-        f.nlin as f64,
-        lin[0],
-        lin[1],
-        lin[2],
-        lin[3],
-        f.nquad as f64,
-        p.al,
-        p.be,
-        q.al,
-        q.be,
-    ]
+    let [p, q] = f.quad;
+    let mut numbers = [f.nlin as f64; 10];
+    numbers[1..5].copy_from_slice(&f.lin);
+    numbers[5..].copy_from_slice(&[f.nquad as f64, p.al, p.be, q.al, q.be]);
+    numbers
 }
 
 // nlin, lin, nquad and the al and be of quad for that polynomial, from this depth on.

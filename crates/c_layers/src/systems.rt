@@ -10,7 +10,7 @@ ghost use Rattle.c_layers.specs.Numbers.{three_rows, four_rows, step_numbers};
 
 use lent_bytes::{doubles_at, store};
 
-// 1 and the unknowns, or zeros where there is no answer.
+// 1 and the unknowns, or zeros where there is no answer. (Five places, of which N + 1 are told: no const argument can be computed.)
 fn store_solution<const N: usize>(m: [[f64; N]; N], b: [f64; N], tol: f64, out: &mut [u8]) -> u64
     requires { N ≤ 4 }
     ensures { Stored (step_numbers N (solve_square_of N m.entry b.entry tol)) out.old result out.new }

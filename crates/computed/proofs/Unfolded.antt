@@ -18,7 +18,8 @@ use Rattle.horner.specs.Horner.{horner_step, value_slope_of, sum_error, compensa
 use Rattle.horner.specs.Taylor.{derivs_step, derivs12_of}
 use Rattle.square.specs.Square.{size_sum_of, scale_of, least_pivot_of, larger_of, pivot_of, swap_pivot_of, lose_of}
 use Rattle.square.specs.Square.{reduce_step, reduce_of, remainder_of, substitute_step, substitute_of, solve_from, solve_square_of}
-use Rattle.refine.specs.Refine.{over_of, weighted_of, norm_of, is_settled_of, weigh_row_of, weigh_rows_of, advanced_of, trial_of, no_less_of, kept_of, next_of, refine_of}
+use Rattle.refine.specs.Refine.{over_of, weighted_of, norm_of, is_settled_of, weigh_row_of, weigh_rows_of, advanced_of, trial_of, no_less_of, kept_of}
+use Rattle.refine.specs.Refine.{next_of, refine_of}
 use Rattle.refine.specs.Newton.{flat_of, no_gain_of, newton_next, newton_cubic_of}
 use Rattle.cubic.specs.Cubic.{one_root_of, depressed_roots_of, cubic_closed_form_of, isolation_of, better_of, most_isolated_of, cubic_factor_of}
 use Rattle.isolated.specs.Isolated.{far_root_of, root_pair_of, is_better_of, judged_of, best_root_of, isolated_root_of, peel_root_of}
@@ -74,5 +75,6 @@ scaling = 0
 unfoldable pub solving : ℕ
 unfolding kind_of held kept paired zero_roots_of candidates_of by_value touches_at magnitude_step magnitude_of budget_of base_of within_band_of critical_next
     critical_point_of extremum_of quadratic_roots_of push_factor push_quadratic_of is_long_of is_small_of polish_next polish_of answered ◌then◌ each
-    pair_order ordered link_at contact_of emitted item_turn chained touching linear_of is_grazing_of two_of solve_quadratic_of eighth_of f_at_of sample_of quartic_of
+    pair_order ordered link_at contact_of emitted item_turn chained touching linear_of is_grazing_of two_of solve_quadratic_of eighth_of f_at_of sample_of
+    quartic_of
 solving = 0

@@ -59,8 +59,8 @@ pub record Squares : Type 0 where
   pub nan_pivot : solve_square_of 1 ((nan ∷ []) ∷ []) (one64 ∷ []) zero64 ≡ Some (nan ∷ [])
   -- Document 01: 'added row by row': 2^53 + 1 is rounded down, and tol * 2^53 is below the pivots 1; not the entry sum by columns, not from the last row up
   -- (2^53 + 4 then, and no step)
-  pub row_by_row : solve_square_of 3 ((one64 ∷ 1 *2^ 53 ∷ zero64 ∷ []) ∷ (one64 ∷ zero64 ∷ zero64 ∷ []) ∷ (zero64 ∷ zero64 ∷ one64 ∷ []) ∷ []) (replicate 3 one64)
-      ((2 ^ 53 - 1) /2^ 106) ≡ Some (one64 ∷ minus_zero ∷ one64 ∷ [])
+  pub row_by_row : solve_square_of 3 ((one64 ∷ 1 *2^ 53 ∷ zero64 ∷ []) ∷ (one64 ∷ zero64 ∷ zero64 ∷ []) ∷ (zero64 ∷ zero64 ∷ one64 ∷ []) ∷ [])
+      (replicate 3 one64) ((2 ^ 53 - 1) /2^ 106) ≡ Some (one64 ∷ minus_zero ∷ one64 ∷ [])
   -- the same: 2^53 + 1 and 2^53 + 3/2 + 3/4 are rounded one by one; not the entry sum's rows from their ends, not of row sums (2^53 + 4 then)
   pub entry_sum : scale_of 3 ((1 *2^ 53 ∷ zero64 ∷ zero64 ∷ []) ∷ (one64 ∷ 3 /2^ 1 ∷ 3 /2^ 2 ∷ []) ∷ replicate 3 zero64 ∷ []) ≡ (2 ^ 52 + 1) *2^ 1
   -- 821, `current.is_finite()`; not: an infinite norm goes on
@@ -162,7 +162,8 @@ pub record Bands : Type 0 where
       candidates_of (bare (two64 ∷ neg three64 ∷ one64 ∷ []) 2 one64) 0 (factors (three64 ∷ []) (quad_of (neg three64) two64 ∷ [])) zero64
       ≡ (root three64 1 ∷ root two64 1 ∷ root one64 1 ∷ [], [])
   -- 349 and 350, for y^2 - 3y + 2; not the smaller root of a factor first
-  pub larger_first : push_quadratic_of (bare (two64 ∷ neg three64 ∷ one64 ∷ []) 2 one64) (neg three64) two64 zero64 [] [] ≡ (root two64 1 ∷ root one64 1 ∷ [], [])
+  pub larger_first : push_quadratic_of (bare (two64 ∷ neg three64 ∷ one64 ∷ []) 2 one64) (neg three64) two64 zero64 [] []
+      ≡ (root two64 1 ∷ root one64 1 ∷ [], [])
   -- 342, `0.5 * disc.abs().sqrt()`, of a disc of 2^-1074; not half by a quarter (then 0, and a double root)
   pub half_of_the_root : push_quadratic_of (bare (zero64 ∷ one64 ∷ []) 1 one64) (1 /2^ 537) zero64 zero64 [] []
       ≡ (root (neg (1 /2^ 537)) 1 ∷ root minus_zero 1 ∷ [], [])

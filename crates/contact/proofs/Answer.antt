@@ -22,7 +22,8 @@ module _ (confusion : Float) (p : Path) (r : Float) (coeffs : List Float) where
   list = roots_of (real_roots_touching_of (touches_of confusion p r) coeffs confusion)
 
   same : (lg : List Float) (n : Result ℕ Refusal)
-      → and_then (and_then (and_then n (λ n. Ok (finished_of (poly_of coeffs) (zeros_of coeffs) (max_of confusion zero64)))) (λ s. Ok (relogged lg s))) (λ s. Ok list)
+      → and_then (and_then (and_then n (λ n. Ok (finished_of (poly_of coeffs) (zeros_of coeffs) (max_of confusion zero64)))) (λ s. Ok (relogged lg s)))
+      (λ s. Ok list)
       ≡ and_then n (λ n. Ok list)
   same lg (Ok n) = refl
   same lg (Err refusal) = refl

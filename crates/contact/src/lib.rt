@@ -13,7 +13,7 @@ use inquiry::Asked;
 use refusals::Refusal;
 use roots::Roots;
 
-// The ball is at x0 + x1*t + x2*t^2 across, and likewise y along.
+// The six letters of document 02's record: the ball is at x0 + x1*t + x2*t^2 across, and likewise y along.
 #[derive(Clone, Copy)]
 pub struct Path {
     pub x0: f64,
@@ -24,7 +24,7 @@ pub struct Path {
     pub y2: f64,
 }
 
-// Its centre and its radius.
+// A circle: its centre and its radius.
 #[derive(Clone, Copy)]
 pub struct Circle {
     pub cx: f64,
@@ -82,15 +82,12 @@ impl Path {
 }
 
 // At most three questions are asked, so the loop ends. Nothing looks at a logarithm, so a level list is solved without.
-// (By replies, not by a closure into the walk: the walk is proved once, of replies at hand.)
+// One reply after another, as documents 01 and 02 have them of an inquiry: a walk that calls a closure would be a second one beside that of replies at hand.
 fn listed(confusion: f64, p: Path, r: f64, coeffs: &[f64]) -> Result<Roots, Refusal>
     ensures { result ≡ listed_of confusion p r coeffs.now }
 {
     let s = poly::solve_brief(coeffs, confusion)?;
-    let mut replies = touching::Replies {
-        reply: [false; 4],
-        count: 0,
-    };
+    let mut replies = touching::Replies::default();
     loop {
         match inquiry::asked_with(s, replies) {
             Asked::Question(t) => replies = replies.with(p.touches(confusion, r, t)),

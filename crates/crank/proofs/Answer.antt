@@ -82,7 +82,8 @@ module _ (confusion : Float) (trig : TrigEquation) where
         go (Ok c) e is =
             let z : outcome_of start ≡ 0 = ap outcome_of e in (
               z,
-              ap (λ (r : Result CrankShown Refusal). value_or s r) is ∙ ap (λ (r : Result CrankInquiry Refusal). shown confusion four_no (crank_in r)) (sym e ∙ started trig confusion z),
+              ap (λ (r : Result CrankShown Refusal). value_or s r) is
+                  ∙ ap (λ (r : Result CrankInquiry Refusal). shown confusion four_no (crank_in r)) (sym e ∙ started trig confusion z),
             )
         go (Err refusal) e is = absurd (let n : 0 ≡ number_of refusal = ap outcome_of is in omega (arith, n, number_bounds refusal))
 

@@ -140,9 +140,6 @@ module _ (trig : TrigEquation) where
         start_by (λ h g e. ap about e ∙ begun_about (start_of q confusion))
         (λ h e. ap about e ∙ about_nothing (start_of q confusion) (λ z. omega (arith, z, start_number q confusion, quartic_refused h)))
 
-    pub same_asking : asking (crank_in start).inquiry ≡ real_roots_touching q confusion
-    same_asking = ap asking same_inquiry ∙ start_asks q confusion
-
     refused_list : 0 < refusal_of q → real_roots_touching q confusion ≡ done []
     refused_list h = refused_asks q confusion (ne_eqb (refusal_of q) 0 (λ z. omega (arith, h, z)))
 

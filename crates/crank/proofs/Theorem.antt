@@ -1,6 +1,6 @@
 -- Every claim about cranks, for all bits.
 use mathlib.Core.Path.{◌≡◌, refl, sym, ap, ◌∙◌, subst, subst⁻¹}
-use mathlib.Core.Logic.{◌⊎◌, ⊎_elim}
+use mathlib.Core.Logic.{⊎_elim}
 use mathlib.Core.Bool.{Bool, false}
 use mathlib.Core.List.{List, []}
 use Prim.Native.Nat.{ℕ, ◌<◌}
@@ -87,4 +87,5 @@ module _ (confusion : Float) (trig : TrigEquation) where
 pub with_demand : (confusion : Float) (trig : TrigEquation) {r : Result CrankAnswer Refusal} → r ≡ crank_of confusion trig
     → (r ≡ crank_of confusion trig) × Within (degree_left (trig_quartic_of trig)) (list_of (crank_roots_in r))
 with_demand confusion trig {r} is =
-    (is, subst⁻¹ (λ (a : Result CrankAnswer Refusal). Within (degree_left (trig_quartic_of trig)) (list_of (crank_roots_in a))) is (cranks confusion trig).answer)
+    let within = λ (a : Result CrankAnswer Refusal). Within (degree_left (trig_quartic_of trig)) (list_of (crank_roots_in a)) in
+    (is, subst⁻¹ within is (cranks confusion trig).answer)

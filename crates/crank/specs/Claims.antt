@@ -13,8 +13,8 @@ use Rattle.trig_quartic.specs.declared.TrigEquation.{TrigEquation}
 use Rattle.trig_quartic.specs.Crank.{numbers_of}
 use Rattle.inquiry.specs.declared.Asked.TheVariants.{Question, Finished}
 use Rattle.crank.specs.declared.CrankInquiry.{CrankInquiry}
-use Rattle.crank.specs.Crank.{trig_quartic_of, solve_trig_of, places_trig_of, crank_start_of, crank_in, crank_asked_of, crank_replied_of, crank_after, crank_fed, crank_of}
-use Rattle.crank.specs.Crank.{crank_roots_in}
+use Rattle.crank.specs.Crank.{trig_quartic_of, solve_trig_of, places_trig_of, crank_start_of, crank_in, crank_asked_of, crank_replied_of, crank_after}
+use Rattle.crank.specs.Crank.{crank_fed, crank_of, crank_roots_in}
 
 -- Each number, 0 for a start too, stands exactly for its condition: on the equation's five numbers, and on the quartic's coefficients q.
 pub record Numbers (number : ℕ) (numbers q : List Float) : Type 0 where

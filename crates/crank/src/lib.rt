@@ -12,7 +12,7 @@ use inquiry::Asked;
 use refusals::Refusal;
 use trig_quartic::{TrigEquation, crank_front};
 
-// k, and the inquiry about the quartic in u.
+// k, and the inquiry about the quartic in u. (One generic struct for this and the three below would call inquiry, question, list and roots `value`.)
 #[derive(Clone, Copy)]
 pub struct CrankInquiry {
     pub k: u32,

@@ -7,12 +7,13 @@ ghost use Rattle.facts.specs.Turns.{turns_of};
 ghost use Rattle.band.specs.Band.{bare};
 ghost use Rattle.critical.specs.Critical.{is_between_of, critical_next, critical_point_of, extremum_of, double_at};
 
-use horner::Polynomial;
+use horner::{Polynomial, ValueSlope};
 
+// (lo and hi by themselves, here and below, as in poly.rs and as C hands them in: pongewaru_critical_point, pongewaru_extremum.)
 fn is_between(lo: f64, x: f64, hi: f64) -> bool
     ensures { result ≡ is_between_of lo x hi }
 {
-    lo <= x && x <= hi
+    (lo..=hi).contains(&x)
 }
 
 pub fn critical_point(poly: scaled::Scaled, y0: f64, lo: f64, hi: f64) -> f64
@@ -26,24 +27,14 @@ pub fn critical_point(poly: scaled::Scaled, y0: f64, lo: f64, hi: f64) -> f64
 fn critical(p: Polynomial, y0: f64, lo: f64, hi: f64) -> f64
     ensures { result ≡ turns_of (critical_next p.f p.d lo hi) 4 y0 }
 {
-    let mut y = y0;
-    let mut at = p.derivs12(y0);
-    for _ in 0..4u32 {
-        if refine::flat(at.d1, at.d2) {
-            return y;
+    let look = |y| {
+        let v = p.derivs12(y);
+        ValueSlope {
+            value: v.d1,
+            slope: v.d2,
         }
-        let next = y - at.d1 / at.d2;
-        if !is_between(lo, next, hi) {
-            return y;
-        }
-        let there = p.derivs12(next);
-        if refine::no_gain(at.d1, there.d1) {
-            return y;
-        }
-        y = next;
-        at = there;
-    }
-    y
+    };
+    refine::newton(4, y0, look, |y| is_between(lo, y, hi))
 }
 
 // The critical point, if Newton's step from there is within the caller's band.

@@ -13,7 +13,8 @@ use Rattle.angle.specs.Third.{third_angle_of}
 use Rattle.horner.proofs.Vectors.{computes as evaluates}
 use Rattle.square.specs.Square.{size_sum_of, scale_of, least_pivot_of, larger_of, pivot_of, swap_pivot_of, lose_of}
 use Rattle.square.specs.Square.{reduce_step, reduce_of, remainder_of, substitute_step, substitute_of, solve_from, solve_square_of}
-use Rattle.refine.specs.Refine.{over_of, weighted_of, norm_of, is_settled_of, weigh_row_of, weigh_rows_of, advanced_of, trial_of, no_less_of, kept_of, next_of, refine_of}
+use Rattle.refine.specs.Refine.{over_of, weighted_of, norm_of, is_settled_of, weigh_row_of, weigh_rows_of, advanced_of, trial_of, no_less_of, kept_of}
+use Rattle.refine.specs.Refine.{next_of, refine_of}
 use Rattle.refine.specs.Newton.{flat_of, no_gain_of, newton_next, newton_cubic_of}
 use Rattle.cubic.specs.declared.CubicRoots.TheVariants.{Three}
 use Rattle.cubic.specs.Cubic.{one_root_of, three_roots_of, depressed_roots_of, cubic_closed_form_of, isolation_of, better_of, most_isolated_of, cubic_factor_of}

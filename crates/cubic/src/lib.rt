@@ -27,7 +27,8 @@ fn cardano(p: f64, a: f64) -> f64
     if a != 0.0 { a - p / (3.0 * a) } else { 0.0 }
 }
 
-// Cardano: the term of larger size first.
+// Cardano: the term of larger size first. (shift, p, q and disc by themselves, as in cubic_closed_form of poly.rs: each function is a formula in these
+// letters.)
 #[tactic(auto, unfolding(crate::specs::Cubic::one_root_of))]
 fn one_root(shift: f64, p: f64, q: f64, disc: f64) -> CubicRoots
     ensures { result ≡ one_root_of shift p q disc }
@@ -86,8 +87,9 @@ pub struct CubicFactor {
 fn isolation(a: f64, b: f64, c: f64) -> f64
     ensures { result ≡ isolation_among a b c }
 {
-    let near = float::min(float::infinity(), float::abs(a - b));
-    float::min(near, float::abs(a - c))
+    [float::abs(a - b), float::abs(a - c)]
+        .into_iter()
+        .fold(f64::INFINITY, float::min)
 }
 
 // The last of equally isolated roots.

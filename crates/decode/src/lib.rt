@@ -19,26 +19,23 @@ pub fn normal_of(x: f64) -> Option<Digits>
     if float::is_nan(x) {
         return None;
     }
-    let b = f64::to_bits(x) % 0x8000_0000_0000_0000;
+    let b = x.to_bits() % 0x8000_0000_0000_0000;
     let field = b / 0x10_0000_0000_0000;
     let fraction = b % 0x10_0000_0000_0000;
-    if field == 0x7ff {
-        return None;
-    }
-    if field != 0 {
-        return Some(Digits {
+    match (field, fraction) {
+        (0x7ff, _) | (0, 0) => None,
+        (0, _) => {
+            let z = fraction.leading_zeros() - 11;
+            Some(Digits {
+                w: fraction << z,
+                k: 52 - z as u64,
+            })
+        }
+        _ => Some(Digits {
             w: 0x10_0000_0000_0000 + fraction,
             k: field + 51,
-        });
+        }),
     }
-    if fraction == 0 {
-        return None;
-    }
-    let z = u64::leading_zeros(fraction) - 11;
-    Some(Digits {
-        w: fraction << z,
-        k: 52 - z as u64,
-    })
 }
 
 // The exponent of x: the greatest k with 2^k <= |x|. 1024 for an infinity and a NaN, -1075 for a zero. (No Option: it is the

@@ -92,7 +92,8 @@ module _ (s : Bool) (n b : ℕ) (h : Held n) where
   den_pos = rw (powers b).1 (mul-pos (pow_pos 1074) (pow_pos b))
 
   cut_rounded : Rounded n (2 ^ b) cut
-  cut_rounded = same_fraction n (2 ^ b) den_pos (pow_pos b) (rw ((powers b).0, (powers b).1) (moved n (2 ^ 1074) (2 ^ b))) (rounded (num * 2 ^ 1074) den den_pos)
+  cut_rounded =
+      same_fraction n (2 ^ b) den_pos (pow_pos b) (rw ((powers b).0, (powers b).1) (moved n (2 ^ 1074) (2 ^ b))) (rounded (num * 2 ^ 1074) den den_pos)
     where
       moved : (n U B : ℕ) → n * 1 * U * B ≡ n * (U * B)
       moved n U B = omega arith
@@ -228,7 +229,8 @@ lowered_from (suc f) m i n r s l p h g =
             let e : i + 1000 + (m - 1000) ≡ i + m = omega arith in
             sym (pow-add 2 (i + 1000) (m - 1000)) ∙ ap (λ (j : ℕ). 2 ^ j) e ∙ pow-add 2 i m
 
-pub lowered_is : (x : Float) (N : ℕ) → Finite x → (t : ℕ) × (ldexp_of x (negsuc N) ≡ double_of (is_sign_negative_of x) t) × Held t × Off 3 (units_of x) (2 ^ suc N) t
+pub lowered_is : (x : Float) (N : ℕ) → Finite x
+    → (t : ℕ) × (ldexp_of x (negsuc N) ≡ double_of (is_sign_negative_of x) t) × Held t × Off 3 (units_of x) (2 ^ suc N) t
 unfolding ldexp_of
 lowered_is x N f =
     let a = units_of x in

@@ -241,7 +241,8 @@ module _ (reply : ℕ → Bool) where
         between : Option Float
         between = extremum_of poly (half64 *ᶠ (c.last +ᶠ it.value)) c.last it.value tol
 
-        go : (z w : Bool) → eqb it.multiplicity 0 ≡ z → eqb c.mult 0 ≡ w → numbered reply n (cond z (done (no_chain, emitted poly.e (shown_of out) (chain_of c)))
+        go : (z w : Bool) → eqb it.multiplicity 0 ≡ z → eqb c.mult 0 ≡ w
+            → numbered reply n (cond z (done (no_chain, emitted poly.e (shown_of out) (chain_of c)))
             (cond w (done (opened_by (kinded it), shown_of out)) (link_at poly.e (shown_of out) (chain_of c) (kinded it) between)))
             ≡ as_shown (cond z (n, (nothing_joined, ended_with out c)) (cond w (n, (begun_by it, out)) (linked_by reply poly tol n c out it between)))
         go true w e g = λ i. (n, (no_chain, emitted_so out c i))

@@ -122,7 +122,8 @@ module _ (poly : Scaled) (tol : Float) where
   unfolding each ◌then◌ item_turn
   along_separator c out it l e = rw (eq-eqb it.multiplicity 0 e)
 
-  along_opened : (out : List RealRoot) (it : RealRoot) (l : List RealRoot) → (it.multiplicity ≡ 0 → ⊥) → along no_chain out (it ∷ l) ≡ along (opened_by it) out l
+  along_opened : (out : List RealRoot) (it : RealRoot) (l : List RealRoot) → (it.multiplicity ≡ 0 → ⊥)
+      → along no_chain out (it ∷ l) ≡ along (opened_by it) out l
   unfolding each ◌then◌ item_turn
   along_opened out it l n = rw (ne_eqb it.multiplicity 0 n)
 

@@ -19,8 +19,8 @@ use Rattle.std.specs.Prelude.{Option, Some, None}
 use Rattle.critical.specs.Critical.{extremum_of}
 use Rattle.poly.specs.RealRoots.{unscaled_of}
 use Rattle.touching.specs.Touching.{pair_order, all_apart, apart_of}
-use Rattle.demands.specs.Formed.{Formed, times_in, times_of, unasked, item_of, sorted_items, Joined, nothing_joined, begun_by, linked_to, contact_by, ended_with}
-use Rattle.demands.specs.Formed.{touches_by, paired_by, pairs_by, parted_by, linked_by, joined_by, chains_by, formed_by}
+use Rattle.demands.specs.Formed.{Formed, times_in, times_of, unasked, item_of, sorted_items, Joined, nothing_joined, begun_by, linked_to, contact_by}
+use Rattle.demands.specs.Formed.{ended_with, touches_by, paired_by, pairs_by, parted_by, linked_by, joined_by, chains_by, formed_by}
 use Rattle.demands.proofs.Formed.{heard, sought_by}
 
 times_append : (i : ℕ) (l m : List ℕ) → times_in i (l ++ m) ≡ times_in i l + times_in i m

@@ -181,7 +181,8 @@ typed_formulas = record {
   every = formulas;
   polished = λ s tol e. simple_roots.polished (handed_on (formula_of s)) tol (formula_doubles s) (formula_solved s tol e);
   kinds = λ s tol.
-      answered_by_list (λ (a : Result Roots Refusal). NeverBrush (list_of (roots_in a))) s tol (λ n h k l. absurd (omega (arith, l))) (λ cs h. kinds.list cs tol);
+      answered_by_list (λ (a : Result Roots Refusal). NeverBrush (list_of (roots_in a))) s tol (λ n h k l. absurd (omega (arith, l)))
+      (λ cs h. kinds.list cs tol);
   line = formula_line;
   cut = formula_cut;
   order = refl;

@@ -37,7 +37,8 @@ abbrev answered_by : Bool → Bool → QuadraticSolution → Result QuadraticSol
 answered_by f g s = cond f (cond g (Ok s) (Err AnswerNotFinite)) (Err NotFinite)
 
 module _ (handed : List Float) (s : QuadraticSolution) where
-  numbers_so : (f g : Bool) → all_finite_of handed ≡ f → all_finite_of (values_of s) ≡ g → QuadraticNumbers (outcome_of (answered_by f g s)) handed (values_of s)
+  numbers_so : (f g : Bool) → all_finite_of handed ≡ f → all_finite_of (values_of s) ≡ g
+      → QuadraticNumbers (outcome_of (answered_by f g s)) handed (values_of s)
   numbers_so true true e h = record {
     zero = is_it refl (finite_at handed e, finite_at (values_of s) h);
     one = is_not (λ z. omega arith) (λ r. apart handed e (not_all handed r));

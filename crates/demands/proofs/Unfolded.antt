@@ -61,7 +61,8 @@ leaves = 0
 -- layers 2 and 3
 unfoldable pub evaluation : ℕ
 unfolding down_to split_high product_error two_prod_of discriminant_of horner_step value_slope_of sum_error compensated_step compensated_of
-    value_slope_compensated_of derivs_step derivs12_of size_sum_of over_of weighted_of norm_of is_settled_of next_of refine_of flat_of no_gain_of newton_next newton_cubic_of
+    value_slope_compensated_of derivs_step derivs12_of size_sum_of over_of weighted_of norm_of is_settled_of next_of refine_of flat_of no_gain_of newton_next
+    newton_cubic_of
 evaluation = 0
 
 -- layer 4
@@ -80,7 +81,8 @@ scaling = 0
 unfoldable pub solving : ℕ
 unfolding kept paired magnitude_step magnitude_of budget_of base_of within_band_of critical_next critical_point_of extremum_of quadratic_roots_of
     push_factor push_quadratic_of polish_next polish_of by_value ordered_at ordered_of polished_at polished_of is_near_of joined_from joined_of finish_of
-    trimmed_from trimmed_of zeros_of counted_by middle_at middle_of poly_of zero_roots_of candidates_of finished_of solve_of unscaled_all answer_of real_roots_of
+    trimmed_from trimmed_of zeros_of counted_by middle_at middle_of poly_of zero_roots_of candidates_of finished_of solve_of unscaled_all answer_of
+    real_roots_of
 solving = 0
 
 -- an inquiry, a quadratic and a crank

@@ -82,7 +82,9 @@ chain_place_of v k c =
 
 -- `if let Some(r) = poly.unscaled(y, mult) { out.push(r); }`
 abbrev pub pushed : Scaled → List RealRoot → List RealRoot → ℕ → Linked → List RealRoot
-pushed poly v out k c = let x = unscaled_of poly.e (chain_place_of v k c) in cond (is_finite_of x) (out ++ record { value = x; multiplicity = c.mult; kind = c.kind } ∷ []) out
+pushed poly v out k c =
+    let x = unscaled_of poly.e (chain_place_of v k c) in
+    cond (is_finite_of x) (out ++ record { value = x; multiplicity = c.mult; kind = c.kind } ∷ []) out
 
 module _ (poly : Scaled) (tol : Float) (v : List RealRoot) where
   -- `let (lo, hi) = (items[k].0, items[k + 1].0);`, and `poly.extremum(0.5 * (lo + hi), lo, hi, tol)`, filtered

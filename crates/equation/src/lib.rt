@@ -8,7 +8,7 @@ ghost use Rattle.equation.specs.Quadratic.{quadratic_centre_of, linear_of, is_gr
 use refusals::Refusal;
 use solution::QuadraticSolution;
 
-// The middle of the roots, and 0 where the equation is near linear.
+// The middle of the roots, and 0 where the equation is near linear: no Option, since the Rust's f64 is what the C function hands out.
 #[tactic(auto, unfolding(crate::specs::Quadratic::quadratic_centre_of))]
 pub fn quadratic_centre(a: f64, b: f64, angular: f64) -> f64
     ensures { result ≡ quadratic_centre_of a b angular }
@@ -21,6 +21,7 @@ pub fn quadratic_centre(a: f64, b: f64, angular: f64) -> f64
     }
 }
 
+// (a, b and c one by one, here and below: a struct, as TrigEquation is, would be made for one call, and each of these formulas would take it apart again.)
 #[tactic(auto, unfolding(crate::specs::Quadratic::linear_of))]
 fn linear(b: f64, c: f64, confusion: f64) -> QuadraticSolution
     ensures { result ≡ linear_of b c confusion }
@@ -31,15 +32,13 @@ fn linear(b: f64, c: f64, confusion: f64) -> QuadraticSolution
     QuadraticSolution::Linear(-c / b)
 }
 
-const EPSILON: f64 = 2.220446049250313e-16;
-
 // Whether the half-separation of the roots, root / (2|a|), is within the band or the discriminant's rounding noise.
 #[tactic(auto, unfolding(crate::specs::Quadratic::is_grazing_of))]
 fn is_grazing(a: f64, b: f64, c: f64, mid: f64, root: f64, confusion: f64) -> bool
     ensures { result ≡ is_grazing_of a b c mid root confusion }
 {
     let twice = 2.0 * float::abs(a);
-    let noise = sqrt::sqrt(4.0 * EPSILON * (b * b + 4.0 * float::abs(a * c))) / twice;
+    let noise = sqrt::sqrt(4.0 * f64::EPSILON * (b * b + 4.0 * float::abs(a * c))) / twice;
     root / twice <= confusion * (1.0 + float::abs(mid)) + noise
 }
 

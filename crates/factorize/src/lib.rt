@@ -6,6 +6,7 @@ ghost use Rattle.std.specs.Prelude.{◌≡◌, ◌≤◌, ◌<◌};
 ghost use Rattle.factorize.specs.Factorize.{cubic_factors_of, quartic_factors_of, out_of, factorize_of};
 ghost use Rattle.factorize.specs.Discs.{disc_at, rooted_of};
 
+// (The coefficients one by one, here and in quartic_factors, as cubic_factor and quartic_factor take them.)
 #[tactic(auto, unfolding(crate::specs::Factorize::cubic_factors_of))]
 fn cubic_factors(b: f64, c: f64, d: f64) -> factors::Factors
     ensures { result ≡ cubic_factors_of b c d }

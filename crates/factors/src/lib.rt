@@ -48,6 +48,7 @@ impl Factors {
         self
     }
 
+    // (al and be by themselves, as in poly.rs: no caller has a Quad to hand on.)
     #[tactic(auto, unfolding(crate::specs::Factors::push_quad_of))]
     pub fn push_quad(mut self, al: f64, be: f64) -> Factors
         ensures { result ≡ push_quad_of self al be }

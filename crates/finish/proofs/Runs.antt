@@ -5,15 +5,15 @@ use mathlib.Core.List.{List, [], ◌∷◌}
 use Prim.Native.Nat.{ℕ, ◌+◌, ◌^◌, ◌≤◌, ◌<◌}
 use native.Mathlib.Nat.{le_refl}
 use native.Mathlib.Omega.{arith}
-use lib.ListN.{get_or, take, drop}
+use lib.ListN.{length, get_or, drop, drop_of_length-le}
 use lib.Ieee.{Float}
-use Rattle.facts.specs.Lists.{length_mapped}
+use Rattle.facts.specs.Lists.{drop_next, length_mapped}
 use Rattle.scaled.specs.declared.Scaled.{Scaled}
-use Rattle.roots.specs.Roots.{list_of, roots_of, no_roots, kept, kept_in}
-use Rattle.roots.specs.Listed.{blank, Fits, multiplicities}
+use Rattle.roots.specs.Roots.{roots_of, no_roots, kept, kept_in}
+use Rattle.roots.specs.Listed.{blank, multiplicities}
 use Rattle.roots.specs.declared.RealRoot.{RealRoot}
 use Rattle.roots.specs.declared.Roots.{Roots}
-use Rattle.roots.proofs.Laws.{roots_cons, roots_nil, kept_roots}
+use Rattle.roots.proofs.Laws.{kept_roots}
 use Rattle.finish.specs.Finish.{is_near_of, join_of, joined_from, joined_of}
 use Rattle.finish.specs.Run.{next_run, runs_of, Joining}
 use Rattle.finish.specs.declared.Run.{Run}
@@ -53,46 +53,37 @@ module _ (poly : Scaled) (tol : Float) where
     unfolding next_run
     next_ended more t e = simp (t, e)
 
-  -- ---- the places in an array, one after the other
-  pub joined_none : (p : Roots) → p.len ≡ 0 → roots_of [] ≡ roots_of (joined_of poly tol (list_of p))
+  -- ---- the places, one after the other
+  pub joined_none : (l : List RealRoot) → length l ≡ 0 → no_roots ≡ roots_of (joined_of poly tol l)
   unfolding joined_of
-  joined_none p e = ap (λ (n : ℕ). roots_of (joined_of poly tol (take n p.root))) (sym e)
+  joined_none [] e = refl
+  joined_none (a ∷ l) e = absurd (omega (arith, e))
 
-  sum_left : (p : Roots) (k : ℕ) → Fits p → k < p.len
-      → multiplicities (drop k (list_of p)) ≡ (get_or p.root k blank).multiplicity + multiplicities (drop (k + 1) (list_of p))
-  sum_left p k f h = ap multiplicities (roots_cons p k f h)
-
-  pub joins_first : (p : Roots) {none : Roots} → Fits p → 0 < p.len → multiplicities (list_of p) < 2 ^ 32 → none ≡ no_roots
-      → Joining poly tol p 1 (record { out = none; at = get_or p.root 0 blank })
+  pub joins_first : (a : RealRoot) (rest l : List RealRoot) {none : Roots} → l ≡ a ∷ rest → multiplicities l < 2 ^ 32 → none ≡ no_roots
+      → Joining poly tol (roots_of (joined_of poly tol l)) rest 0 (record { out = none; at = a })
   unfolding joined_of
-  joins_first p f h bound z =
-      let l = drop 1 (list_of p) in
-      record {
-        fits = f;
-        whole = rw z (runs_are [] (get_or p.root 0 blank) l ∙ ap (λ (l : List RealRoot). roots_of (joined_of poly tol l)) (sym (roots_cons p 0 f h)));
-        adds = rw (sym (sum_left p 0 f h)) bound;
-      }
+  joins_first a rest l e bound z = record { gives = rw (z, e) (runs_are [] a rest); adds = rw e at bound }
 
 -- one place more, and after the last
-module _ (poly : Scaled) (tol : Float) (p : Roots) (k : ℕ) (run : Run) where
-  pub joins_both : k < p.len → Joining poly tol p k run → run.at.multiplicity + (get_or p.root k blank).multiplicity < 2 ^ 32
-  joins_both h w = omega (arith, sum_left poly tol p k w.fits h, w.adds)
+module _ (poly : Scaled) (tol : Float) (whole : Roots) (l : List RealRoot) (k : ℕ) (run : Run) where
+  pub joins_both : k < length l → Joining poly tol whole l k run → run.at.multiplicity + (get_or l k blank).multiplicity < 2 ^ 32
+  joins_both h w = omega (arith, ap multiplicities (drop_next l k blank h), w.adds)
 
   abbrev more : Run
-  more = next_run poly run (get_or p.root k blank) tol
+  more = next_run poly run (get_or l k blank) tol
 
-  pub next_whole : k < p.len → Joining poly tol p k run → runs_of poly tol more (drop (k + 1) (list_of p)) ≡ roots_of (joined_of poly tol (list_of p))
+  pub next_gives : k < length l → Joining poly tol whole l k run → runs_of poly tol more (drop (k + 1) l) ≡ whole
   unfolding runs_of
-  next_whole h w = sym (ap (runs_of poly tol run) (roots_cons p k w.fits h)) ∙ w.whole
+  next_gives h w = sym (ap (runs_of poly tol run) (drop_next l k blank h)) ∙ w.gives
 
-  pub next_adds : k < p.len → Joining poly tol p k run → more.at.multiplicity + multiplicities (drop (k + 1) (list_of p)) < 2 ^ 32
-  next_adds h w = omega (arith, sum_left poly tol p k w.fits h, next_sum poly tol run (get_or p.root k blank), w.adds)
+  pub next_adds : k < length l → Joining poly tol whole l k run → more.at.multiplicity + multiplicities (drop (k + 1) l) < 2 ^ 32
+  next_adds h w = omega (arith, ap multiplicities (drop_next l k blank h), next_sum poly tol run (get_or l k blank), w.adds)
 
-  pub joins_last : p.len ≤ k → Joining poly tol p k run → kept_in run.out run.at ≡ roots_of (joined_of poly tol (list_of p))
+  pub joins_last : length l ≤ k → Joining poly tol whole l k run → kept_in run.out run.at ≡ whole
   unfolding runs_of
-  joins_last h w = sym (ap (runs_of poly tol run) (roots_nil p k w.fits h)) ∙ w.whole
+  joins_last h w = sym (ap (runs_of poly tol run) (drop_of_length-le l {i = k} h)) ∙ w.gives
 
 -- What the functions' proofs rest on.
 pub ruleset next = (next_joined, next_ended)
 
-pub ruleset runs = (length_mapped, joined_none, joins_first, joins_both, next_whole, next_adds, joins_last)
+pub ruleset runs = (length_mapped, joined_none, joins_first, joins_both, next_gives, next_adds, joins_last)

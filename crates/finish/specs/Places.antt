@@ -1,17 +1,11 @@
 -- What the functions for one place say. Definitions only.
-use Rattle.std.specs.Prelude.{cond, List, ℕ, ltb, get_or, Float}
-use Rattle.facts.specs.Sort.{inserted_by}
-use Rattle.float.specs.Methods.{total_le_of}
+use Rattle.std.specs.Prelude.{cond, ℕ, ltb, get_or, Float}
 use Rattle.scaled.specs.declared.Scaled.{Scaled}
 use Rattle.roots.specs.Roots.{list_of}
 use Rattle.roots.specs.Listed.{blank}
 use Rattle.roots.specs.declared.RealRoot.{RealRoot}
 use Rattle.roots.specs.declared.Roots.{Roots}
 use Rattle.finish.specs.Finish.{Ordered, ordered_at, polished_at}
-
--- x put behind those of l that stand before it, ties among them
-abbrev pub inserted : RealRoot → List RealRoot → List RealRoot
-inserted x l = inserted_by (λ a b. total_le_of a.value b.value) x l
 
 -- a root, and the distance to its nearest neighbour
 abbrev pub place_of : RealRoot → Float → Ordered

@@ -1,11 +1,11 @@
 -- The loop over the places as the code has it, with the runs that have ended in an array. Definitions only.
 use Rattle.std.specs.Prelude.{◌≡◌, cond, List, [], ◌∷◌, ℕ, ◌+◌, ◌^◌, ◌<◌, drop, Float}
 use Rattle.scaled.specs.declared.Scaled.{Scaled}
-use Rattle.roots.specs.Roots.{list_of, roots_of, kept_in}
-use Rattle.roots.specs.Listed.{Fits, multiplicities}
+use Rattle.roots.specs.Roots.{kept_in}
+use Rattle.roots.specs.Listed.{multiplicities}
 use Rattle.roots.specs.declared.RealRoot.{RealRoot}
 use Rattle.roots.specs.declared.Roots.{Roots}
-use Rattle.finish.specs.Finish.{is_near_of, join_of, joined_of}
+use Rattle.finish.specs.Finish.{is_near_of, join_of}
 use Rattle.finish.specs.declared.Run.{Run}
 
 -- the next place b joins the run, or ends it and begins the next one
@@ -20,8 +20,7 @@ unfoldable pub runs_of : Scaled → Float → Run → List RealRoot → Roots
 runs_of poly tol run [] = kept_in run.out run.at
 runs_of poly tol run (b ∷ l) = runs_of poly tol (next_run poly run b tol) l
 
--- With the run at hand the places from k on give the whole, and their multiplicities add up to a u32.
-pub record Joining (poly : Scaled) (tol : Float) (p : Roots) (k : ℕ) (run : Run) : Type 0 where
-  pub fits : Fits p
-  pub whole : runs_of poly tol run (drop k (list_of p)) ≡ roots_of (joined_of poly tol (list_of p))
-  pub adds : run.at.multiplicity + multiplicities (drop k (list_of p)) < 2 ^ 32
+-- With the run at hand the places of l from k on give the whole, and their multiplicities add up to a u32.
+pub record Joining (poly : Scaled) (tol : Float) (whole : Roots) (l : List RealRoot) (k : ℕ) (run : Run) : Type 0 where
+  pub gives : runs_of poly tol run (drop k l) ≡ whole
+  pub adds : run.at.multiplicity + multiplicities (drop k l) < 2 ^ 32

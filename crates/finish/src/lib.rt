@@ -1,15 +1,14 @@
 // Scaled::finish of poly.rs: the candidates in order, the simple ones polished, and runs of them within the band joined.
-// The places that are put in order are named by their numbers, so that the compiler keeps the roots in registers.
-// It rests on `roots`, `polish` and `band`; the lists and the inquiry rest on it.
+// It rests on `order`, `roots`, `polish` and `band`; the lists and the inquiry rest on it.
 #![tactic(auto)]
 
-ghost use Rattle.std.specs.Prelude.{◌≡◌, [], ◌∷◌, ◌+◌, ◌^◌, ◌≤◌, ◌<◌, take};
+ghost use Rattle.std.specs.Prelude.{◌≡◌, ◌+◌, ◌^◌, ◌≤◌, ◌<◌};
 ghost use Rattle.facts.specs.Arrays.{from_fn};
 ghost use Rattle.float.specs.Methods.{min_of};
 ghost use Rattle.roots.specs.Roots.{list_of, roots_of};
 ghost use Rattle.roots.specs.Listed.{multiplicities};
 ghost use Rattle.finish.specs.Finish.{by_value, below_of, above_of, ordered_at, polished_at, polished_of, is_near_of, join_of, joined_of, finish_of};
-ghost use Rattle.finish.specs.Places.{inserted, place_of, place_polished};
+ghost use Rattle.finish.specs.Places.{place_of, place_polished};
 ghost use Rattle.finish.specs.Run.{next_run};
 
 use roots::{RealRoot, Roots};
@@ -37,91 +36,15 @@ struct Run {
     at: RealRoot,
 }
 
-// The root x put behind those of the places before it that stand before it, ties among them: one, two and three.
-// No one function over any number of places n says this, since the result's length, n + 1, is no const argument.
-#[tactic(auto, unfolding(facts::specs::Sort::inserted_by))]
-fn behind_one(a: RealRoot, x: RealRoot) -> [RealRoot; 2]
-    ensures { result ≡ inserted x (a ∷ []) }
-{
-    if float::total_le(a.value, x.value) {
-        return [a, x];
-    }
-    [x, a]
-}
-
-#[tactic(auto, using(crate::proofs::Places::places))]
-fn behind_two(a: RealRoot, b: RealRoot, x: RealRoot) -> [RealRoot; 3]
-    ensures { result ≡ inserted x (a ∷ b ∷ []) }
-{
-    if float::total_le(a.value, x.value) {
-        let rest = behind_one(b, x);
-        return [a, rest[0], rest[1]];
-    }
-    [x, a, b]
-}
-
-#[tactic(auto, using(crate::proofs::Places::places))]
-fn behind_three(a: RealRoot, b: RealRoot, c: RealRoot, x: RealRoot) -> [RealRoot; 4]
-    ensures { result ≡ inserted x (a ∷ b ∷ c ∷ []) }
-{
-    if float::total_le(a.value, x.value) {
-        let rest = behind_two(b, c, x);
-        return [a, rest[0], rest[1], rest[2]];
-    }
-    [x, a, b, c]
-}
-
-// The first two places in order, the first three and the first four.
-#[tactic(auto, using(crate::proofs::Places::places))]
-fn first_two(c: Roots) -> [RealRoot; 2]
-    ensures { result ≡ by_value (take 2 c.root) }
-{
-    behind_one(c.root[0], c.root[1])
-}
-
-#[tactic(auto, using(crate::proofs::Places::places))]
-fn first_three(c: Roots) -> [RealRoot; 3]
-    ensures { result ≡ by_value (take 3 c.root) }
-{
-    let two = first_two(c);
-    behind_two(two[0], two[1], c.root[2])
-}
-
-#[tactic(auto, using(crate::proofs::Places::places))]
-fn first_four(c: Roots) -> [RealRoot; 4]
-    ensures { result ≡ by_value (take 4 c.root) }
-{
-    let three = first_three(c);
-    behind_three(three[0], three[1], three[2], c.root[3])
-}
-
-// (By hand: std's stable sort takes a heap. Each place by its number, so that the compiler keeps the roots in registers.)
-#[tactic(auto, using(crate::proofs::Places::places))]
+// The places in the order of their values.
 pub fn ordered(c: Roots) -> Roots
     requires { c.len ≤ 4 }
     ensures { (list_of result ≡ by_value (list_of c)) × (result.len ≡ c.len) }
 {
-    if c.len < 2 {
-        return c;
-    }
-    if c.len < 3 {
-        let two = first_two(c);
-        return Roots {
-            root: [two[0], two[1], c.root[2], c.root[3]],
-            len: 2,
-        };
-    }
-    if c.len < 4 {
-        let three = first_three(c);
-        return Roots {
-            root: [three[0], three[1], three[2], c.root[3]],
-            len: 3,
-        };
-    }
-    let four = first_four(c);
+    let at = order::sorted(c.root.map(|r| r.value), c.len, float::total_le);
     Roots {
-        root: [four[0], four[1], four[2], four[3]],
-        len: 4,
+        root: std::array::from_fn(|k| c.root[at[k]]),
+        len: c.len,
     }
 }
 
@@ -225,18 +148,16 @@ impl Banded {
         requires { multiplicities (list_of placed.roots) < 2 ^ 32 }
         ensures { result ≡ roots_of (joined_of self.poly self.tol (list_of placed.roots)) }
     {
-        let none = Roots::none();
+        let out = Roots::default();
         let p = placed.roots;
-        if p.len == 0 {
-            return none;
+        let Some((at, rest)) = p.root[..p.len].split_first() else {
+            return out;
+        };
+        let mut run = Run { out, at: *at };
+        for b in rest {
+            run = self.next_run(run, *b);
         }
-        let at = p.root[0];
-        let mut run = Run { out: none, at };
-        for k in 1..p.len {
-            run = self.next_run(run, p.root[k]);
-        }
-        let out = run.out;
-        out.keep_root(run.at)
+        run.out.keep_root(run.at)
     }
 }
 

@@ -33,7 +33,8 @@ le_bytes n =
 pub stored : (l vs ws : List ℕ) (at k : ℕ) → ws ≡ vs → k ≡ length vs → at + length vs ≤ length l → put_mid at k l ws ≡ sets l at vs
 stored l vs ws at k e n h =
     ap (λ (x : List ℕ). take at l ++ (x ++ drop k (drop at l))) e
-    ∙ ap (λ (x : List ℕ). take at l ++ (vs ++ x)) (drop-drop k at l ∙ ap (λ (j : ℕ). drop (at + j) l) n) ∙ sym (append_assoc (take at l) vs _) ∙ sym (sets-eq vs l at h)
+    ∙ ap (λ (x : List ℕ). take at l ++ (vs ++ x)) (drop-drop k at l ∙ ap (λ (j : ℕ). drop (at + j) l) n)
+    ∙ sym (append_assoc (take at l) vs _) ∙ sym (sets-eq vs l at h)
 
 -- ---- reading back
 

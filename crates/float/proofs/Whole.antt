@@ -12,11 +12,6 @@ use mir.Syntax.{w64}
 use mir.Val.{SFits, to_z, of_z}
 use mir.Facts.{to_z-of_z}
 
--- n as f64 loses nothing
-pub whole_exact : (n : ℕ) → n ≤ 2 ^ 53 → T (in_float binary64 (pos n))
-unfolding in_float
-whole_exact n h = subst T (sym (le-leb n (2 ^ 53) h)) tt
-
 split : (p q : ℕ) → (q ≤ p) ⊎ (p < q)
 split p q = go (eq-zero-or-pos (q - p))
   where
@@ -39,7 +34,8 @@ module _ (p q : ℕ) (h : p ≤ 2 ^ 53) (g : q ≤ 2 ^ 53) where
 
   minus_is : machine ≡ minus p q
   minus_is =
-      ap₂ (λ (y z : ℤ). y -ℤ z) (to_z-of_z {w = w64} {z = pos p} (record { sfits = omega arith })) (to_z-of_z {w = w64} {z = pos q} (record { sfits = omega arith }))
+      ap₂ (λ (y z : ℤ). y -ℤ z) (to_z-of_z {w = w64} {z = pos p} (record { sfits = omega arith }))
+      (to_z-of_z {w = w64} {z = pos q} (record { sfits = omega arith }))
       ∙ minus_pos p q
 
   small : SFits w64 (minus p q)

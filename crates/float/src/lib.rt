@@ -1,5 +1,5 @@
 // Doubles: Rust's methods on f64 for all bits, and doubles as bits and as bytes. Every NaN is one NaN. Where std's method asks for more, or its contract says
-// less, the method is written here.
+// less or names another definition, the method is written here.
 // It rests on `facts` and `rounding`. Every crate that computes with doubles rests on it.
 #![tactic(auto)]
 
@@ -7,24 +7,19 @@ ghost use Rattle.std.specs.Prelude.{◌≡◌, cond, ◌||◌, ◌+◌, ◌^◌,
 ghost use Rattle.std.proofs.lemmas.List.Edits.{sets};
 ghost use Rattle.std.specs.Float.{binary64};
 ghost use Rattle.std.specs.Float.Ieee.{is_nan, lt, minus, of_int, of_bits, to_bits};
-ghost use Rattle.float.specs.Literals.{zero64, inf64};
+ghost use Rattle.float.specs.Literals.{zero64};
 ghost use Rattle.float.specs.Methods.{abs_of, is_finite_of, all_finite_of, is_sign_negative_of, copysign_of, min_of, max_of, clamp_of, total_le_of, powi_of};
 ghost use Rattle.float.specs.Floor.{floor_of};
 ghost use Rattle.float.specs.Bytes.{u64_at, f64_at, bytes_of};
 
-pub fn infinity() -> f64
-    ensures { result ≡ inf64 }
-{
-    f64::INFINITY
-}
-
+// std's, here and in is_finite, so that callers and the C functions find all methods of doubles in one place.
 pub fn is_nan(x: f64) -> bool
     ensures { result ≡ is_nan x }
 {
     x.is_nan()
 }
 
-// 0 - x where x is at most 0, so that -0 gives +0: one test, where std's makes two.
+// 0 - x where x is at most 0, so that -0 gives +0. (One test, where std's makes two; the wrong programs that are kept alter it, and the products of powi.)
 #[tactic(auto, using(crate::proofs::Own::abs_less, crate::proofs::Own::abs_more))]
 pub fn abs(x: f64) -> f64
     ensures { result ≡ abs_of x }
@@ -39,15 +34,11 @@ pub fn is_finite(x: f64) -> bool
     x.is_finite()
 }
 
-// No way out before the end: the loop of a few numbers is unrolled then.
+// A fold and no `all`, which has a way out before the end: the loop of a few numbers is unrolled.
 pub fn all_finite(s: &[f64]) -> bool
     ensures { result ≡ all_finite_of s.now }
 {
-    let mut all = true;
-    for x in s {
-        all = all & is_finite(*x);
-    }
-    all
+    s.iter().fold(true, |all, x| all & is_finite(*x))
 }
 
 #[tactic(auto, using(crate::proofs::Zero::sign_as, crate::proofs::Zero::nan_sign))]
@@ -104,7 +95,7 @@ pub fn total_le(x: f64, y: f64) -> bool
     is_nan(y) || x < y || (x == y && (is_sign_negative(x) || !is_sign_negative(y)))
 }
 
-// The five powers written out: std's makes a loop of them.
+// The five powers written out, where std's makes a loop. (As in abs.)
 #[tactic(auto, unfolding(crate::specs::Methods::powi_of))]
 pub fn powi(v: f64, n: usize) -> f64
     requires { n ≤ 4 }
@@ -129,7 +120,8 @@ pub fn difference(p: u64, q: u64) -> f64
     (p as i64 - q as i64) as f64
 }
 
-// x rounded down, and 8192. It lies between low and high, and each turn halves what is left. (std's floor answers a double, of any size.)
+// x rounded down, and 8192. It lies between low and high, and each turn halves what is left. (By hand: std's floor answers a double of any size, which would be
+// cut, moved up and cast, with the laws of each: no plainer.)
 #[tactic(auto, using(crate::proofs::RoundDown::reached, crate::proofs::RoundDown::missed, crate::proofs::RoundDown::floor_below))]
 pub fn floor(x: f64) -> u64
     ensures { result ≡ floor_of x }
@@ -170,7 +162,8 @@ pub fn to_bits(x: f64) -> u64
     f64::to_bits(x)
 }
 
-// The number in the eight bytes from at on, lowest first.
+// The number in the eight bytes from at on, lowest first. (s and at by themselves, here and below: callers read on from place to place, and would make a
+// struct of both anew for each read.)
 pub fn u64_at(s: &[u8], at: usize) -> u64
     requires { at + 8 ≤ length s.now }
     ensures { result ≡ u64_at s.now at }

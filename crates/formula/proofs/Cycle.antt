@@ -74,6 +74,9 @@ module _ (s : List ℕ) (at : ℕ) where
     means = λ f g. let m = b.means f g in subst (λ (x : Read Factor). HasRead factor_of s x c) (sym m.1) (p m.0 m.2);
   }
 
+-- what its refusals show
+pub ruleset factors = (at_inside, bracket_none, base_unit, factor_none)
+
 -- ---- what is read so far: `more g a` goes on behind the tree a
 abbrev SoFar : {A : Type 0} → (ℕ → A → List ℕ → Read A) → (A → Value) → List ℕ → Cursor → Read A → Type 0
 SoFar {A} more value s c x = (a : A) × (g : ℕ) × (3 * (length s - c.next) + 1 ≤ g) × (value_in c.part ≡ value a) × (x ≡ more g a (drop c.next s))

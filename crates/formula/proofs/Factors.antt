@@ -195,6 +195,8 @@ module _ (s : List ℕ) (at i n : ℕ) (w : Counted s at i n) where
       made : (p : Power) → powered_of p (limited (pos (digits_from 0 digits) ∷ [])) ≡ powered_of p (value_in c.part)
       made p = ap (powered_of p) (ap (λ (k : ℕ). limited (pos k ∷ [])) worth ∙ sym v)
 
+pub ruleset numbers = (read_long, digit_more, digit_inside, number_none)
+
 -- ---- the letter
 module _ (s : List ℕ) (at : ℕ) where
   by_letter : Option (List ℕ) → Read Factor

@@ -67,7 +67,8 @@ module _ (s : List ℕ) where
       go (some a) e = let d = reading_is s a e in tree_way a d (formula_of s) refl (derived_judged a d)
 
   -- what holds of the values of all texts
-  by_way : (C : Value → Type 0) → C (Err NotASum) → C (Err DegreeTooHigh) → C (Err CoefficientTooLarge) → ((p : List ℤ) → Meets p → C (Ok (trimmed p))) → C (formula_of s)
+  by_way : (C : Value → Type 0) → C (Err NotASum) → C (Err DegreeTooHigh) → C (Err CoefficientTooLarge)
+      → ((p : List ℤ) → Meets p → C (Ok (trimmed p))) → C (formula_of s)
   by_way C c d e f = go way
     where
       go : Way s → C (formula_of s)

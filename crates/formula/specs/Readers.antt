@@ -1,5 +1,6 @@
 -- What the readers of code have of what the definition reads. Definitions only.
-use Rattle.std.specs.Prelude.{◌≡◌, Bool, true, false, ◌&&◌, ◌||◌, cond, List, ℕ, ◌+◌, ◌-◌, ◌*◌, ◌≤◌, ◌<◌, Option, Some, None, IfSome, eqb, ltb, length, get_or, drop}
+use Rattle.std.specs.Prelude.{◌≡◌, Bool, true, false, ◌&&◌, ◌||◌, cond, List, ℕ, ◌+◌, ◌-◌, ◌*◌, ◌≤◌, ◌<◌, eqb, ltb, length, get_or, drop}
+use Rattle.std.specs.Prelude.{Option, Some, None, IfSome}
 use Rattle.parts.specs.declared.Operator.{Operator}
 use Rattle.parts.specs.declared.Operator.TheVariants.{Sum, Difference}
 use Rattle.parts.specs.Value.{Value, joined}

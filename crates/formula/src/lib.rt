@@ -51,17 +51,17 @@ fn operator_at(s: &[u8], i: usize) -> Option<Operator>
 fn digit(s: &[u8], i: usize) -> Option<u64>
     ensures { Digit s.now i result }
 {
-    let b = *s.get(i)?;
-    if b.is_ascii_digit() {
-        return Some((b - b'0') as u64);
+    match *s.get(i)? {
+        b @ b'0'..=b'9' => Some((b - b'0') as u64),
+        _ => None,
     }
-    None
 }
 
 // ---- factors
 
-// A whole number of one to nine digits.
-#[tactic(auto, using(crate::proofs::Factors::read_long, crate::proofs::Factors::digit_more))]
+// A whole number of one to nine digits. (A while: it ends on the byte that is read, and at the tenth digit; `take_while(..).count()` and a fold over as many
+// would read each digit twice, and the fold's closure would owe the bound of n.)
+#[tactic(auto, using(crate::proofs::Factors::numbers))]
 fn number(s: &[u8], at: usize) -> Option<Cursor>
     requires { at ≤ length s.now }
     ensures ahead { IfSome result (Ahead s.now at) }
@@ -69,7 +69,6 @@ fn number(s: &[u8], at: usize) -> Option<Cursor>
 {
     let mut n: u64 = 0;
     let mut i = at;
-    // (A while: it ends on the byte that is read, and at the tenth digit.)
     while let Some(d) = digit(s, i) {
         if i - at == 9 {
             return None;
@@ -87,6 +86,7 @@ fn number(s: &[u8], at: usize) -> Option<Cursor>
 }
 
 // A whole number, or the letter t.
+#[tactic(auto, using(crate::proofs::Factors::unit_number))]
 fn unit(s: &[u8], at: usize) -> Option<Cursor>
     requires { at ≤ length s.now }
     ensures ahead { IfSome result (Ahead s.now at) }
@@ -102,6 +102,7 @@ fn unit(s: &[u8], at: usize) -> Option<Cursor>
 }
 
 // A sum, where its bracket closes next.
+#[tactic(auto, using(crate::proofs::Factors::closed_open))]
 fn closed(s: &[u8], inner: Cursor) -> Option<Cursor>
     requires { inner.next ≤ length s.now }
     ensures ahead { IfSome result (Ahead s.now inner.next) }
@@ -118,6 +119,7 @@ fn closed(s: &[u8], inner: Cursor) -> Option<Cursor>
 }
 
 // What was read, to the power that comes next, if one does. (Its copies stand in no reader's frame: that spares stack for each open bracket.)
+#[tactic(auto, using(crate::proofs::Factors::powered_none))]
 #[inline(never)]
 fn powered(s: &[u8], base: Cursor) -> Option<Cursor>
     requires { base.next ≤ length s.now }
@@ -154,13 +156,14 @@ fn joined(op: Operator, left: Cursor, right: Cursor) -> Cursor
 // each cursor takes more of the stack, for each open bracket, and a text may open 255.)
 
 // (A sum and a term by themselves, as document 02 has them: one loop over a reader would be handed functions of its own cycle.)
+#[tactic(auto, using(crate::proofs::Bytes::sign_inside, crate::proofs::Bytes::sign_some))]
 #[cycle(factor_sum_term)]
 fn sum(s: &[u8], at: usize) -> Option<Cursor>
     requires { at ≤ length s.now }
     ensures { Reads read_sum sum_of 3 s.now at result }
 {
     let mut left = term(s, at)?;
-    // (A while: it goes on as long as a sign is read.)
+    // (A while: a sign says whether one more term comes, and that term's text where the next sign stands; no iterator knows how far that is.)
     while let Some(op) = operator_at(s, left.next) {
         let right = term(s, left.next + 1)?;
         left = joined(op, left, right);
@@ -168,13 +171,14 @@ fn sum(s: &[u8], at: usize) -> Option<Cursor>
     Some(left)
 }
 
+#[tactic(auto, using(crate::proofs::Bytes::at_inside))]
 #[cycle(factor_sum_term)]
 fn term(s: &[u8], at: usize) -> Option<Cursor>
     requires { at ≤ length s.now }
     ensures { Reads read_term term_of 2 s.now at result }
 {
     let mut left = factor(s, at)?;
-    // (A while: it goes on as long as a star is read.)
+    // (A while, likewise.)
     while is_at(s, left.next, b'*') {
         let right = factor(s, left.next + 1)?;
         left = joined(Operator::Product, left, right);
@@ -182,6 +186,7 @@ fn term(s: &[u8], at: usize) -> Option<Cursor>
     Some(left)
 }
 
+#[tactic(auto, using(crate::proofs::Cycle::factors))]
 #[cycle(factor_sum_term)]
 fn factor(s: &[u8], at: usize) -> Option<Cursor>
     requires { at ≤ length s.now }
@@ -205,6 +210,7 @@ fn float_at(a: Part, k: usize) -> f64
     parts::entry(a, k) as f64
 }
 
+// (No From<Part>: a public impl, whose one call is this; its name would say no more than answered does.)
 fn answered(a: Part) -> Expanded
     ensures { result ≡ expanded_of (trimmed a.coeffs) }
 {

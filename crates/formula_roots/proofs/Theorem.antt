@@ -175,5 +175,7 @@ module _ (s : List ℕ) (tol : Float) where
     stopped = stopped;
     roots = formula_within s tol;
     array = formula_fits s tol;
-    refused = answered_by_list (λ (x : Prelude.Result Roots Refusal). 0 < outcome_of x → roots_in x ≡ no_roots) s tol (λ n l h. refl) (λ cs l. has_no_root cs tol);
+    refused =
+        answered_by_list (λ (x : Prelude.Result Roots Refusal). 0 < outcome_of x → roots_in x ≡ no_roots) s tol (λ n l h. refl)
+        (λ cs l. has_no_root cs tol);
   }

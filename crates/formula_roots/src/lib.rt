@@ -15,12 +15,10 @@ use roots::Roots;
 
 // 13, 14 and 15 are refused by the text; 2 by the list, as for any list.
 // Demand 1 holds of the answer: at most four finite roots, each counting at least once, together at most the degree left.
-#[tactic(auto, using(crate::proofs::Solved::by_expand, crate::proofs::Solved::formula_within))]
+#[tactic(auto, using(crate::proofs::Solved::by_expand, crate::proofs::Solved::formula_within, crate::proofs::Solved::in_room))]
 pub fn formula_roots(text: &[u8], tol: f64) -> Result<Roots, Refusal>
     ensures { (result ≡ formula_roots_of text.now tol) × Within (degree_left (handed_on (formula_of text.now))) (list_of (roots_in result)) }
 {
     let e = formula::expand(text)?;
-    let coeffs = e.coeffs;
-    let len = e.len;
-    poly::real_roots(&coeffs[..len], tol)
+    poly::real_roots(&e.coeffs[..e.len], tol)
 }

@@ -28,7 +28,7 @@ pub struct Derivs {
     pub d2: f64,
 }
 
-// f[0] + f[1]*y + .. + f[d]*y^d.
+// f[0] + f[1]*y + .. + f[d]*y^d, by value in fixed memory, as Scaled has f and d.
 #[derive(Clone, Copy)]
 pub struct Polynomial {
     pub f: [f64; 5],
@@ -42,9 +42,9 @@ impl Polynomial {
     {
         let mut v = self.f[self.d];
         let mut s = 0.0;
-        for i in (0..self.d).rev() {
+        for &c in self.f[..self.d].iter().rev() {
             s = s * y + v;
-            v = v * y + self.f[i];
+            v = v * y + c;
         }
         ValueSlope { value: v, slope: s }
     }
@@ -55,8 +55,7 @@ impl Polynomial {
         let mut v = self.f[self.d];
         let mut err = 0.0;
         let mut s = 0.0;
-        for i in (0..self.d).rev() {
-            let c = self.f[i];
+        for &c in self.f[..self.d].iter().rev() {
             s = s * y + v;
             let t = two_prod(v, y);
             let sum = t.prod + c;
@@ -76,6 +75,7 @@ impl Polynomial {
     {
         let mut d1 = 0.0;
         let mut d2 = 0.0;
+        // (By index: the place's number is a factor too; an enumerated iterator, its first skipped and reversed, would give both as a pair.)
         for i in (1..self.d + 1).rev() {
             let k = i as f64;
             d1 = d1 * y + k * self.f[i];
@@ -91,6 +91,7 @@ impl Polynomial {
     {
         let mut t = self.f;
         for k in 0..self.d {
+            // (By index: a turn changes a place by the one above it.)
             for i in (k..self.d).rev() {
                 t[i] = t[i] + y * t[i + 1];
             }

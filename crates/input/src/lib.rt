@@ -23,10 +23,9 @@ pub fn buffer() -> [u8; 65537]
 fn meaning(got: io::Result<usize>) -> io::Result<Option<usize>>
     ensures { result ≡ meaning_of got }
 {
-    match got {
-        Ok(0) => Ok(None),
-        Ok(more) => Ok(Some(more)),
-        Err(e) => Err(e),
+    match got? {
+        0 => Ok(None),
+        more => Ok(Some(more)),
     }
 }
 
@@ -37,7 +36,7 @@ pub fn read_file<R: Read>(from: &mut R, buf: &mut [u8]) -> io::Result<usize>
     ensures end { IfOk result (λ n. n < length buf.new → IsAtEnd (R.remaining from.new)) }
 {
     let mut done = 0;
-    // (A while: it ends with the input, and std's read_to_end takes a Vec.)
+    // (A while: it ends with the input or a full buffer; std's read_to_end takes a Vec, and nothing here has a heap.)
     while done < buf.len() {
         let got = from.read(&mut buf[done..]);
         match meaning(got)? {

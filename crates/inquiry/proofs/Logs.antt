@@ -26,7 +26,8 @@ same_seen lg s rs =
     ap (λ (t : Asking (List RealRoot)). cond (sound_of (given (fresh_by s) rs)) (seen_at (walked (replies_of rs) t)) unseen)
     (same_touching lg s.poly s.tol (list_of s.roots) (pair_list_of s.pairs))
 
-solved_same : (lg : List Float) (rs : Replies) (r : Result Solved Refusal) → and_then (and_then r (λ s. Ok (relogged lg s))) (λ s. Ok (seen_of (given (fresh_by s) rs)))
+solved_same : (lg : List Float) (rs : Replies) (r : Result Solved Refusal)
+    → and_then (and_then r (λ s. Ok (relogged lg s))) (λ s. Ok (seen_of (given (fresh_by s) rs)))
     ≡ and_then (and_then r (λ s. Ok (fresh_by s))) (λ q. Ok (seen_of (given q rs)))
 solved_same lg rs (Ok s) = ap (λ (seen : Seen). Ok seen) (same_seen lg s rs)
 solved_same lg rs (Err refusal) = refl
@@ -37,8 +38,8 @@ unfolding shown_after_of start_of
 shown_is coeffs tol rs r (lg, b) = rw b (solved_same lg rs (solve_of coeffs tol))
 
 -- the two ways of `?`
-pub shown_refused : (coeffs : List Float) (tol : Float) (rs : Replies) (refusal : Refusal) {r : Result Seen Refusal} → ButLogs (Err refusal) (solve_of coeffs tol)
-    → r ≡ Err refusal → r ≡ shown_after_of coeffs tol rs
+pub shown_refused : (coeffs : List Float) (tol : Float) (rs : Replies) (refusal : Refusal) {r : Result Seen Refusal}
+    → ButLogs (Err refusal) (solve_of coeffs tol) → r ≡ Err refusal → r ≡ shown_after_of coeffs tol rs
 shown_refused coeffs tol rs refusal b e = e ∙ shown_is coeffs tol rs (Err refusal) b
 
 pub shown_solved : (coeffs : List Float) (tol : Float) (rs : Replies) (s : Solved) (q : Inquiry) (seen : Seen) → ButLogs (Ok s) (solve_of coeffs tol)

@@ -34,9 +34,6 @@ use Rattle.inquiry.specs.Start.{touching_by, real_roots_touching, fresh_by}
 use Rattle.inquiry.proofs.Theorem.{Has, has_asked, has_more, map_take, length_map_take, solved_has}
 
 -- ---- the start, solved without logarithms
-pub brief_number : (coeffs : List Float) (tol : Float) (r : Result Solved Refusal) → ButLogs r (solve_of coeffs tol) → outcome_of r ≡ refusal_of coeffs
-brief_number coeffs tol r (lg, b) = ap outcome_of b ∙ then_number (relogged lg) (solve_of coeffs tol) ∙ solved_number coeffs tol
-
 relogged_has : (t : Asking (List RealRoot)) (lg : List Float) (r : Result Solved Refusal) → Has t [] (fresh_by (solved_in r))
     → Has t [] (fresh_by (solved_in (and_then r (λ s. Ok (relogged lg s)))))
 unfolding sound_of

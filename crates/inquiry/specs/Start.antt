@@ -1,5 +1,5 @@
 -- real_roots_touching of poly.rs, `touches` an argument; the inquiry that starts it; and an inquiry that is fed. Definitions only.
-use Rattle.std.specs.Prelude.{Bool, false, List, [], ℕ, zero, suc, replicate, Float, Result, Ok, Err}
+use Rattle.std.specs.Prelude.{Bool, List, [], ℕ, zero, suc, Float, Result, Ok, Err}
 use Rattle.refusals.specs.declared.Refusal.{Refusal}
 use Rattle.refusals.specs.Refusals.{value_or, and_then}
 use Rattle.roots.specs.declared.RealRoot.{RealRoot}
@@ -8,6 +8,7 @@ use Rattle.poly.specs.declared.Solved.{Solved}
 use Rattle.poly.specs.Solve.{solve_of, no_solved}
 use Rattle.asking.specs.Asking.{Asking, done, answered, places_asked}
 use Rattle.touching.specs.declared.Replies.{Replies}
+use Rattle.touching.specs.Replies.{no_replies}
 use Rattle.touching.specs.Touching.{touching}
 use Rattle.inquiry.specs.declared.Inquiry.{Inquiry}
 use Rattle.inquiry.specs.declared.Seen.{Seen}
@@ -33,7 +34,7 @@ places_touching_of touches coeffs tol = places_asked touches (real_roots_touchin
 -- ---- the inquiry
 -- what was solved, and no reply
 abbrev pub fresh_by : Solved → Inquiry
-fresh_by s = record { poly = s.poly; tol = s.tol; roots = s.roots; pairs = s.pairs; replies = record { reply = replicate 4 false; count = 0 } }
+fresh_by s = record { poly = s.poly; tol = s.tol; roots = s.roots; pairs = s.pairs; replies = no_replies }
 
 -- `start`
 unfoldable pub start_of : List Float → Float → Result Inquiry Refusal

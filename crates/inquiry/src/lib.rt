@@ -17,6 +17,7 @@ use refusals::Refusal;
 use touching::{Replies, Walker};
 
 // What `solve` and `finish` gave, in the scaled variable, the tolerance, and the replies.
+// (With a `Solved` for the first four, each definition and theorem of an inquiry would read them through one name more.)
 #[derive(Clone, Copy)]
 pub struct Inquiry {
     pub poly: scaled::Scaled,
@@ -44,7 +45,7 @@ fn nothing() -> Seen
     ensures { result ≡ unseen }
 {
     Seen {
-        asked: Asked::Finished(roots::Roots::none()),
+        asked: Asked::Finished(roots::Roots::default()),
         refused: None,
     }
 }
@@ -65,10 +66,7 @@ fn over(replies: Replies, used: usize) -> Option<Refusal>
     requires { RepliesFit replies }
     ensures { result ≡ over_by (left_of replies used) }
 {
-    if used < replies.count {
-        return Some(Refusal::NothingAsked);
-    }
-    None
+    (used < replies.count).then_some(Refusal::NothingAsked)
 }
 
 // Each root counts at least once, and together they count at most `most` times.
@@ -129,19 +127,14 @@ pub fn start(coeffs: &[f64], tol: f64) -> Result<Inquiry, Refusal>
     ensures { result ≡ start_of coeffs.now tol }
 {
     let s = poly::solve(coeffs, tol)?;
-    let none = Replies {
-        reply: [false; 4],
-        count: 0,
-    };
-    Ok(begun(s, none))
+    Ok(begun(s, Replies::default()))
 }
 
 // What is shown of what was solved, with these replies: for those who reply by a function of the place.
 pub fn asked_with(s: poly::Solved, replies: Replies) -> Asked
     ensures { result ≡ asked_of (given (fresh_by s) replies) }
 {
-    let about = begun(s, replies);
-    about.ask()
+    begun(s, replies).ask()
 }
 
 // What `start` and `see` show with these replies put in at once. The inquiry is not handed out, so a level list is solved without logarithms.
@@ -196,9 +189,8 @@ impl Inquiry {
     {
         match self.ask() {
             Asked::Question(_) => {
-                let mut inquiry = self;
-                inquiry.replies = self.replies.with(yes);
-                Ok(inquiry)
+                let replies = self.replies.with(yes);
+                Ok(Inquiry { replies, ..self })
             }
             Asked::Finished(_) => Err(Refusal::NothingAsked),
         }

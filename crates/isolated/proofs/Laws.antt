@@ -63,7 +63,8 @@ module _ (al be : Float) {s : Disc} (is : s ≡ disc_of al be) where
   real_pair h is-q is-o = if_taken _ _ (rw the_disc at h) (rw (is-o, far_is h is-q))
 
   pub complex_pair : le zero64 s.disc ≡ false
-      → root_pair_of al be ≡ complex (mul binary64 (neg half64) al) (mul binary64 half64 s.root) ∷ complex (mul binary64 (neg half64) al) (neg (mul binary64 half64 s.root)) ∷ []
+      → root_pair_of al be ≡ complex (mul binary64 (neg half64) al) (mul binary64 half64 s.root)
+      ∷ complex (mul binary64 (neg half64) al) (neg (mul binary64 half64 s.root)) ∷ []
   unfolding root_pair_of
   complex_pair h = sym (if_left _ _ (rw the_disc at h) (rw (the_root, below_root (discriminant_of al be) (rw the_disc at h))))
 

@@ -27,7 +27,8 @@ pub struct Disc {
     pub root: f64,
 }
 
-// Of y^2 + al*y + be. (al and be by themselves here and above, as in poly.rs: Quad is what Factors keeps.)
+// Of y^2 + al*y + be. (al and be by themselves, here, in root_pair and in QuarticFactor, as C hands them to discriminant and isolated_root: the struct of
+// both, Quad, is of `factors`, on which this crate does not rest.)
 #[tactic(auto, unfolding(crate::specs::Isolated::disc_of))]
 pub fn disc_of(al: f64, be: f64) -> Disc
     ensures { result ≡ disc_of al be }
@@ -81,7 +82,7 @@ fn dist(x: Complex, y: Complex) -> f64
 fn least(near: [f64; 3]) -> f64
     ensures { result ≡ least_of near }
 {
-    near.into_iter().fold(float::infinity(), float::min)
+    near.into_iter().fold(f64::INFINITY, float::min)
 }
 
 fn greatest(apart: [f64; 3]) -> f64

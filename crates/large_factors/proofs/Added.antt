@@ -153,7 +153,8 @@ module _ (lin : List Float) (n : ℕ) (quad : List Quad) (k : ℕ) where
   splits_room = omega (arith, added_room (reals lin n ++ splits quad k) (all_added no_units (reals lin n ++ splits quad k)) refl, both_degrees lin n quad k)
 
   pub quad_added : (d : Quad) → k < length quad
-      → all_added (all_added no_units (reals lin n ++ splits quad k)) (quad_units_of (get_or quad k d)) ≡ all_added no_units (reals lin n ++ splits quad (k + 1))
+      → all_added (all_added no_units (reals lin n ++ splits quad k)) (quad_units_of (get_or quad k d))
+      ≡ all_added no_units (reals lin n ++ splits quad (k + 1))
   quad_added d h =
       added_append no_units (reals lin n ++ splits quad k) (quad_units_of (get_or quad k d))
       ∙ ap (all_added no_units) (append_assoc (reals lin n) (splits quad k) (quad_units_of (get_or quad k d)))

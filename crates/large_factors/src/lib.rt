@@ -10,8 +10,8 @@ ghost use Rattle.large_factors.specs.Large.{large_from, large_of, no_units, adde
 
 use factors::{Factors, Quad};
 
-// A root al of the size m, where be is NaN, or a quadratic factor whose roots have the size m. (A NaN be and no enum: with_unit is stated of any unit, as the
-// Rust's test is, which takes a quadratic factor with be NaN for a root.)
+// A root al of the size m, where be is NaN, or a quadratic factor whose roots have the size m. (A NaN and no Option<f64>: the Rust takes a quadratic factor
+// whose be is NaN for a root, so with_unit would test for None and for the NaN.)
 #[derive(Clone, Copy)]
 pub struct Unit {
     pub m: f64,
@@ -24,6 +24,22 @@ pub struct Unit {
 pub struct Units {
     pub at: [Unit; 4],
     pub n: usize,
+}
+
+impl Default for Units {
+    ghost is_default = { λ u. u ≡ no_units };
+
+    fn default() -> Units {
+        let none = Unit {
+            m: 0.0,
+            al: 0.0,
+            be: 0.0,
+        };
+        Units {
+            at: [none; 4],
+            n: 0,
+        }
+    }
 }
 
 impl Units {
@@ -72,15 +88,7 @@ fn units_of(f: Factors) -> Units
     requires { degree_of f ≤ 4 }
     ensures { result ≡ all_added no_units (factor_units_of f) }
 {
-    let none = Unit {
-        m: 0.0,
-        al: 0.0,
-        be: 0.0,
-    };
-    let mut u = Units {
-        at: [none; 4],
-        n: 0,
-    };
+    let mut u = Units::default();
     for r in &f.lin[..f.nlin] {
         u = u.with_real(*r);
     }

@@ -4,8 +4,9 @@ use mathlib.Core.Bool.{Bool, true, false, true≢false}
 use Prim.Native.Nat.{ℕ, zero, suc, ◌-◌, ◌*◌, ◌≤◌, ◌<◌}
 use native.Mathlib.Omega.{arith}
 use native.Mathlib.Nat.{zero-mul, mul-pos, zero-lt-suc}
-use borrow.Author.Tests.{le-leb, lt-leb}
-use lib.Dec.{T}
+use borrow.Author.Tests.{le-leb, lt-leb, ltb-true, ltb-false}
+use lib.Dec.{T, ltb}
+use Rattle.std.specs.Int.{abs_diff}
 use lib.IntN.{ℤ, pos}
 use lib.Ieee.{Float, fin, nan, inf, binary64, mul, round, eq, up, down, minus, fits, unlike, size, units, odd}
 use lib.Ieee.Scale.{round_same}
@@ -52,7 +53,8 @@ chain_steady (suc j) x k h = ap (λ (y : Float). chain j (pow2_of k) y) (h k) �
 pub all_steady : (s : Bool) (n : ℕ) (x : Float) → Steady x → times_power_of s n x ≡ x
 unfolding times_power_of
 all_steady s n x h =
-    ap (λ (y : Float). mul binary64 y (pow2_of (signed s (n - steps n * 1000)))) (chain_steady (steps n) x (signed s 1000) h) ∙ h (signed s (n - steps n * 1000))
+    ap (λ (y : Float). mul binary64 y (pow2_of (signed s (n - steps n * 1000)))) (chain_steady (steps n) x (signed s 1000) h)
+    ∙ h (signed s (n - steps n * 1000))
 
 pub all_last : (s : Bool) (n : ℕ) (x : Float) → n ≤ 1000 → times_power_of s n x ≡ mul binary64 x (pow2_of (signed s n))
 unfolding times_power_of chain
@@ -78,3 +80,10 @@ minus_up p q h = rw (le-leb q p h)
 
 pub minus_down : (p q : ℕ) → p < q → signed true (q - p) ≡ minus p q
 minus_down p q h = rw (lt-leb q p h) (let e : q - p ≡ suc (q - suc p) = omega arith in ap (λ (n : ℕ). signed true n) e)
+
+pub difference : (p q : ℕ) → signed (ltb p q) (abs_diff p q) ≡ minus p q
+difference p q = go (ltb p q) refl
+  where
+    go : (b : Bool) → ltb p q ≡ b → signed b (abs_diff p q) ≡ minus p q
+    go false e = let l = ltb-false p q e in let n : abs_diff p q ≡ p - q = omega arith in ap (λ (n : ℕ). signed false n) n ∙ minus_up p q (omega arith)
+    go true e = let l = ltb-true p q e in let n : abs_diff p q ≡ q - p = omega arith in ap (λ (n : ℕ). signed true n) n ∙ minus_down p q (omega arith)

@@ -80,10 +80,7 @@ pub fn pow2(k: i32) -> f64
 pub fn pow2_or_nan(k: i32) -> f64
     ensures { result ≡ pow2_or_nan k }
 {
-    if k < -1022 {
-        return f64::NAN;
-    }
-    if 1023 < k {
+    if !(-1022..=1023).contains(&k) {
         return f64::NAN;
     }
     pow2(k)
@@ -97,20 +94,13 @@ pub fn ldexp(x: f64, k: i32) -> f64
 }
 
 // x * 2^(p - q), for an exponent that is kept unsigned.
-#[tactic(auto, using(crate::proofs::Chain::minus_up, crate::proofs::Chain::minus_down))]
+#[tactic(auto, using(crate::proofs::Chain::difference))]
 pub fn ldexp_by(x: f64, p: u64, q: u64) -> f64
     ensures { result ≡ ldexp_of x (minus p q) }
 {
-    if q <= p {
-        return Signed {
-            below: false,
-            n: p - q,
-        }
-        .scaled(x);
-    }
     Signed {
-        below: true,
-        n: q - p,
+        below: p < q,
+        n: p.abs_diff(q),
     }
     .scaled(x)
 }

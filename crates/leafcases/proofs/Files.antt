@@ -18,7 +18,8 @@ unfolding leaf_lines_from
 lines_end zero s at h = refl
 lines_end (suc f) s at h = simp (le-ltb _ _ h)
 
-lines_step : (f : ℕ) (s : List ℕ) (at : ℕ) → at < length s → 0 < f → leaf_lines_from f s at ≡ line_then (leaf_record_of s at) (leaf_lines_from (f - 1) s (at + 14))
+lines_step : (f : ℕ) (s : List ℕ) (at : ℕ) → at < length s → 0 < f
+    → leaf_lines_from f s at ≡ line_then (leaf_record_of s at) (leaf_lines_from (f - 1) s (at + 14))
 unfolding leaf_lines_from
 lines_step zero s at h p = absurd (omega arith)
 lines_step (suc f) s at h p =
@@ -60,7 +61,8 @@ module _ {a b : Text} {s : List ℕ} {at : ℕ} (sofar : Sofar a s b at) where
     pub sofar_bad : {p q : Text} → Told b (leaf_record_of s at) p false → Written p bad_line q → Written a (lines_of s) q
     sofar_bad {p} {q} r e =
         let none = no_line (leaf_record_of s at) r in
-        let last : leaf_lines_from sofar.fuel s at ≡ bad_line = step ∙ ap (λ (t : Option (List ℕ)). line_then t (leaf_lines_from (sofar.fuel - 1) s (at + 14))) none.0 in
+        let last : leaf_lines_from sofar.fuel s at ≡ bad_line =
+        step ∙ ap (λ (t : Option (List ℕ)). line_then t (leaf_lines_from (sofar.fuel - 1) s (at + 14))) none.0 in
         written_as (ap (λ (t : List ℕ). sofar.text ++ t) (sym last) ∙ sofar.rest)
         (written_then sofar.written (subst (λ (o : Text). Written o bad_line q) none.1 e))
 

@@ -1,6 +1,7 @@
 -- What the program writes for a file of records. A record is 14 bytes: a letter, eight bytes of a double x, a sign, four bytes of the size of a whole
 -- number k, lowest first. Definitions only.
-use Rattle.std.specs.Prelude.{◌≡◌, ℕ, zero, suc, ◌+◌, ◌-◌, ◌/◌, ◌^◌, ◌≤◌, Bool, cond, List, [], ◌∷◌, ◌++◌, eqb, ltb, false, true, ℤ, length, get_or, Float, Option, Some, None}
+use Rattle.std.specs.Prelude.{◌≡◌, ℕ, zero, suc, ◌+◌, ◌-◌, ◌/◌, ◌^◌, ◌≤◌, ℤ, Float, Bool, false, true, cond, eqb, ltb}
+use Rattle.std.specs.Prelude.{List, [], ◌∷◌, ◌++◌, length, get_or, Option, Some, None}
 use mathlib.Core.List.{flat_map}
 use Rattle.std.specs.Float.{binary64}
 use Rattle.std.specs.Float.Ieee.{to_bits}

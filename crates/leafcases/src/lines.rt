@@ -93,7 +93,8 @@ fn number_at(s: &[u8], at: usize) -> Option<i32>
     }
 }
 
-// The line of the record at `at`, and whether one stands there.
+// The line of the record at `at`, and whether one stands there. (By its place, as the definition: of a part that `chunks` gives each number read would need
+// a lemma that moves it back to its place in s.)
 #[tactic(auto, unfolding(crate::specs::Lines::leaf_record_of, crate::specs::Lines::answer_with))]
 fn put_record(out: &mut Text, s: &[u8], at: usize) -> bool
     requires { (at ≤ length s.now) × (out.old.at < 2 ^ 31) }

@@ -4,3 +4,4 @@ pub mod Five
 pub mod Whole
 pub mod Numbers
 pub mod Rows
+pub mod Counts

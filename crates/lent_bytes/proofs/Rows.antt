@@ -23,14 +23,21 @@ filled s k = number s.len ∷ (rows s k ++ replicate (12 - 3 * k) zero64)
 abbrev here : Roots → ℕ → RealRoot
 here s k = get_or s.root k blank
 
-pub filled_next : (s : Roots) (k : ℕ) {v m κ : Float} → k < 4 → v ≡ (here s k).value → m ≡ number (here s k).multiplicity → κ ≡ number (kind_number (here s k).kind)
-    → set (set (set (filled s k) (3 * k + 1) v) (3 * k + 2) m) (3 * k + 3) κ ≡ filled s (k + 1)
-filled_next s zero h e f g = rw (e, f, g)
-filled_next s (suc zero) h e f g = rw (e, f, g)
-filled_next s (suc (suc zero)) h e f g = rw (e, f, g)
-filled_next s (suc (suc (suc zero))) h e f g = rw (e, f, g)
-filled_next s (suc (suc (suc (suc k)))) h e f g = absurd (omega arith)
+abbrev with_row : List Float → ℕ → RealRoot → List Float
+with_row x k r = set (set (set x (3 * k + 1) r.value) (3 * k + 2) (number r.multiplicity)) (3 * k + 3) (number (kind_number r.kind))
 
-pub filled_all : (s : Roots) (k : ℕ) → k ≤ 4 → 4 ≤ k → filled s k ≡ root_numbers s
-unfolding root_numbers
-filled_all s k h l = (let e : k ≡ 4 = omega arith in ap (filled s) e) ∙ refl
+module _ (s : Roots) (k : ℕ) {x : List Float} (so_far : x ≡ filled s k) where
+  pub filled_next : {n : ℕ} → k < 4 → n ≡ kind_number (here s k).kind
+      → set (set (set x (3 * k + 1) (here s k).value) (3 * k + 2) (number (here s k).multiplicity)) (3 * k + 3) (number n) ≡ filled s (k + 1)
+  filled_next h e = rw (so_far, e) (go k h)
+    where
+      go : (k : ℕ) → k < 4 → with_row (filled s k) k (here s k) ≡ filled s (k + 1)
+      go zero h = refl
+      go (suc zero) h = refl
+      go (suc (suc zero)) h = refl
+      go (suc (suc (suc zero))) h = refl
+      go (suc (suc (suc (suc k)))) h = absurd (omega arith)
+
+  pub filled_all : k ≤ 4 → 4 ≤ k → x ≡ root_numbers s
+  unfolding root_numbers
+  filled_all h l = so_far ∙ (let e : k ≡ 4 = omega arith in ap (filled s) e) ∙ refl

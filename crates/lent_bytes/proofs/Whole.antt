@@ -2,7 +2,7 @@
 use mathlib.Core.Path.{◌≡◌, refl, sym, ap, subst, subst⁻¹, ◌∙◌}
 use mathlib.Core.Bool.{Bool, true, false}
 use mathlib.Core.List.{List, [], ◌∷◌, ◌++◌, append-nil, append_assoc, flat_map}
-use Prim.Native.Nat.{ℕ, zero, suc, ◌+◌, ◌*◌, ◌<◌, ◌≤◌}
+use Prim.Native.Nat.{ℕ, zero, suc, ◌+◌, ◌*◌, ◌/◌, ◌<◌, ◌≤◌}
 use native.Mathlib.Numerals.{add-one}
 use native.Mathlib.Omega.{arith}
 use lib.Dec.{ltb}
@@ -31,32 +31,36 @@ doubles_append [] ys = refl
 doubles_append (x ∷ xs) ys =
     ap (λ (l : List ℕ). double_bytes x ++ l) (doubles_append xs ys) ∙ sym (append_assoc (double_bytes x) (doubles_bytes xs) (doubles_bytes ys))
 
--- one double more, and all of them
-module _ (l : List ℕ) (xs : List Float) (i : ℕ) where
-  pub stored_next : i < length xs
-      → sets (sets l 0 (doubles_bytes (take i xs))) (8 * i) (double_bytes (get_or xs i nan)) ≡ sets l 0 (doubles_bytes (take (i + 1) xs))
-  unfolding flat_map
-  stored_next h =
-      let s = doubles_bytes (take i xs) in
-      let t = double_bytes (get_or xs i nan) in
-      let n : 8 * i ≡ 0 + length s = omega (arith, length_doubles (take i xs), length-take-le i xs (omega arith)) in
-      let all : s ++ t ≡ doubles_bytes (take (i + 1) xs) =
-      rw (add-one, take-suc xs i nan h)
-      (ap (λ (u : List ℕ). s ++ u) (sym (append-nil t)) ∙ sym (doubles_append (take i xs) (get_or xs i nan ∷ []))) in
-      ap (λ (k : ℕ). sets (sets l 0 s) k t) n ∙ sets_append l 0 s t ∙ ap (sets l 0) all
+-- none of them, one more, and all
+pub stored_none : (l : List ℕ) → l ≡ sets l 0 (doubles_bytes [])
+unfolding flat_map
+stored_none l = refl
 
-  pub stored_all : length xs ≤ i → sets l 0 (doubles_bytes (take i xs)) ≡ sets l 0 (doubles_bytes xs)
-  stored_all h = ap (λ (ys : List Float). sets l 0 (doubles_bytes ys)) (take_all i xs h)
+module _ (l : List ℕ) (xs : List Float) where
+  module _ (i : ℕ) {m : List ℕ} (so_far : m ≡ sets l 0 (doubles_bytes (take i xs))) where
+    pub stored_next : i < length xs → sets m (8 * i) (double_bytes (get_or xs i nan)) ≡ sets l 0 (doubles_bytes (take (i + 1) xs))
+    unfolding flat_map
+    stored_next h =
+        let s = doubles_bytes (take i xs) in
+        let t = double_bytes (get_or xs i nan) in
+        let n : 8 * i ≡ 0 + length s = omega (arith, length_doubles (take i xs), length-take-le i xs (omega arith)) in
+        let all : s ++ t ≡ doubles_bytes (take (i + 1) xs) =
+        rw (add-one, take-suc xs i nan h)
+        (ap (λ (u : List ℕ). s ++ u) (sym (append-nil t)) ∙ sym (doubles_append (take i xs) (get_or xs i nan ∷ []))) in
+        ap (λ (b : List ℕ). sets b (8 * i) t) so_far ∙ ap (λ (k : ℕ). sets (sets l 0 s) k t) n ∙ sets_append l 0 s t ∙ ap (sets l 0) all
+
+    pub stored_all : length xs ≤ i → m ≡ sets l 0 (doubles_bytes xs)
+    stored_all h = so_far ∙ ap (λ (ys : List Float). sets l 0 (doubles_bytes ys)) (take_all i xs h)
 
 -- ---- stored, or not
 module _ (xs : List Float) (l : List ℕ) where
-  pub are_too_few : length l < 8 * length xs → Stored xs l 0 l
+  pub are_too_few : length l / 8 < length xs → Answered 0 xs l 0 l
   unfolding whole
   are_too_few h =
       let e = lt-ltb (length l) (length (doubles_bytes xs)) (omega (arith, length_doubles xs)) in
       record { said = simp e; bytes = simp e }
 
-  pub all_stored : (m : List ℕ) (r : ℕ) → 8 * length xs ≤ length l → r ≡ 8 * length xs → m ≡ sets l 0 (doubles_bytes xs) → Stored xs l r m
+  pub all_stored : (m : List ℕ) (r : ℕ) → length xs ≤ length l / 8 → r ≡ 8 * length xs → m ≡ sets l 0 (doubles_bytes xs) → Answered 0 xs l r m
   unfolding whole
   all_stored m r h e p =
       let k = le-ltb (length l) (length (doubles_bytes xs)) (omega (arith, length_doubles xs)) in

@@ -19,14 +19,11 @@ pub fn f64s_at(s: &[u8], at: usize, k: usize) -> [f64; 32]
     requires { (k ≤ 32) × (at + 8 * k ≤ length s.now) }
     ensures { result ≡ f64s_at k s.now at ++ replicate (32 - k) zero64 }
 {
-    let mut out = [0.0; 32];
-    for i in 0..k {
-        out[i] = f64_at(s, at + 8 * i);
-    }
-    out
+    std::array::from_fn(|i| if i < k { f64_at(s, at + 8 * i) } else { 0.0 })
 }
 
 // The N doubles from at on.
+#[tactic(auto, using(float::proofs::Made::made_by, crate::proofs::Doubles::f64s_all))]
 pub fn doubles_at<const N: usize>(s: &[u8], at: usize) -> [f64; N]
     requires { at + 8 * N ≤ length s.now }
     ensures { result ≡ f64s_at N s.now at }
@@ -44,6 +41,7 @@ pub fn lacks_five(a: &[u8], d: u64) -> bool
 
 // All of xs from the start of out on.
 // (By place: of what is written through chunks_mut a proof knows no byte.)
+#[tactic(auto, using(crate::proofs::Whole::stored_none, crate::proofs::Whole::stored_next, crate::proofs::Whole::stored_all))]
 pub fn put_all(out: &mut [u8], xs: &[f64])
     requires { 8 * length xs.now ≤ length out.old }
     ensures { out.new ≡ sets out.old 0 (doubles_bytes xs.now) }

@@ -43,7 +43,8 @@ module _ (s : List ℕ) (i : ℕ) where
   rest_end r h = ap (foldl rest_with r) (drop_of_length-le (coefficients_at s) {i = i} (omega (arith, f64s_length (length s / 8) s 0)))
 
 -- ---- the short list by its places
-pub short_is : (l : List Float) → get_or l 0 zero64 ∷ get_or l 1 zero64 ∷ get_or l 2 zero64 ∷ get_or l 3 zero64 ∷ get_or l 4 zero64 ∷ rest_of (drop 5 l) ∷ [] ≡ short_of l
+pub short_is : (l : List Float)
+    → get_or l 0 zero64 ∷ get_or l 1 zero64 ∷ get_or l 2 zero64 ∷ get_or l 3 zero64 ∷ get_or l 4 zero64 ∷ rest_of (drop 5 l) ∷ [] ≡ short_of l
 unfolding short_from
 short_is [] = refl
 short_is (a ∷ []) = refl

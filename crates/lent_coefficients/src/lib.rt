@@ -33,7 +33,7 @@ fn rest_with(rest: f64, x: f64) -> f64
     }
 }
 
-// One number for those behind the fifth.
+// One number for those behind the fifth. (By place: that `chunks_exact(8).skip(5)` hands a fold's closure eight bytes each time does not prove.)
 fn rest_at(s: &[u8]) -> f64
     ensures { result ≡ rest_of (drop 5 (coefficients_at s.now)) }
 {
@@ -44,7 +44,9 @@ fn rest_at(s: &[u8]) -> f64
     rest
 }
 
-// The six numbers: five by their places, and the last, which is of another kind.
+// The six numbers: five by their places, and the last over those behind.
+// (Written out: by `array::from_fn` the last would be asked for at each place, or a sixth coefficient read and written over.)
+#[tactic(auto, using(crate::proofs::Reading::short_is))]
 pub fn short_at(s: &[u8]) -> [f64; 6]
     ensures { result ≡ short_of (coefficients_at s.now) }
 {

@@ -63,7 +63,8 @@ module _ (a : List Float) (d s : ℕ) where
   seen_more lo hi i k t S B e = record {
     last = wider S.last;
     before =
-        λ j u. ⊎_elim (λ v. wider (S.before j v)) (λ v. let z : i ≡ j = omega arith in subst (λ (x : ℕ). Raised a d s (ord_min nat_cmp lo t) (ord_max nat_cmp hi t) x) z here) (le_or_lt (suc j) i);
+        λ j u. ⊎_elim (λ v. wider (S.before j v))
+        (λ v. let z : i ≡ j = omega arith in subst (λ (x : ℕ). Raised a d s (ord_min nat_cmp lo t) (ord_max nat_cmp hi t) x) z here) (le_or_lt (suc j) i);
   }
     where
       below : ((ord_min nat_cmp lo t) ≤ lo) × ((ord_min nat_cmp lo t) ≤ t)
@@ -79,14 +80,14 @@ module _ (a : List Float) (d s : ℕ) where
       wider r = record { k = r.k; binade = r.binade; low = omega (arith, r.low, below); high = λ x y. let z = r.high x y in omega (arith, above, z) }
 
   -- at the loop's end: no gap
-  pub seen_all : (lo hi i : ℕ) → 3 ≤ d → d ≤ 4 → Seen a d s lo hi i → d ≤ i → leb hi (lo + 3) ≡ true → NoGap a d
+  pub seen_all : (lo hi i : ℕ) → 3 ≤ d → d ≤ 4 → Seen a d s lo hi i → d ≤ i → Some (leb hi (lo + 3)) ≡ Some true → NoGap a d
   unfolding Seen
   seen_all lo hi i three four S l e =
       level_none a d three four s lo (λ j m. ⊎_elim (λ v. wider (S.before j (omega arith))) (λ v. let z : d
       ≡ j = omega arith in subst (λ (x : ℕ). Raised a d s lo (lo + 3) x) z (wider S.last)) (le_or_lt (suc j) d))
     where
       h : hi ≤ lo + 3
-      h = leb-true hi (lo + 3) e
+      h = leb-true hi (lo + 3) (cc)
 
       wider : {j : ℕ} → Raised a d s lo hi j → Raised a d s lo (lo + 3) j
       wider r = record { k = r.k; binade = r.binade; low = r.low; high = λ x y. let z = r.high x y in omega (arith, h, z) }

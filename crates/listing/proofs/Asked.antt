@@ -1,15 +1,15 @@
 -- What the solver answers to a record's numbers can be printed, and is short.
 use mathlib.Core.Path.{◌≡◌, subst⁻¹}
-use mathlib.Core.List.{List, []}
+use mathlib.Core.List.{List}
 use Prim.Native.Nat.{ℕ, ◌+◌, ◌*◌, ◌-◌, ◌≤◌}
 use native.Mathlib.Omega.{arith}
 use lib.ListN.{length, drop, length-take}
+use Rattle.text.proofs.Laws.{written_none}
 use Rattle.float.specs.Bytes.{f64_at}
 use Rattle.roots.specs.declared.Roots.{Roots}
 use Rattle.poly.specs.RealRoots.{roots_in}
 use Rattle.std.specs.Prelude.{Result}
 use Rattle.refusals.specs.declared.Refusal.{Refusal}
-use Rattle.solution.specs.declared.QuadraticSolution.{QuadraticSolution}
 use Rattle.crank.specs.declared.CrankAnswer.{CrankAnswer}
 use Rattle.lent_bytes.specs.Bytes.{f64s_at}
 use Rattle.lent_bytes.proofs.Doubles.{f64s_length}
@@ -18,7 +18,7 @@ use Rattle.records.specs.declared.Kind.TheVariants.{Polynomial, Quadratic, Crank
 use Rattle.records.specs.declared.Record.{Record}
 use Rattle.records.specs.Records.{count_at}
 use Rattle.listing.specs.Answers.{polynomial_at, quadratic_at, trig_at, crank_at, path_at, circle_at, contact_at, text_at, formula_at}
-use Rattle.listing.specs.Lines.{polynomial_text, quadratic_text, crank_text, answer_text, words_of}
+use Rattle.listing.specs.Lines.{polynomial_text, answer_text, words_of}
 use Rattle.listing.specs.Printable.{Printable, CrankPrintable}
 use Rattle.listing.proofs.Texts.{or_length, polynomial_length, quadratic_length, crank_length}
 use Rattle.listing.proofs.Answers.{ListShort, list_short, crank_short, contact_short, FormulaShort, formula_short}
@@ -52,31 +52,6 @@ module _ (s : List ℕ) (at : ℕ) where
 
   pub formula_prints : (r : Result Roots Refusal) → r ≡ formula_at s at → Printable (roots_in r)
   formula_prints r e = subst⁻¹ (λ (a : Result Roots Refusal). Printable (roots_in a)) e formula_at_short.roots
-
-  -- ---- the text of each kind, from the answer
-  pub polynomial_text_is : (k : Kind) (r : Result Roots Refusal) → k ≡ Polynomial → r ≡ polynomial_at s at → polynomial_text r ≡ answer_text k s at
-  unfolding answer_text
-  polynomial_text_is k r e f = rw (e, f)
-
-  pub quadratic_text_is : (k : Kind) (r : Result QuadraticSolution Refusal) → k ≡ Quadratic → r ≡ quadratic_at s at → quadratic_text r ≡ answer_text k s at
-  unfolding answer_text
-  quadratic_text_is k r e f = rw (e, f)
-
-  pub crank_text_is : (k : Kind) (r : Result CrankAnswer Refusal) → k ≡ Crank → r ≡ crank_at s at → crank_text r ≡ answer_text k s at
-  unfolding answer_text
-  crank_text_is k r e f = rw (e, f)
-
-  pub contact_text : (k : Kind) (r : Result Roots Refusal) → k ≡ Contact → r ≡ contact_at s at → polynomial_text r ≡ answer_text k s at
-  unfolding answer_text
-  contact_text k r e f = rw (e, f)
-
-  pub formula_text : (k : Kind) (r : Result Roots Refusal) → k ≡ Formula → r ≡ formula_at s at → polynomial_text r ≡ answer_text k s at
-  unfolding answer_text
-  formula_text k r e f = rw (e, f)
-
-  pub unknown_text : (k : Kind) → k ≡ Unknown → [] ≡ answer_text k s at
-  unfolding answer_text
-  unknown_text k e = rw e
 
   -- ---- how long their texts are
   pub polynomial_at_length : length (answer_text Polynomial s at) ≤ 10 + 22 * (count_at s at - 1)
@@ -112,3 +87,5 @@ module _ (s : List ℕ) (at : ℕ) where
   pub words_length : (found : Record) → length (words_of s at found) ≤ 98
   unfolding words_of
   words_length found = or_length found.refused (answer_text found.kind s at) 98 (omega arith) (answer_length found.kind)
+
+pub ruleset prints = (written_none, polynomial_prints, crank_prints, contact_prints, formula_prints)

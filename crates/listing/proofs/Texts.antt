@@ -1,9 +1,9 @@
 -- How long the texts of a line are.
-use mathlib.Core.Path.{◌≡◌, ap}
+use mathlib.Core.Path.{◌≡◌}
 use mathlib.Core.List.{List, [], ◌∷◌, ◌++◌, flat_map}
 use Prim.Native.Nat.{ℕ, zero, suc, ◌+◌, ◌*◌, ◌<◌, ◌≤◌}
 use native.Mathlib.Omega.{arith}
-use lib.ListN.{length, get_or, drop, length-append}
+use lib.ListN.{length, get_or, length-append}
 use lib.Ieee.{Float, binary64, to_bits}
 use Rattle.text.specs.Digits.{decimal}
 use Rattle.text.proofs.Digits.{decimal_length, hex_length}
@@ -14,8 +14,8 @@ use Rattle.refusals.specs.Refusals.{number_of}
 use Rattle.roots.specs.declared.RealRoot.{RealRoot}
 use Rattle.roots.specs.declared.Roots.{Roots}
 use Rattle.roots.specs.Roots.{list_of}
-use Rattle.roots.specs.Listed.{multiplicities, blank}
-use Rattle.roots.proofs.Laws.{roots_cons, length_list}
+use Rattle.roots.specs.Listed.{multiplicities}
+use Rattle.roots.proofs.Laws.{length_list}
 use Rattle.poly.specs.RealRoots.{roots_in}
 use Rattle.solution.specs.declared.QuadraticSolution.{QuadraticSolution}
 use Rattle.solution.specs.declared.QuadraticSolution.TheVariants.{Two, One, Linear, Degenerate, Empty}
@@ -66,19 +66,25 @@ roots_length r p =
       length_list r p.fits,
     )
 
--- a multiplicity is no larger than the sum of those from its place on, nor that than the whole sum
-left_less : (k : ℕ) (l : List RealRoot) → multiplicities (drop k l) ≤ multiplicities l
-left_less zero l = omega arith
-left_less (suc k) [] = omega arith
-left_less (suc k) (r ∷ l) = omega (arith, left_less k l)
+-- a multiplicity is no larger than the sum of all
+multiplicity_less : (l : List RealRoot) (k : ℕ) (d : RealRoot) → k < length l → (get_or l k d).multiplicity ≤ multiplicities l
+multiplicity_less [] k d h = absurd (omega arith)
+multiplicity_less (r ∷ l) zero d h = omega arith
+multiplicity_less (r ∷ l) (suc k) d h = omega (arith, multiplicity_less l k d (omega arith))
 
-pub each_short : (r : Roots) (k : ℕ) → Printable r → k < r.len → (get_or r.root k blank).multiplicity < 100
-each_short r k p h = omega (arith, ap multiplicities (roots_cons r k p.fits h), left_less k (list_of r), p.short)
+pub each_short : (r : Roots) (k : ℕ) (d : RealRoot) → Printable r → k < length (list_of r) → (get_or (list_of r) k d).multiplicity < 100
+each_short r k d p h = omega (arith, multiplicity_less (list_of r) k d h, p.short)
 
 -- ---- answers
 -- a refusal's number, and k
-pub number_length : (refusal : Refusal) {n : ℕ} → n ≡ number_of refusal → length (decimal n) ≤ 2
-number_length refusal {n} e = decimal_length 2 n (omega arith) (omega (arith, e, (number_bounds refusal).1))
+pub number_length : (refusal : Refusal) → length (decimal (number_of refusal)) ≤ 2
+number_length refusal = decimal_length 2 (number_of refusal) (omega arith) (number_bounds refusal).1
+
+pub two_digits : {n : ℕ} → n < 100 → length (decimal n) ≤ 2
+two_digits {n} h = decimal_length 2 n (omega arith) h
+
+pub five_digits : {n : ℕ} → n < 100000 → length (decimal n) ≤ 5
+five_digits {n} h = decimal_length 5 n (omega arith) h
 
 pub digit_length : {k : ℕ} → k < 8 → length (decimal k) ≤ 1
 digit_length {k} h = decimal_length 1 k (omega arith) (omega (arith, h))

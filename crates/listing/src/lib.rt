@@ -1,5 +1,5 @@
 // The hall file: records in, lines out, into a lent buffer.
-// It rests on `records`, the solver, `text` and `float`; the program rests on it.
+// It rests on `records`, the solver, `lent_bytes`, `text` and `float`; the program rests on it.
 #![tactic(auto)]
 
 ghost use Rattle.std.specs.Prelude.{◌≡◌, ◌^◌, ◌<◌, length};
@@ -27,7 +27,7 @@ fn put_listing(out: &mut Text, s: &[u8])
     }
     let mut at = 0;
     let mut n = 1;
-    // (A while: where the next record starts is read from this one.)
+    // (A while: where the next record starts is read from this one. An iterator would put these lines into a `next` with two ghost members.)
     while at < s.len() {
         let found = records::record_at(s, at);
         put_line(out, n, s, at, found);

@@ -17,7 +17,8 @@ use roots::{RealRoot, RootKind, Roots};
 use solution::QuadraticSolution;
 use text::Text;
 
-// A blank, and the 16 hexadecimal digits of the place's bits.
+// A blank, and the 16 hexadecimal digits of the place's bits. (Here and below a bound on `at` for each, doubled from a line to its parts: a ghost bound on Text
+// would have to be given anew behind each part, by its length.)
 #[tactic(auto, using(text::proofs::Laws::written_then), unfolding(crate::specs::Lines::place_text))]
 fn put_place(out: &mut Text, x: f64)
     requires { out.old.at < 2 ^ 33 }
@@ -27,7 +28,7 @@ fn put_place(out: &mut Text, x: f64)
     out.hex(float::to_bits(x), 16);
 }
 
-// (No From: the kind and u8 are of other crates.)
+// (No From: it would be for two types of other crates, and roots knows no letters of a listing.)
 fn letter(kind: RootKind) -> u8
     ensures { result ≡ letter_of kind }
 {
@@ -48,6 +49,7 @@ fn put_kind(out: &mut Text, kind: RootKind)
 }
 
 // The place, and behind a blank its multiplicity, and the kind.
+#[tactic(auto, using(crate::proofs::Texts::place_length, crate::proofs::Texts::two_digits))]
 fn put_root(out: &mut Text, root: RealRoot)
     requires { (out.old.at < 2 ^ 33) × (root.multiplicity < 100) }
     ensures { Written out.old (root_text root) out.new }
@@ -60,18 +62,18 @@ fn put_root(out: &mut Text, root: RealRoot)
 }
 
 // How many roots, and each of them.
+#[tactic(auto, using(crate::proofs::Texts::count_length))]
 fn put_roots(out: &mut Text, roots: Roots)
     requires { (out.old.at < 2 ^ 32) × Printable roots }
     ensures { Written out.old (roots_text roots) out.new }
 {
-    let root = roots.root;
     out.decimal(roots.len as u64);
-    for i in 0..roots.len {
-        put_root(out, root[i]);
+    for root in &roots.root[..roots.len] {
+        put_root(out, *root);
     }
 }
 
-#[tactic(auto, using(text::proofs::Laws::written_then), unfolding(crate::specs::Lines::refused_text))]
+#[tactic(auto, using(text::proofs::Laws::written_then, crate::proofs::Texts::number_length), unfolding(crate::specs::Lines::refused_text))]
 fn put_refused(out: &mut Text, refusal: Refusal)
     requires { out.old.at < 2 ^ 32 }
     ensures { Written out.old (refused_text (number_of refusal)) out.new }
@@ -147,6 +149,7 @@ fn put_crank(out: &mut Text, a: Result<CrankAnswer, Refusal>)
 }
 
 // What the solver answers to the record at `at`, which stands whole.
+#[tactic(auto, using(crate::proofs::Asked::prints), unfolding(crate::specs::Lines::answer_text))]
 fn put_answer(out: &mut Text, s: &[u8], at: usize, kind: Kind)
     requires { (out.old.at < 2 ^ 31) × Whole kind s.now at }
     ensures { Written out.old (answer_text kind s.now at) out.new }
@@ -186,6 +189,7 @@ fn put_words(out: &mut Text, s: &[u8], at: usize, found: Record)
 }
 
 // The n-th line, that of the record at `at`.
+#[tactic(auto, using(crate::proofs::Texts::head_length, crate::proofs::Texts::five_digits, crate::proofs::Asked::words_length))]
 pub fn put_line(out: &mut Text, n: u64, s: &[u8], at: usize, found: Record)
     requires { (out.old.at < 2 ^ 30) × ((n < 100000) × Sound found s.now at) }
     ensures { Written out.old (line_of n s.now at found) out.new }

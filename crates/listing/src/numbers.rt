@@ -13,6 +13,8 @@ use roots::Roots;
 use solution::QuadraticSolution;
 use trig_quartic::TrigEquation;
 
+// (Whole is said of a file, a place and a kind at once, and each reader is of one kind: a struct with it as a ghost field would be made for one call.)
+#[tactic(auto, using(lent_bytes::proofs::Doubles::f64s_taken), unfolding(crate::specs::Answers::polynomial_at))]
 pub fn polynomial_at(s: &[u8], at: usize) -> Result<Roots, Refusal>
     requires { Whole Polynomial s.now at }
     ensures { result ≡ polynomial_at s.now at }
@@ -23,6 +25,7 @@ pub fn polynomial_at(s: &[u8], at: usize) -> Result<Roots, Refusal>
     poly::real_roots(&coeffs[..count], tol)
 }
 
+#[tactic(auto, using(lent_bytes::proofs::Doubles::f64s_placed), unfolding(crate::specs::Answers::quadratic_at))]
 pub fn quadratic_at(s: &[u8], at: usize) -> Result<QuadraticSolution, Refusal>
     requires { Whole Quadratic s.now at }
     ensures { result ≡ quadratic_at s.now at }
@@ -31,6 +34,7 @@ pub fn quadratic_at(s: &[u8], at: usize) -> Result<QuadraticSolution, Refusal>
     equation::quadratic(a, b, c, confusion, angular)
 }
 
+#[tactic(auto, using(lent_bytes::proofs::Doubles::f64s_placed), unfolding(crate::specs::Answers::crank_at))]
 pub fn crank_at(s: &[u8], at: usize) -> Result<CrankAnswer, Refusal>
     requires { Whole Crank s.now at }
     ensures { result ≡ crank_at s.now at }
@@ -39,6 +43,7 @@ pub fn crank_at(s: &[u8], at: usize) -> Result<CrankAnswer, Refusal>
     crank::crank(confusion, TrigEquation { a2, b2, c1, d1, e })
 }
 
+#[tactic(auto, using(lent_bytes::proofs::Doubles::f64s_placed), unfolding(crate::specs::Answers::contact_at))]
 pub fn contact_at(s: &[u8], at: usize) -> Result<Roots, Refusal>
     requires { Whole Contact s.now at }
     ensures { result ≡ contact_at s.now at }
@@ -55,6 +60,7 @@ pub fn contact_at(s: &[u8], at: usize) -> Result<Roots, Refusal>
     contact::pin_contact(confusion, path, Circle { cx, cy, r })
 }
 
+#[tactic(auto, unfolding(crate::specs::Answers::formula_at))]
 pub fn formula_at(s: &[u8], at: usize) -> Result<Roots, Refusal>
     requires { Whole Formula s.now at }
     ensures { result ≡ formula_at s.now at }

@@ -19,7 +19,8 @@ pub fn output_buffer() -> [u8; 524308]
     [0; 524308]
 }
 
-// How many bytes were read, and how many their listing has. (Numbers and no slices: both buffers are the caller's.)
+// How many bytes were read, and how many their listing has. (Numbers and no slices: a lent buffer from which the answer borrows has no `.new`, by which the
+// contract says what stands in it.)
 #[derive(Clone, Copy)]
 pub struct Listed {
     pub read: usize,

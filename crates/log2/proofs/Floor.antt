@@ -79,7 +79,8 @@ abs_grid n u =
     few s h l = omega arith
 
 -- L(x) of a finite x above zero is z / 256 for the whole number z with 2 ^ (z / 256) ≤ x < 2 ^ ((z + 1) / 256)
-pub log2_floor : (x : Float) → T (fits binary64 x) → T (positive x) → Floor256 (units_of x) (grid_of (units_of x)) × Over256 (log2_grid_of x) (grid_of (units_of x))
+pub log2_floor : (x : Float) → T (fits binary64 x) → T (positive x)
+    → Floor256 (units_of x) (grid_of (units_of x)) × Over256 (log2_grid_of x) (grid_of (units_of x))
 unfolding log2_grid_of
 log2_floor nan f p = absurd p
 log2_floor (inf s) f p = absurd p

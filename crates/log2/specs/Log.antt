@@ -29,4 +29,6 @@ log2_grid_of (fin false (suc m) e) = over256 (grid_of (units_of (fin false (suc 
 
 -- `for (l, &c) in lg.iter_mut().zip(a)`: L of the five numbers of a list
 abbrev pub log2_five_of : List Float → List Float
-log2_five_of a = log2_grid_of (get_or a 0 nan) ∷ log2_grid_of (get_or a 1 nan) ∷ log2_grid_of (get_or a 2 nan) ∷ log2_grid_of (get_or a 3 nan) ∷ log2_grid_of (get_or a 4 nan) ∷ []
+log2_five_of a =
+    log2_grid_of (get_or a 0 nan) ∷ log2_grid_of (get_or a 1 nan) ∷ log2_grid_of (get_or a 2 nan) ∷ log2_grid_of (get_or a 3 nan)
+    ∷ log2_grid_of (get_or a 4 nan) ∷ []

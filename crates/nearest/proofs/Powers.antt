@@ -119,7 +119,8 @@ module _ (e : ℕ) (f : ℕ → ℕ) (P : Power e f) where
     sized n = of_size n.w (n.k % e) n.led n.short (mod-lt n.k P.degree)
 
     -- from the whole part that the search finds, to the whole number nearest to half the root
-    pub from_floor : (n : Digits) (t : ℕ) → Floor (at_root f (n.w * 2 ^ (n.k % e) * 2 ^ q)) t → NearestHalf (at_root f (n.w * 2 ^ (n.k % e) * 2 ^ q)) ((t + 1) / 2)
+    pub from_floor : (n : Digits) (t : ℕ) → Floor (at_root f (n.w * 2 ^ (n.k % e) * 2 ^ q)) t
+        → NearestHalf (at_root f (n.w * 2 ^ (n.k % e) * 2 ^ q)) ((t + 1) / 2)
     from_floor n t g = half_of_floor _ (monotone _) (sized n) t g
 
     pub half_digits : (n : Digits) (m : ℕ) → NearestHalf (at_root f (n.w * 2 ^ (n.k % e) * 2 ^ q)) m → (2 ^ 52 ≤ m) × (m ≤ 2 ^ 53)

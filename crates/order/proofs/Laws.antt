@@ -1,78 +1,101 @@
 -- The order of at most four keys: how it is made, one number after the other, and what is read through it: the sort of what is there.
-use mathlib.Core.Path.{◌≡◌, refl, sym, ap, ◌∙◌}
+use mathlib.Core.Path.{◌≡◌, refl, sym, ap, subst, ◌∙◌}
 use mathlib.Core.Bool.{Bool, true, false, cond}
 use mathlib.Core.List.{List, [], ◌∷◌, ◌++◌, map}
 use Prim.Native.Nat.{ℕ, zero, suc, ◌+◌, ◌-◌, ◌≤◌, ◌<◌}
-use native.Mathlib.Numerals.{add-one}
-use native.Mathlib.Nat.{sub-zero}
+use native.Mathlib.Numerals.{add-one, one-add}
+use native.Mathlib.Nat.{min-le_left}
 use native.Mathlib.Omega.{arith}
-use lib.ListN.{length, take, drop, get_or, length-map, get_or-map}
+use borrow.Rule.Slice.PartMut.{put_mid}
+use lib.ListN.{length, take, drop, get_or, length-append, length-map, length-take, get_or-map}
 use lib.Seq.{take_at, drop-append-add, drop-cons, get_or-take, length-take-le}
 use lib.Ieee.{Float, nan}
-use Rattle.facts.specs.Lists.{AllOf, all_append, all_at, of_four}
+use Rattle.std.specs.List.{prefix_len}
+use Rattle.std.proofs.lemmas.List.{get_or_default, get_or-drop}
+use Rattle.std.proofs.lemmas.List.Sums.{prefix_len-le-length}
+use Rattle.facts.specs.Lists.{AllOf, all_at, of_four}
 use Rattle.facts.specs.Sort.{inserted_by, inserted_all, sorted_by}
-use Rattle.facts.proofs.Sort.{length_sorted, all_sorted, sorted_same, map_sorted}
-use Rattle.order.specs.Order.{numbers_from, keys_before, order_of, first_from, insertion_of, entry_of, Places}
+use Rattle.facts.proofs.Sort.{length_sorted, sorted_same, map_sorted}
+use Rattle.order.specs.Order.{numbers_from, keys_before, order_of, insertion_of, Places}
 
--- ---- the first number at which a test fails, as a loop finds it
-module _ (test : ℕ → Bool) where
-  first_turn : (i p : ℕ) → p < i → first_from test p (i - p) ≡ cond (test p) (first_from test (p + 1) (i - (p + 1))) p
-  unfolding first_from
-  first_turn i p h = let e : i - p ≡ suc (i - (p + 1)) = omega arith in ap (λ (k : ℕ). first_from test p k) e
+-- ---- where i goes
+-- a list read at a place of it
+pub low_places : (at : List ℕ) (i k x : ℕ) → Places at → k < length (take i at) → x ≡ get_or (take i at) k x → x < 4
+low_places at i k x P h e =
+    let low : k < i = omega (arith, h, length-take i at, min-le_left i (length at)) in
+    subst (λ (y : ℕ). y < 4) (sym (get_or-take i at k 0 low) ∙ get_or_default (take i at) k 0 x h ∙ sym e) (P k)
 
-  pub first_go : (i p : ℕ) → p < i → test p ≡ true → first_from test p (i - p) ≡ first_from test (p + 1) (i - (p + 1))
-  first_go i p h t = first_turn i p h ∙ simp t
+pub insertion_low : (before : Float → Float → Bool) (key : List Float) (at : List ℕ) (i : ℕ) → insertion_of before key at i ≤ i
+unfolding insertion_of
+insertion_low before key at i =
+    omega (arith, prefix_len-le-length (λ j. keys_before before key j i) (take i at), length-take i at, min-le_left i (length at))
 
-  pub first_stop : (i p : ℕ) → p < i → test p ≡ false → first_from test p (i - p) ≡ p
-  first_stop i p h t = first_turn i p h ∙ simp t
+-- x inserted stands behind those before it
+inserted_at : (before : ℕ → ℕ → Bool) (x : ℕ) (l : List ℕ)
+    → take (prefix_len (λ y. before y x) l) l ++ x ∷ drop (prefix_len (λ y. before y x) l) l ≡ inserted_by before x l
+unfolding inserted_by
+inserted_at before x [] = refl
+inserted_at before x (y ∷ l) = go (before y x) (prefix_len (λ z. before z x) l) (inserted_at before x l)
+  where
+    go : (b : Bool) (p : ℕ) → take p l ++ x ∷ drop p l ≡ inserted_by before x l
+        → take (cond b (1 + p) 0) (y ∷ l) ++ x ∷ drop (cond b (1 + p) 0) (y ∷ l) ≡ cond b (y ∷ inserted_by before x l) (x ∷ y ∷ l)
+    go true p e = rw (one-add p) (ap (λ (m : List ℕ). y ∷ m) e)
+    go false p e = refl
 
-  pub first_end : (i p : ℕ) → i ≤ p → first_from test p (i - p) ≡ p
-  unfolding first_from
-  first_end i p h = let e : i - p ≡ 0 = omega arith in ap (λ (k : ℕ). first_from test p k) e
+-- i turned to place p from behind the first i: what a part of an array holds then
+abbrev pub turned : List ℕ → List ℕ
+turned m = drop (length m - 1) m ++ take (length m - 1) m
 
--- from the first number on
-pub first_all : (test : ℕ → Bool) (i : ℕ) → first_from test 0 (i - 0) ≡ first_from test 0 i
-first_all test i = ap (first_from test 0) (sub-zero i)
+abbrev pub turned_in : List ℕ → ℕ → ℕ → List ℕ
+turned_in at i p = put_mid p (i + 1 - p) at (turned (take (i + 1 - p) (drop p at)))
 
-pub ruleset first_laws = (first_go, first_stop, first_end, first_all)
+abbrev TurnedIn : ℕ → ℕ → List ℕ → Type 0
+TurnedIn i p at = get_or at i 0 ≡ i → turned_in at i p ≡ (take p (take i at) ++ i ∷ drop p (take i at)) ++ drop (i + 1) at
 
--- ---- one number more
-abbrev pub entries_of : List ℕ → ℕ → ℕ → List ℕ
-entries_of at i p = entry_of at i p 0 ∷ entry_of at i p 1 ∷ entry_of at i p 2 ∷ entry_of at i p 3 ∷ []
+turned_of : (i p : ℕ) → i < 4 → p ≤ i → (a b c d : ℕ) → TurnedIn i p (a ∷ b ∷ c ∷ d ∷ [])
+turned_of zero zero h l a b c d e = ap (λ (x : ℕ). x ∷ b ∷ c ∷ d ∷ []) e
+turned_of zero (suc p) h l a b c d e = absurd (omega (arith, l))
+turned_of (suc zero) zero h l a b c d e = ap (λ (x : ℕ). x ∷ a ∷ c ∷ d ∷ []) e
+turned_of (suc zero) (suc zero) h l a b c d e = ap (λ (x : ℕ). a ∷ x ∷ c ∷ d ∷ []) e
+turned_of (suc zero) (suc (suc p)) h l a b c d e = absurd (omega (arith, l))
+turned_of (suc (suc zero)) zero h l a b c d e = ap (λ (x : ℕ). x ∷ a ∷ b ∷ d ∷ []) e
+turned_of (suc (suc zero)) (suc zero) h l a b c d e = ap (λ (x : ℕ). a ∷ x ∷ b ∷ d ∷ []) e
+turned_of (suc (suc zero)) (suc (suc zero)) h l a b c d e = ap (λ (x : ℕ). a ∷ b ∷ x ∷ d ∷ []) e
+turned_of (suc (suc zero)) (suc (suc (suc p))) h l a b c d e = absurd (omega (arith, l))
+turned_of (suc (suc (suc zero))) zero h l a b c d e = ap (λ (x : ℕ). x ∷ a ∷ b ∷ c ∷ []) e
+turned_of (suc (suc (suc zero))) (suc zero) h l a b c d e = ap (λ (x : ℕ). a ∷ x ∷ b ∷ c ∷ []) e
+turned_of (suc (suc (suc zero))) (suc (suc zero)) h l a b c d e = ap (λ (x : ℕ). a ∷ b ∷ x ∷ c ∷ []) e
+turned_of (suc (suc (suc zero))) (suc (suc (suc zero))) h l a b c d e = ap (λ (x : ℕ). a ∷ b ∷ c ∷ x ∷ []) e
+turned_of (suc (suc (suc zero))) (suc (suc (suc (suc p)))) h l a b c d e = absurd (omega (arith, l))
+turned_of (suc (suc (suc (suc i)))) p h l a b c d e = absurd (omega (arith, h))
 
--- i put in at its place among the first i is i inserted: by i, and by which of them stand before it
-module _ (before : Float → Float → Bool) (key : List Float) where
-  -- (what is said of an array)
-  abbrev Inserts : ℕ → List ℕ → Type 0
-  Inserts i at = entries_of at i (insertion_of before key at i) ≡ inserted_by (keys_before before key) i (take i at) ++ drop (i + 1) at
+turned_is : (at : List ℕ) (i p : ℕ) → length at ≡ 4 → i < 4 → p ≤ i → TurnedIn i p at
+turned_is at i p four h l = of_four (TurnedIn i p) (turned_of i p h l) at four
 
-  inserted_of : (i : ℕ) → i < 4 → (a b c d : ℕ) → Inserts i (a ∷ b ∷ c ∷ d ∷ [])
-  unfolding insertion_of first_from entry_of inserted_by
-  inserted_of zero h a b c d = refl
-  inserted_of (suc zero) h a b c d = go (keys_before before key a 1)
-    where
-      go : (x : Bool) → entries_of (a ∷ b ∷ c ∷ d ∷ []) 1 (cond x 1 0) ≡ cond x (a ∷ 1 ∷ []) (1 ∷ a ∷ []) ++ c ∷ d ∷ []
-      go true = refl
-      go false = refl
-  inserted_of (suc (suc zero)) h a b c d = go (keys_before before key a 2) (keys_before before key b 2)
-    where
-      go : (x y : Bool) → entries_of (a ∷ b ∷ c ∷ d ∷ []) 2 (cond x (cond y 2 1) 0) ≡ cond x (a ∷ cond y (b ∷ 2 ∷ []) (2 ∷ b ∷ [])) (2 ∷ a ∷ b ∷ []) ++ d ∷ []
-      go true true = refl
-      go true false = refl
-      go false y = refl
-  inserted_of (suc (suc (suc zero))) h a b c d = go (keys_before before key a 3) (keys_before before key b 3) (keys_before before key c 3)
-    where
-      go : (x y z : Bool) → entries_of (a ∷ b ∷ c ∷ d ∷ []) 3 (cond x (cond y (cond z 3 2) 1) 0)
-          ≡ cond x (a ∷ cond y (b ∷ cond z (c ∷ 3 ∷ []) (3 ∷ c ∷ [])) (3 ∷ b ∷ c ∷ [])) (3 ∷ a ∷ b ∷ c ∷ []) ++ []
-      go true true true = refl
-      go true true false = refl
-      go true false z = refl
-      go false y z = refl
-  inserted_of (suc (suc (suc (suc i)))) h a b c d = absurd (omega (arith, h))
+-- what is turned is one of four places still
+turned_low : (i p : ℕ) → i < 4 → p ≤ i → (a b c d : ℕ) → Places (a ∷ b ∷ c ∷ d ∷ []) → AllOf (λ (j : ℕ). j < 4) (turned_in (a ∷ b ∷ c ∷ d ∷ []) i p)
+turned_low zero zero h l a b c d P = (P 0, (P 1, (P 2, (P 3, tt))))
+turned_low zero (suc p) h l a b c d P = absurd (omega (arith, l))
+turned_low (suc zero) zero h l a b c d P = (P 1, (P 0, (P 2, (P 3, tt))))
+turned_low (suc zero) (suc zero) h l a b c d P = (P 0, (P 1, (P 2, (P 3, tt))))
+turned_low (suc zero) (suc (suc p)) h l a b c d P = absurd (omega (arith, l))
+turned_low (suc (suc zero)) zero h l a b c d P = (P 2, (P 0, (P 1, (P 3, tt))))
+turned_low (suc (suc zero)) (suc zero) h l a b c d P = (P 0, (P 2, (P 1, (P 3, tt))))
+turned_low (suc (suc zero)) (suc (suc zero)) h l a b c d P = (P 0, (P 1, (P 2, (P 3, tt))))
+turned_low (suc (suc zero)) (suc (suc (suc p))) h l a b c d P = absurd (omega (arith, l))
+turned_low (suc (suc (suc zero))) zero h l a b c d P = (P 3, (P 0, (P 1, (P 2, tt))))
+turned_low (suc (suc (suc zero))) (suc zero) h l a b c d P = (P 0, (P 3, (P 1, (P 2, tt))))
+turned_low (suc (suc (suc zero))) (suc (suc zero)) h l a b c d P = (P 0, (P 1, (P 3, (P 2, tt))))
+turned_low (suc (suc (suc zero))) (suc (suc (suc zero))) h l a b c d P = (P 0, (P 1, (P 2, (P 3, tt))))
+turned_low (suc (suc (suc zero))) (suc (suc (suc (suc p)))) h l a b c d P = absurd (omega (arith, l))
+turned_low (suc (suc (suc (suc i)))) p h l a b c d P = absurd (omega (arith, h))
 
-  pub inserted_entries : (at : List ℕ) (i : ℕ) → length at ≡ 4 → i < 4
-      → entries_of at i (insertion_of before key at i) ≡ inserted_by (keys_before before key) i (take i at) ++ drop (i + 1) at
-  inserted_entries at i e h = of_four (Inserts i) (inserted_of i h) at e
+pub turned_places : (at part : List ℕ) (i p : ℕ) → length at ≡ 4 → Places at → i < 4 → p ≤ i
+    → part ≡ turned (take (i + 1 - p) (drop p at)) → Places (put_mid p (i + 1 - p) at part)
+turned_places at part i p four P h l e =
+    λ k. all_at (λ (j : ℕ). j < 4) (put_mid p (i + 1 - p) at part) 0 k (λ out. omega arith)
+    (subst (λ (m : List ℕ). AllOf (λ (j : ℕ). j < 4) (put_mid p (i + 1 - p) at m)) (sym e)
+    (of_four (λ (m : List ℕ). Places m → AllOf (λ (j : ℕ). j < 4) (turned_in m i p)) (turned_low i p h l) at four P))
 
 pub length_numbers : (i k : ℕ) → length (numbers_from i k) ≡ k
 length_numbers i zero = refl
@@ -108,26 +131,40 @@ module _ (before : Float → Float → Bool) (key : List Float) where
   sorted_next (suc (suc (suc zero))) h = refl
   sorted_next (suc (suc (suc (suc i)))) h = absurd (omega (arith, h))
 
+  -- i is where it is
+  order_next : (i : ℕ) → i < 4 → get_or (order_of before key i) i 0 ≡ i
+  order_next i h =
+      let left : 4 - i ≡ suc (4 - (i + 1)) = omega arith in
+      sym (get_or-drop (i + 0) (order_of before key i) 0 0 ∙ ap (λ (k : ℕ). get_or (order_of before key i) k 0) (omega arith))
+      ∙ rw (drop_order i 0, left) refl
+
+  pub length_order : (n : ℕ) → n ≤ 4 → length (order_of before key n) ≡ 4
+  unfolding order_of
+  length_order n h =
+      omega (arith, length-append (sorted_numbers n) (numbers_from n (4 - n)), length_sorted_numbers n, length_numbers n (4 - n))
+
   -- at the start no number is sorted, and each turn sorts one more
   pub order_none : order_of before key 0 ≡ 0 ∷ 1 ∷ 2 ∷ 3 ∷ []
   unfolding order_of sorted_by inserted_all
   order_none = refl
 
-  pub order_turn : (i : ℕ) → i < 4
-      → inserted_by (keys_before before key) i (take i (order_of before key i)) ++ drop (i + 1) (order_of before key i) ≡ order_of before key (i + 1)
-  unfolding order_of
-  order_turn i h =
+  inserted_turn : (at : List ℕ) (i p : ℕ) → i < 4 → at ≡ order_of before key i → p ≡ insertion_of before key at i
+      → (take p (take i at) ++ i ∷ drop p (take i at)) ++ drop (i + 1) at ≡ order_of before key (i + 1)
+  unfolding order_of insertion_of
+  inserted_turn at i p h o e =
       let left : 4 - i ≡ suc (4 - (i + 1)) = omega arith in
-      rw (take_order i, drop_order i 1, left, sorted_next i h)
+      rw (e, inserted_at (keys_before before key) i (take i at), o, take_order i, drop_order i 1, left, sorted_next i h) refl
 
-  -- each entry is one of four
-  pub order_places : (n : ℕ) → n ≤ 4 → Places (order_of before key n)
-  unfolding order_of
-  order_places n h =
-      λ k. all_at (λ (j : ℕ). j < 4) (order_of before key n) 0 k (λ out. omega arith)
-      (all_append (λ (j : ℕ). j < 4) (sorted_numbers n) (numbers_from n (4 - n))
-      (all_sorted (keys_before before key) (λ (j : ℕ). j < 4) (numbers_from 0 n) (all_numbers 4 0 n (omega arith)))
-      (all_numbers 4 n (4 - n) (omega arith)))
+  pub order_turn : (at part : List ℕ) (i p : ℕ) → at ≡ order_of before key i → i < 4 → p ≡ insertion_of before key at i
+      → part ≡ turned (take (i + 1 - p) (drop p at)) → put_mid p (i + 1 - p) at part ≡ order_of before key (i + 1)
+  order_turn at part i p o h e t =
+      let low : p ≤ i = omega (arith, e, insertion_low before key at i) in
+      let here : get_or at i 0 ≡ i = rw o (order_next i h) in
+      let four : length at ≡ 4 = rw o (length_order i (omega arith)) in
+      ap (put_mid p (i + 1 - p) at) t ∙ turned_is at i p four h low here ∙ inserted_turn at i p h o e
+
+-- What the proof of sorted rests on.
+pub ruleset orders = (order_none, order_turn, turned_places)
 
 -- ---- reading through the order
 module _ {A : Type 0} (a : List A) (d : A) where

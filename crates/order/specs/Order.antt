@@ -1,5 +1,6 @@
--- The order of at most four keys, as numbers of places: the sort of factorize in poly.rs, in which ties stay in their earlier order. Definitions only.
-use Rattle.std.specs.Prelude.{Bool, cond, List, ◌++◌, ℕ, zero, suc, ◌+◌, ◌-◌, ◌<◌, ltb, eqb, leb, get_or, Float}
+-- The order of at most four keys, as numbers of places: the sorts of factorize and finish in poly.rs; ties stay in their earlier order. Definitions only.
+use Rattle.std.specs.Prelude.{◌≡◌, Bool, List, ◌++◌, ℕ, ◌-◌, ◌<◌, take, get_or, Float}
+use Rattle.std.specs.List.{prefix_len}
 use Rattle.std.specs.Float.{nan}
 use Rattle.facts.specs.Arrays.{fill_from}
 use Rattle.facts.specs.Sort.{sorted_by}
@@ -23,22 +24,13 @@ unfoldable pub falling_of : List Float → ℕ → List ℕ
 falling_of key n = order_of (λ a b. total_le_of b a) key n
 
 -- ---- what the functions say of each other
--- a stands before b, or level with it
-abbrev pub falls : Float → Float → Bool
-falls a b = total_le_of b a
+-- what a test may give at a and b is what f gives there
+abbrev pub Tells : (Float → Float → Bool → Type 0) → (Float → Float → Bool) → Type 0
+Tells post f = (a b : Float) (r : _) → post a b r → r ≡ f a b
 
--- the first number from p on, of k, at which the test fails
-unfoldable pub first_from : (ℕ → Bool) → ℕ → ℕ → ℕ
-first_from test p zero = p
-first_from test p (suc k) = cond (test p) (first_from test (p + 1) k) p
-
--- where i goes among the first i numbers
+-- where i goes among the first i numbers: behind those that stand before it, up to the first that does not
 unfoldable pub insertion_of : (Float → Float → Bool) → List Float → List ℕ → ℕ → ℕ
-insertion_of before key at i = first_from (λ p. keys_before before key (get_or at p 0) i) 0 i
-
--- entry k, once i is put in at p and those from there on have gone one further
-unfoldable pub entry_of : List ℕ → ℕ → ℕ → ℕ → ℕ
-entry_of at i p k = cond (ltb k p) (get_or at k 0) (cond (eqb k p) i (cond (leb k i) (get_or at (k - 1) 0) (get_or at k 0)))
+insertion_of before key at i = prefix_len (λ j. keys_before before key j i) (take i at)
 
 -- each is the number of one of four places
 abbrev pub Places : List ℕ → Type 0

@@ -1,64 +1,47 @@
-// The order of at most four keys, the largest first, as numbers of places: the sort of factorize, in which ties stay in their earlier order.
-// It rests on `float`; the large factors, `large_factors`, rest on it.
+// The order of at most four keys by a test, as numbers of places: the sorts of factorize and of finish, in which ties stay in their earlier order.
+// It rests on `float` and `facts`; the large factors, `large_factors`, and the finished roots, `finish`, rest on it.
 #![tactic(auto)]
 
-ghost use Rattle.std.specs.Prelude.{◌≡◌, ◌++◌, ◌+◌, ◌≤◌, ◌<◌, take, drop};
-ghost use Rattle.facts.specs.Sort.{inserted_by};
-ghost use Rattle.order.specs.Order.{keys_before, falling_of, falls, insertion_of, entry_of, Places};
+ghost use Rattle.std.specs.Prelude.{◌≡◌, ◌≤◌, ◌<◌, Float, Bool};
+ghost use Rattle.order.specs.Order.{falling_of, order_of, insertion_of, Tells, Places};
 
 // How many of the first i numbers stand before i, up to the first that does not.
-#[tactic(auto, using(crate::proofs::Laws::first_laws), unfolding(crate::specs::Order::insertion_of))]
-fn place(key: [f64; 4], at: [usize; 4], i: usize) -> usize
+fn place<F: Fn(f64, f64) -> bool>(key: [f64; 4], at: [usize; 4], i: usize, before: &F) -> usize
     requires i_high { i < 4 }
     requires places { Places at }
-    ensures { result ≡ insertion_of falls key at i }
+    requires callable { F.IsAlwaysCallable before.now }
+    ensures place { (f : Float → Float → Bool) → Tells (F.post before.now) f → result ≡ insertion_of f key at i }
+    ensures low { result ≤ i }
 {
-    for p in 0..i {
-        if !float::total_le(key[i], key[at[p]]) {
-            return p;
-        }
-    }
-    i
+    at[..i]
+        .iter()
+        .take_while(|&&j| before(key[j], key[i]))
+        .count()
 }
 
-// Entry k, once i is put in at p and those from there on have gone one further.
-#[tactic(auto, unfolding(crate::specs::Order::entry_of))]
-fn entry(at: [usize; 4], i: usize, p: usize, k: usize) -> usize
-    requires { k < 4 }
-    ensures { result ≡ entry_of at i p k }
+// The numbers 0..n in the order that the test gives their keys: whether a stands before b, or level with it. (By hand: std's stable sort takes a heap, and for
+// its unstable one an order of (key, place), NaN first, and its laws would be longer.)
+// (key with n beside it, here and below: the places are below 4, whatever n is, so each is one of an array of four, and not of a slice of n.)
+#[tactic(auto, using(crate::proofs::Laws::orders))]
+pub fn sorted<F: Fn(f64, f64) -> bool>(key: [f64; 4], n: usize, before: F) -> [usize; 4]
+    requires n_high { n ≤ 4 }
+    requires callable { F.IsAlwaysCallable before }
+    ensures order { (f : Float → Float → Bool) → Tells (F.post before) f → result ≡ order_of f key n }
+    ensures places { Places result }
 {
-    if k < p {
-        return at[k];
+    let mut at = [0, 1, 2, 3];
+    for i in 0..n {
+        let p = place(key, at, i, &before);
+        at[p..=i].rotate_right(1);
     }
-    if k == p {
-        return i;
-    }
-    if k <= i {
-        return at[k - 1];
-    }
-    at[k]
+    at
 }
 
-// i goes to its place among the first i numbers.
-fn insert(key: [f64; 4], at: [usize; 4], i: usize) -> [usize; 4]
-    requires i_high { i < 4 }
-    requires places { Places at }
-    ensures { result ≡ inserted_by (keys_before falls key) i (take i at) ++ drop (i + 1) at }
-{
-    let p = place(key, at, i);
-    std::array::from_fn(|k| entry(at, i, p, k))
-}
-
-// The numbers 0..n in the order of their keys. (By hand: std's stable sort takes a heap, its unstable one leaves open how ties stand.)
-#[tactic(auto, using(crate::proofs::Laws::order_none, crate::proofs::Laws::order_turn, crate::proofs::Laws::order_places), unfolding(crate::specs::Order::falling_of))]
+// The largest first.
+#[tactic(auto, unfolding(crate::specs::Order::falling_of))]
 pub fn falling(key: [f64; 4], n: usize) -> [usize; 4]
     requires { n ≤ 4 }
     ensures { (result ≡ falling_of key n) × Places result }
 {
-    let mut at = [0, 1, 2, 3];
-    for i in 0..n {
-        let next = insert(key, at, i);
-        at = next;
-    }
-    at
+    sorted(key, n, |a, b| float::total_le(b, a))
 }

@@ -2,7 +2,7 @@
 use mathlib.Core.Path.{◌≡◌, refl, sym, subst}
 use mathlib.Core.List.{List, [], ◌∷◌}
 use mathlib.Core.Logic.{⊎_elim}
-use Prim.Native.Nat.{ℕ, zero, suc, ◌+◌, ◌-◌, ◌^◌, ◌≤◌, ◌<◌}
+use Prim.Native.Nat.{ℕ, zero, suc, ◌+◌, ◌^◌, ◌≤◌, ◌<◌}
 use native.Mathlib.Nat.{eq-or-lt_of_le}
 use native.Mathlib.Omega.{arith}
 use lib.Dec.{lit≤}
@@ -42,17 +42,16 @@ module _ (l : List ℤ) where
           ⊎_elim (λ (q : m ≡ k). subst (λ (j : ℕ). coefficient_of l j ≡ pos 0) q z) (λ (q : m < k). zeros_behind (suc m) k (omega arith) (omega arith))
           (eq-or-lt_of_le h)
 
-  -- the coefficients from t^n on are zeros, and that of t^(n - 1) is read
-  module _ (n : ℕ) (h : 0 < n) (z : (k : ℕ) → n ≤ k → coefficient_of l k ≡ pos 0) where
-    pub length_is : (coefficient_of l (n - 1) ≡ pos 0 → ⊥) → n - 1 + 1 ≡ length (trimmed l)
-    length_is f =
-        let all = trimmed_short n l z in
-        ⊎_elim (λ (q : length (trimmed l) ≤ n - 1). absurd (f (zeros_behind (n - 1) (n - 1) q (omega arith))))
-        (λ (q : n - 1 < length (trimmed l)). omega arith)
-        (le_or_lt (length (trimmed l)) (n - 1))
+  -- that of t^i is no zero, and those behind it are
+  pub length_is : length l ≡ 5 → (i : ℕ) → (coefficient_of l i ≡ pos 0 → ⊥) → ((k : ℕ) → i + 1 ≤ k → k < 5 → coefficient_of l k ≡ pos 0)
+      → i + 1 ≡ length (trimmed l)
+  length_is five i f z =
+      let all = trimmed_short (i + 1) l (λ k h. ⊎_elim (coefficient_none five k) (z k h) (le_or_lt 5 k)) in
+      ⊎_elim (λ (q : length (trimmed l) ≤ i). absurd (f (zeros_behind i i q (omega arith)))) (λ (q : i < length (trimmed l)). omega arith)
+      (le_or_lt (length (trimmed l)) i)
 
-  pub length_none : ((k : ℕ) → 0 ≤ k → coefficient_of l k ≡ pos 0) → 0 ≡ length (trimmed l)
-  length_none z = let most = trimmed_short 0 l z in omega arith
+  pub length_none : length l ≡ 5 → ((k : ℕ) → k < 5 → coefficient_of l k ≡ pos 0) → 0 ≡ length (trimmed l)
+  length_none five z = let most = trimmed_short 0 l (λ k h. ⊎_elim (coefficient_none five k) (z k) (le_or_lt 5 k)) in omega arith
 
 -- ---- a polynomial by its coefficients
 -- what is not refused

@@ -35,7 +35,8 @@ pub limited_high : (p : List ℤ) (k : ℕ) → 5 ≤ k → (coefficient_of p k 
 unfolding limited
 limited_high p k h f = ⊎_elim (λ l. absurd (f (trimmed_long 5 p l k h))) (λ l. rw (lt-ltb 5 (length (trimmed p)) l)) (le_or_lt (length (trimmed p)) 5)
 
-pub limited_large : (p : List ℤ) (k : ℕ) → ((j : ℕ) → 5 ≤ j → coefficient_of p j ≡ pos 0) → 2 ^ 53 < nat_abs (coefficient_of p k) → limited p ≡ Err CoefficientTooLarge
+pub limited_large : (p : List ℤ) (k : ℕ) → ((j : ℕ) → 5 ≤ j → coefficient_of p j ≡ pos 0) → 2 ^ 53 < nat_abs (coefficient_of p k)
+    → limited p ≡ Err CoefficientTooLarge
 unfolding limited
 limited_large p k z h =
     let large : 2 ^ 53 < nat_abs (coefficient_of (trimmed p) k) = subst (λ (a : ℤ). 2 ^ 53 < nat_abs a) (sym (trimmed_at p k)) h in
@@ -71,7 +72,8 @@ pub limited_limits : (p : List ℤ) → Limits (limited p)
 unfolding limited
 limited_limits p = go (ltb 5 (length (trimmed p))) (too_large (trimmed p)) refl refl
   where
-    go : (b c : Bool) → ltb 5 (length (trimmed p)) ≡ b → too_large (trimmed p) ≡ c → Limits (cond b (Err DegreeTooHigh) (cond c (Err CoefficientTooLarge) (Ok (trimmed p))))
+    go : (b c : Bool) → ltb 5 (length (trimmed p)) ≡ b → too_large (trimmed p) ≡ c
+        → Limits (cond b (Err DegreeTooHigh) (cond c (Err CoefficientTooLarge) (Ok (trimmed p))))
     go true c d e = inl refl
     go false true d e = inr refl
     go false false d e = (ltb-false 5 (length (trimmed p)) d, not_large (trimmed p) e, trimmed_same (trimmed p) p (trimmed_at p))

@@ -97,7 +97,8 @@ module _ (a b : List ℤ) (k : ℕ) where
       pub added_fits : FitsSigned w128 (s +ℤ product s (coefficient_of a i) (coefficient_of b (k - i)) i (omega arith) w.size (A.small i) (B.small (k - i)))
       added_fits = more_fits s (coefficient_of a i) (coefficient_of b (k - i)) i (omega arith) w.size (A.small i) (B.small (k - i))
 
-      pub added_turn : Added (i + 1) (wide (s +ℤ product s (coefficient_of a i) (coefficient_of b (k - i)) i (omega arith) w.size (A.small i) (B.small (k - i))))
+      pub added_turn : Added (i + 1)
+          (wide (s +ℤ product s (coefficient_of a i) (coefficient_of b (k - i)) i (omega arith) w.size (A.small i) (B.small (k - i))))
       added_turn = record {
         inside = omega arith;
         same = more_is s (coefficient_of a i) (coefficient_of b (k - i)) i (omega arith) w.size (A.small i) (B.small (k - i))

@@ -50,7 +50,8 @@ pub limited_ways : (C : Value → Type 0) (p : List ℤ)
 unfolding limited
 limited_ways C p high large meets = go (ltb 5 (length (trimmed p))) (too_large (trimmed p)) refl refl
   where
-    go : (b c : Bool) → ltb 5 (length (trimmed p)) ≡ b → too_large (trimmed p) ≡ c → C (cond b (Err DegreeTooHigh) (cond c (Err CoefficientTooLarge) (Ok (trimmed p))))
+    go : (b c : Bool) → ltb 5 (length (trimmed p)) ≡ b → too_large (trimmed p) ≡ c
+        → C (cond b (Err DegreeTooHigh) (cond c (Err CoefficientTooLarge) (Ok (trimmed p))))
     go true c d e = let l = ltb-true 5 (length (trimmed p)) d in let w = trimmed_last p (omega arith) in high w.0 (omega (arith, w.1)) w.2
     go false true d e =
         let w = large_at (trimmed p) e in

@@ -16,7 +16,7 @@ use refusals::Refusal;
 mod part;
 
 // 2^53, the largest size of a coefficient.
-const MOST: u128 = 0x20_0000_0000_0000;
+const MOST: u128 = 1 << 53;
 
 #[derive(Clone, Copy, PartialEq, Eq, Debug)]
 pub enum Operator {
@@ -64,24 +64,18 @@ pub fn entry(a: Part, k: usize) -> i64
 }
 
 // How many there are up to the last that is no zero.
-#[tactic(auto, using(crate::proofs::Entries::length_is, crate::proofs::Entries::length_none))]
+#[tactic(auto, using(crate::proofs::Entries::ended))]
 pub fn len(a: Part) -> usize
     ensures value { result ≡ length_in a }
     ensures ends { Ends a.coeffs result }
 {
-    for i in (0..5).rev() {
-        if a.coeffs[i] != 0 {
-            return i + 1;
-        }
-    }
-    0
+    a.coeffs.iter().rposition(|&c| c != 0).map_or(0, |i| i + 1)
 }
 
-impl Counted {
-    fn of(a: Part) -> Counted
-        ensures coeffs { result.coeffs ≡ a.coeffs }
-        ensures len { result.len ≡ length_in a }
-    {
+impl From<Part> for Counted {
+    ghost from_gives = { λ a counted. (counted.coeffs ≡ a.coeffs) × (counted.len ≡ length_in a) };
+
+    fn from(a: Part) -> Counted {
         let coeffs = a.coeffs;
         let len = len(a);
         Counted { coeffs, len }
@@ -91,6 +85,7 @@ impl Counted {
 // ---- what is made of two
 
 // The products for t^k are those of t^i and t^(k - i): where there are m coefficients and n, from the first i with k - i < n up to the last with i < m.
+// (A loop: a fold over this range would read the same two places, and its closure would owe the bound of the sum, turn by turn.)
 fn product_at(a: &Counted, b: &Counted, k: usize) -> i128
     requires { k < 5 }
     ensures { result ≡ made_of Product (coefficient_of a.now.coeffs) (coefficient_of b.now.coeffs) k }
@@ -105,7 +100,8 @@ fn product_at(a: &Counted, b: &Counted, k: usize) -> i128
 }
 
 impl Operator {
-    // The coefficient of t^k.
+    // The coefficient of t^k. (A match on the operator, which a text tells: closures in its place would make two copies more of `join` and `made`, and
+    // `formula` would choose among the three all the same.)
     fn at(self, a: &Counted, b: &Counted, k: usize) -> i128
         requires { k < 5 }
         ensures { result ≡ made_of self (coefficient_of a.now.coeffs) (coefficient_of b.now.coeffs) k }
@@ -144,7 +140,7 @@ fn small(c: i128) -> Result<i64, Refusal>
     Ok(c as i64)
 }
 
-// What is made where its degree is at most 4.
+// What is made where its degree is at most 4. (k is a degree and a place: `coeffs.iter_mut().enumerate().take(end)` would count the same k.)
 fn made(op: Operator, a: &Counted, b: &Counted, end: usize) -> Result<Part, Refusal>
     requires { (end ≡ made_length op a.now.len b.now.len) × (end ≤ 5) }
     ensures { value_in result ≡ limited (operator_of op (trimmed a.now.coeffs) (trimmed b.now.coeffs)) }
@@ -166,8 +162,8 @@ pub fn join(
 ) -> Result<Part, Refusal>
     ensures { value_in result ≡ joined (operator_of op) (value_in a) (value_in b) }
 {
-    let x = Counted::of(a?);
-    let y = Counted::of(b?);
+    let x = Counted::from(a?);
+    let y = Counted::from(b?);
     let end = op.len(x.len, y.len);
     if 5 < end {
         return Err(Refusal::DegreeTooHigh);

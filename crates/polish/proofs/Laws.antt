@@ -50,7 +50,8 @@ module _ (f : List Float) (d : ℕ) (gap y : Float) {v : ValueSlope} (here : v �
           unfolding polish_next
           moved = simp (sym here, steep, sym is, short, moves, sym there, gains)
 
-          goes : (n : ℕ) → k < n → turns_of (polish_next f d gap) (n - k) (at y) ≡ turns_of (polish_next f d gap) (n - (k + 1)) (arrived step (sub binary64 y step))
+          goes : (n : ℕ) → k < n
+              → turns_of (polish_next f d gap) (n - k) (at y) ≡ turns_of (polish_next f d gap) (n - (k + 1)) (arrived step (sub binary64 y step))
           goes n h = turns_go (polish_next f d gap) n k (at y) (arrived step (sub binary64 y step)) h moved
 
           pub ends_small : (n : ℕ) → k < n → is_small_of step (sub binary64 y step) ≡ true → turns_from f d gap (n - k) y ≡ sub binary64 y step

@@ -21,7 +21,8 @@ fn is_small(step: f64, y: f64) -> bool
     float::abs(step) <= f64::EPSILON * float::abs(y)
 }
 
-// (A loop of its own: its step is tested against the gap and the place, and a small one ends it at the new place.)
+// (A loop of its own beside refine::newton: the step too is tested, against the gap and the place, and a small one ends it at the new place. newton would take
+// three more tests for these, which its other two callers leave empty.)
 pub fn polish(p: Polynomial, y0: f64, gap: f64) -> f64
     ensures { result ≡ polish_of 4 p.f p.d gap y0 }
 {

@@ -37,14 +37,11 @@ struct Stripped {
 }
 
 // How many are left once trailing zeros are dropped.
-#[tactic(auto, using(crate::proofs::Coefficients::trimmed_none))]
+#[tactic(auto, using(crate::proofs::Coefficients::trimmed_none, crate::proofs::Coefficients::trimmed_last))]
 fn trimmed(coeffs: &[f64]) -> usize
     ensures { (result ≡ trimmed_of coeffs.now) × (result ≤ length coeffs.now) }
 {
-    match coeffs.iter().rposition(|&c| c != 0.0) {
-        Some(i) => i + 1,
-        None => 0,
-    }
+    coeffs.iter().rposition(|&c| c != 0.0).map_or(0, |i| i + 1)
 }
 
 // How many zeros come first.
@@ -88,7 +85,7 @@ fn zero_roots(zeros: usize) -> roots::Roots
     requires { zeros ≤ 4 }
     ensures { result ≡ roots_of (zero_roots_of zeros) }
 {
-    let none = roots::Roots::none();
+    let none = roots::Roots::default();
     if zeros > 0 {
         return none.keep(0.0, zeros as u32);
     }
@@ -116,6 +113,7 @@ impl Stripped {
         ensures { result ≡ count_up r.f.nquad (with_quad_in self.poly r.f self.tol) r.f.nquad start }
     {
         let mut s = start;
+        // By index: that what a zip of the two arrays has left is their rest does not prove from one turn to the next.
         for i in 0..r.f.nquad {
             let q = r.f.quad[i];
             s = push::push_rooted(self.poly, q.al, q.be, r.disc[i], self.tol, s);
@@ -129,7 +127,7 @@ impl Stripped {
     {
         let r = factorize::factorize_rooted(self.poly, 0);
         let roots = with_lins(r.f, zero_roots(self.zeros));
-        let pairs = roots::Pairs::none();
+        let pairs = roots::Pairs::default();
         self.with_quads(r, push::Found { roots, pairs })
     }
 
@@ -204,7 +202,7 @@ fn unscaled_all(s: roots::Roots, e: i32) -> roots::Roots
     requires { s.len ≤ 4 }
     ensures { result ≡ roots_of (unscaled_all e (list_of s)) }
 {
-    let mut out = roots::Roots::none();
+    let mut out = roots::Roots::default();
     for r in &s.root[..s.len] {
         out = out.keep(ldexp::ldexp(r.value, e), r.multiplicity);
     }

@@ -6,10 +6,19 @@ use native.Mathlib.Omega.{arith}
 use lib.Ieee.{Float}
 use Rattle.std.specs.Prelude.{Result, Ok, Err, IsOkAnd, MatchResult}
 use Rattle.refusals.specs.declared.Refusal.{Refusal}
-use Rattle.refusals.specs.Refusals.{number_of, outcome_of, value_or}
+use Rattle.refusals.specs.Refusals.{outcome_of, value_or}
 use Rattle.refusals.proofs.Numbers.{number_bounds}
 use Rattle.lent_bytes.specs.Bytes.{Answered}
 use Rattle.lent_bytes.proofs.Whole.{answered_as, answered_if}
+use Rattle.lent_bytes.specs.Lists.{root_numbers}
+use Rattle.roots.specs.declared.Roots.{Roots}
+use Rattle.poly.specs.RealRoots.{roots_in}
+use lib.ListN.{replicate}
+use Rattle.float.specs.Literals.{zero64}
+use Rattle.formula.specs.declared.Expanded.{Expanded}
+use Rattle.formula_roots.specs.Claims.{expanded_in}
+use Rattle.formula.specs.Formula.{expand_of}
+use Rattle.pongewaru.specs.Formulas.{expanded_numbers}
 use Rattle.pongewaru.specs.Answers.{numbers_in, AnsweredBy}
 
 module _ {A : Type 0} (numbers : A → List Float) where
@@ -31,3 +40,17 @@ module _ {A : Type 0} (numbers : A → List Float) where
   told_by {l} {r} {m} s answer y is same h =
       subst (λ (a : Result A Refusal). AnsweredBy numbers a l r m) is
       (told_as s y same refl (λ x e. sym (ap (numbers_in numbers) e)) h)
+
+-- a list of roots
+pub told_list : {l : List ℕ} {r : ℕ} {m : List ℕ} (s answer : Result Roots Refusal) (y : Result (List Float) Refusal) → s ≡ answer → Mapped root_numbers s y
+    → Answered (outcome_of y) (value_or [] y) l r m → Answered (outcome_of answer) (root_numbers (roots_in answer)) l r m
+told_list s answer y is same h =
+    told_as root_numbers s y same (ap outcome_of is) (λ x e. ap (λ (a : Result Roots Refusal). root_numbers (roots_in a)) (sym e ∙ is)) h
+
+-- the coefficients of a text
+pub told_coefficients : {l : List ℕ} {r : ℕ} {m : List ℕ} (text : List ℕ) (s : Result Expanded Refusal) (y : Result (List Float) Refusal) → s ≡ expand_of text
+    → Mapped expanded_numbers s y → Answered (outcome_of y) (value_or [] y) l r m
+    → Answered (outcome_of (expand_of text)) (expanded_numbers (expanded_in text)) l r m
+told_coefficients text s y is same h =
+    told_as expanded_numbers s y same (ap outcome_of is)
+    (λ x e. ap (λ (r : Result Expanded Refusal). expanded_numbers (value_or (record { len = 0; coeffs = replicate 5 zero64 }) r)) (sym e ∙ is)) h

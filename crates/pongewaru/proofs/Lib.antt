@@ -2,5 +2,4 @@
 pub mod Answers
 pub mod Listing
 pub mod Feeding
-pub mod Crank
 pub mod Once

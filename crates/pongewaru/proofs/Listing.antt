@@ -1,17 +1,69 @@
--- What an answer to lent bytes says and stores, where a test of them may refuse them first.
-use mathlib.Core.Path.{◌≡◌, refl}
-use mathlib.Core.Bool.{Bool, true, false}
-use mathlib.Core.List.{List, []}
-use Prim.Native.Nat.{ℕ, ◌<◌}
+-- What an answer to lent bytes says and stores, where a test of them may refuse them first; and that an answered list has no more than its places.
+use mathlib.Core.Path.{◌≡◌, refl, sym, ◌∙◌, subst}
+use mathlib.Core.Bool.{Bool, false}
+use mathlib.Core.List.{List}
+use Prim.Native.Nat.{ℕ, ◌≤◌, ◌<◌}
 use native.Mathlib.Omega.{arith}
 use lib.Ieee.{Float}
+use Rattle.std.specs.Prelude.{Result, Ok, IfOk}
+use Rattle.refusals.specs.declared.Refusal.{Refusal}
+use Rattle.roots.specs.declared.Roots.{Roots}
+use Rattle.roots.specs.Listed.{Fits}
+use Rattle.poly.specs.RealRoots.{real_roots_of, roots_in}
+use Rattle.poly.specs.Short.{short_of}
+use Rattle.poly.proofs.Sums.{answer_fits}
+use Rattle.poly.proofs.Short.{short_lists}
+use Rattle.contact.specs.declared.Path.{Path}
+use Rattle.contact.specs.declared.Circle.{Circle}
+use Rattle.contact.specs.Contact.{pin_contact_of}
+use Rattle.contact.proofs.Theorem.{contacts}
+use Rattle.formula.specs.declared.Expanded.{Expanded}
+use Rattle.formula.specs.Formula.{expand_of}
+use Rattle.formula.proofs.Texts.{few}
+use Rattle.formula_roots.specs.FormulaRoots.{formula_roots_of}
+use Rattle.formula_roots.proofs.Solved.{formula_fits}
 use Rattle.lent_bytes.specs.Bytes.{unless, Answered}
-use Rattle.lent_bytes.proofs.Whole.{answered_as, answered_if, is_other, is_given}
+use Rattle.lent_bytes.proofs.Whole.{answered_as, answered_if, is_given}
+use Rattle.pongewaru.proofs.Answers.{told_list, told_coefficients}
+use Rattle.pongewaru.proofs.Once.{inquired_fits}
 
--- ---- what is said of an answer ys that is refused under k, and stored: by whether the bytes are refused, under n
-module _ (n k : ℕ) (ys : List Float) (l : List ℕ) {p b : Bool} (e : b ≡ p) where
-  pub refused_first : {r : ℕ} {m : List ℕ} → 0 < n → b ≡ true → Answered n [] l r m → Answered (unless n p k) ys l r m
-  refused_first h t w = answered_as (is_other n k e t) refl (answered_if refl (λ z. absurd (omega (arith, z, h))) w)
+-- ---- of bytes that may be refused: whatever is not stored, and the answer where they are not
+pub unstored : (n : ℕ) (xs ys : List Float) {l : List ℕ} {r : ℕ} {m : List ℕ} → 0 < n → Answered n xs l r m → Answered n ys l r m
+unstored n xs ys h w = answered_if refl (λ z. absurd (omega (arith, z, h))) w
 
-  pub answered_then : {j r : ℕ} {xs : List Float} {m : List ℕ} → b ≡ false → j ≡ k → xs ≡ ys → Answered j xs l r m → Answered (unless n p k) ys l r m
-  answered_then t h g w = answered_as (is_given n k e t h) g w
+pub answered_then : (n k : ℕ) (ys : List Float) {l : List ℕ} {p b : Bool} {r : ℕ} {m : List ℕ} → b ≡ p → b ≡ false → Answered k ys l r m
+    → Answered (unless n p k) ys l r m
+answered_then n k ys e t w = answered_as (is_given n k e t refl) refl w
+
+-- ---- an answered list
+module _ {answer s : Result Roots Refusal} {x : Roots} (fits : Fits (roots_in answer)) (is : s ≡ answer) (e : s ≡ Ok x) where
+  answered_fits : Fits x
+  answered_fits = subst (λ (a : Result Roots Refusal). Fits (roots_in a)) (sym is ∙ e) fits
+
+module _ {s : Result Roots Refusal} {x : Roots} where
+  pub contact_fits : (confusion : Float) (path : Path) (circle : Circle) → s ≡ pin_contact_of confusion path circle → s ≡ Ok x → Fits x
+  contact_fits confusion path circle is e = answered_fits (contacts confusion path circle).array is e
+
+  pub list_fits : (coeffs : List Float) (tol : Float) → s ≡ real_roots_of coeffs tol → s ≡ Ok x → Fits x
+  list_fits coeffs tol is e = answered_fits (answer_fits coeffs tol) is e
+
+  pub text_fits : (text : List ℕ) (tol : Float) → s ≡ formula_roots_of text tol → s ≡ Ok x → Fits x
+  text_fits text tol is e = answered_fits (formula_fits text tol) is e
+
+pub list_short : (coeffs short : List Float) (tol : Float) {s : Result Roots Refusal} → short ≡ short_of coeffs → s ≡ real_roots_of short tol
+    → s ≡ real_roots_of coeffs tol
+list_short coeffs short tol h is = rw h at is ∙ short_lists coeffs tol
+
+pub few_coefficients : (text : List ℕ) {s : Result Expanded Refusal} {x : Expanded} → s ≡ expand_of text → s ≡ Ok x → x.len ≤ 5
+few_coefficients text is e = subst (λ (r : Result Expanded Refusal). IfOk r (λ (e : Expanded). e.len ≤ 5)) (sym is ∙ e) (few text)
+
+-- ---- for `using`
+pub ruleset contact_told = (told_list, contact_fits)
+
+pub ruleset list_told = (unstored, told_list, list_fits, list_short)
+
+pub ruleset inquiry_told = (unstored, inquired_fits)
+
+pub ruleset text_told = (unstored, told_list, text_fits)
+
+pub ruleset coefficients_told = (unstored, told_coefficients, few_coefficients)

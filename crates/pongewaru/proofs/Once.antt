@@ -6,7 +6,7 @@ use Prim.Native.Nat.{ℕ, zero, suc, ◌+◌, ◌≤◌, ◌<◌}
 use native.Mathlib.Omega.{arith}
 use lib.ListN.{length, take, length-take}
 use lib.Ieee.{Float}
-use Rattle.std.specs.Prelude.{Option, Some, Result, Ok, Err}
+use Rattle.std.specs.Prelude.{Some, Result, Ok, Err}
 use Rattle.facts.specs.Lists.{length_snoc}
 use Rattle.refusals.specs.declared.Refusal.{Refusal}
 use Rattle.refusals.specs.declared.Refusal.TheVariants.{NothingAsked}
@@ -20,7 +20,7 @@ use Rattle.poly.proofs.Refusals.{then_number}
 use Rattle.asking.specs.Asking.{Asking, Stage, asks, ended, walked, left_by}
 use Rattle.asking.proofs.Laws.{ended_more, asks_more, none_left}
 use Rattle.touching.specs.declared.Replies.{Replies}
-use Rattle.touching.specs.Replies.{replied_by}
+use Rattle.touching.specs.Replies.{no_replies, replied_by}
 use Rattle.inquiry.specs.declared.Inquiry.{Inquiry}
 use Rattle.inquiry.specs.declared.Asked.{Asked}
 use Rattle.inquiry.specs.declared.Seen.{Seen}
@@ -37,7 +37,9 @@ use Rattle.crank.specs.declared.CrankShown.{CrankShown}
 use Rattle.crank.specs.declared.CrankInquiry.{CrankInquiry}
 use Rattle.crank.specs.Crank.{crank_start_of, crank_in, crank_asked_of, crank_replied_of, crank_shown_of}
 use Rattle.lent_bytes.specs.Numbers.{number}
-use Rattle.pongewaru.specs.Inquiries.{reply_at, each_reply, shown_numbers, fresh, next, fed_all, inquiry_numbers, no_replies, first_replies, seen_numbers}
+use Rattle.lent_bytes.specs.Bytes.{Answered}
+use Rattle.pongewaru.proofs.Answers.{Mapped, told_as}
+use Rattle.pongewaru.specs.Inquiries.{reply_at, each_reply, shown_numbers, fresh, next, fed_all, inquiry_numbers, first_replies, seen_numbers}
 use Rattle.pongewaru.specs.Cranks.{next_crank, crank_fed_all, crank_numbers, shown_after, crank_shown_numbers}
 
 -- ---- what is said of a reply, and what an inquiry shows: a number, and a question or a list
@@ -143,7 +145,7 @@ module _ (coeffs : List Float) (tol : Float) (rs : List ℕ) (s : Result Seen Re
   unfolding shown_after_of
   short_shows = is ∙ ap shows (short_starts coeffs tol)
 
-  pub shown_number : outcome_of s ≡ outcome_of (start_of coeffs tol)
+  shown_number : outcome_of s ≡ outcome_of (start_of coeffs tol)
   shown_number = ap outcome_of short_shows ∙ then_number (λ p. seen_of (given p (first_replies rs))) (start_of coeffs tol)
 
   module _ (x : Seen) (e : s ≡ Ok x) where
@@ -154,11 +156,24 @@ module _ (coeffs : List Float) (tol : Float) (rs : List ℕ) (s : Result Seen Re
         go (Ok p) h = cc
         go (Err refusal) h = absurd cc
 
-    pub shown_fits : Fits (list_in x.asked)
+    shown_fits : Fits (list_in x.asked)
     shown_fits = subst⁻¹ (λ (t : Seen). Fits (list_in t.asked)) shown_is (seen_fits _)
 
-    pub shown_numbers_are : seen_numbers x ≡ inquiry_numbers (fed_all rs (inquiry_in (start_of coeffs tol)))
+    shown_numbers_are : seen_numbers x ≡ inquiry_numbers (fed_all rs (inquiry_in (start_of coeffs tol)))
     shown_numbers_are = ap seen_numbers shown_is ∙ fed_once coeffs tol rs
+
+-- for `using`: of the replies f that are put in at once, the six numbers in place of the coefficients
+module _ (coeffs short : List Float) (tol : Float) (rs : List ℕ) (f : Replies) (s : Result Seen Refusal) (h : short ≡ short_of coeffs)
+    (first : f ≡ first_replies rs) (is : s ≡ shown_after_of short tol f) where
+  in_short : s ≡ shown_after_of (short_of coeffs) tol (first_replies rs)
+  in_short = rw (h, first) at is
+
+  pub inquired_fits : {x : Seen} → s ≡ Ok x → Fits (list_in x.asked)
+  inquired_fits e = shown_fits coeffs tol rs s in_short _ e
+
+  pub inquired : (y : Result (List Float) Refusal) {l : List ℕ} {r : ℕ} {m : List ℕ} → Mapped seen_numbers s y → Answered (outcome_of y) (value_or [] y) l r m
+      → Answered (outcome_of (start_of coeffs tol)) (inquiry_numbers (fed_all rs (inquiry_in (start_of coeffs tol)))) l r m
+  inquired y same a = told_as seen_numbers s y same (shown_number coeffs tol rs s in_short) (shown_numbers_are coeffs tol rs s in_short) a
 
 -- ---- a crank's inquiry, k beside it
 abbrev with : ℕ → Inquiry → CrankInquiry
@@ -183,7 +198,7 @@ module _ (confusion : Float) (trig : TrigEquation) (rs : List ℕ) (s : Result C
   abbrev shows_at : CrankInquiry → CrankShown
   shows_at c = record { k = c.k; seen = seen_of (given c.inquiry (first_replies rs)) }
 
-  pub crank_number : outcome_of s ≡ outcome_of (crank_start_of confusion trig)
+  crank_number : outcome_of s ≡ outcome_of (crank_start_of confusion trig)
   unfolding crank_shown_of
   crank_number = ap outcome_of is ∙ then_number shows_at (crank_start_of confusion trig)
 
@@ -196,10 +211,10 @@ module _ (confusion : Float) (trig : TrigEquation) (rs : List ℕ) (s : Result C
         go (Ok c) h = cc
         go (Err refusal) h = absurd cc
 
-    pub crank_fits : Fits (list_in x.seen.asked)
+    crank_fits : Fits (list_in x.seen.asked)
     crank_fits = subst⁻¹ (λ (t : CrankShown). Fits (list_in t.seen.asked)) crank_is (seen_fits _)
 
-    pub crank_numbers_are : crank_shown_numbers x ≡ shown_after rs (crank_start_of confusion trig)
+    crank_numbers_are : crank_shown_numbers x ≡ shown_after rs (crank_start_of confusion trig)
     unfolding crank_start_of crank_shown_of crank_numbers crank_asked_of inquiry_numbers
     crank_numbers_are = by_front (crank_front_of trig) (sym is ∙ e)
       where
@@ -222,3 +237,16 @@ module _ (confusion : Float) (trig : TrigEquation) (rs : List ℕ) (s : Result C
             → crank_shown_numbers x ≡ crank_numbers (crank_fed_all rs (crank_in (and_then front (λ front. started front (start_of front.q confusion)))))
         by_front (Ok front) e = by_start front (start_of front.q confusion) refl e
         by_front (Err refusal) e = absurd cc
+
+module _ (confusion : Float) (trig : TrigEquation) (rs : List ℕ) (f : Replies) (s : Result CrankShown Refusal) (first : f ≡ first_replies rs)
+    (is : s ≡ crank_shown_of confusion trig f) where
+  cranked : s ≡ crank_shown_of confusion trig (first_replies rs)
+  cranked = rw first at is
+
+  pub turned_fits : {x : CrankShown} → s ≡ Ok x → Fits (list_in x.seen.asked)
+  turned_fits e = crank_fits confusion trig rs s cranked _ e
+
+  pub turned : (y : Result (List Float) Refusal) {l : List ℕ} {r : ℕ} {m : List ℕ} → Mapped crank_shown_numbers s y
+      → Answered (outcome_of y) (value_or [] y) l r m
+      → Answered (outcome_of (crank_start_of confusion trig)) (shown_after rs (crank_start_of confusion trig)) l r m
+  turned y same a = told_as crank_shown_numbers s y same (crank_number confusion trig rs s cranked) (crank_numbers_are confusion trig rs s cranked) a

@@ -1,11 +1,11 @@
 -- What the export for inquiries stores, and its answer. Definitions only.
-use Rattle.std.specs.Prelude.{Bool, false, not, List, [], ◌∷◌, ℕ, eqb, take, replicate, Float, Result}
+use Rattle.std.specs.Prelude.{Bool, not, List, [], ◌∷◌, ℕ, eqb, take, Float, Result}
 use Rattle.refusals.specs.declared.Refusal.{Refusal}
 use Rattle.refusals.specs.declared.Refusal.TheVariants.{CutDouble}
 use Rattle.refusals.specs.Refusals.{number_of, outcome_of, number_in}
 use Rattle.roots.specs.declared.Roots.{Roots}
 use Rattle.touching.specs.declared.Replies.{Replies}
-use Rattle.touching.specs.Replies.{replied_by}
+use Rattle.touching.specs.Replies.{no_replies, replied_by}
 use Rattle.inquiry.specs.declared.Inquiry.{Inquiry}
 use Rattle.inquiry.specs.declared.Seen.{Seen}
 use Rattle.inquiry.specs.Inquiry.{asked_of, place_of, list_in, is_question, replied_of, after}
@@ -57,9 +57,6 @@ abbrev pub shown_at : List ℕ → Float → List ℕ → List Float
 shown_at s tol rs = inquiry_numbers (fed_all rs (inquiry_in (start_at s tol)))
 
 -- ---- the same with the replies put in at once, which proofs/Once.antt shows
-abbrev pub no_replies : Replies
-no_replies = record { reply = replicate 4 false; count = 0 }
-
 -- at most three questions are asked, so that the fourth reply is refused, if it is there, and each after it
 unfoldable pub first_replies : List ℕ → Replies
 first_replies rs = each_reply replied_by (take 4 rs) no_replies

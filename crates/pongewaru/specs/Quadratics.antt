@@ -14,6 +14,7 @@ solution_of n x y = cond (eqb n 0) (Two x y) (cond (eqb n 1) (One x) (cond (eqb 
 
 -- its number, its first and its second place
 unfoldable pub solution_numbers : QuadraticSolution → List Float
+unfolding number_of values_of
 solution_numbers s = number (number_of s) ∷ get_or (values_of s) 0 nan ∷ get_or (values_of s) 1 nan ∷ []
 
 -- the equation with these numbers

@@ -11,6 +11,7 @@ use lent_bytes::answer;
 use lent_bytes::lists::root_numbers;
 
 #[unsafe(no_mangle)]
+#[tactic(auto, using(crate::proofs::Listing::contact_told))]
 pub extern "C" fn pongewaru_pin_contact(
     confusion: f64,
     x0: f64,

@@ -15,20 +15,17 @@ use crank::CrankShown;
 use lent_bytes::answer;
 use trig_quartic::TrigEquation;
 
-// (Place by place, as `shown_numbers` of inquiries.)
 fn crank_shown_numbers(s: CrankShown) -> [f64; 17]
     requires { Fits (list_in s.seen.asked) }
     ensures { result ≡ crank_shown_numbers s }
 {
-    let k = f64::from(s.k);
-    let shown = seen_numbers(s.seen);
-    [
-        k, shown[0], shown[1], shown[2], shown[3], shown[4], shown[5], shown[6], shown[7],
-        shown[8], shown[9], shown[10], shown[11], shown[12], shown[13], shown[14], shown[15],
-    ]
+    let mut numbers = [f64::from(s.k); 17];
+    numbers[1..].copy_from_slice(&seen_numbers(s.seen));
+    numbers
 }
 
 #[unsafe(no_mangle)]
+#[tactic(auto, using(crate::proofs::Once::turned_fits))]
 pub extern "C" fn pongewaru_crank_inquire(
     confusion: f64,
     a2: f64,

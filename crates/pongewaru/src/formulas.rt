@@ -17,6 +17,7 @@ fn too_long(text: &[u8]) -> bool
 }
 
 #[unsafe(no_mangle)]
+#[tactic(auto, using(crate::proofs::Listing::text_told), unfolding(lent_bytes::specs::Bytes::unless))]
 pub extern "C" fn pongewaru_formula_roots(text: &[u8], tol: f64, out: &mut [u8]) -> u64
     ensures { Answered (formula_refusal text.now tol) (formula_numbers text.now tol) out.old result out.new }
 {
@@ -31,11 +32,13 @@ fn expanded_numbers(e: Expanded) -> [f64; 6]
     requires { e.len ≤ 5 }
     ensures { result ≡ expanded_numbers e }
 {
-    let c = e.coeffs;
-    [e.len as f64, c[0], c[1], c[2], c[3], c[4]]
+    let mut numbers = [e.len as f64; 6];
+    numbers[1..].copy_from_slice(&e.coeffs);
+    numbers
 }
 
 #[unsafe(no_mangle)]
+#[tactic(auto, using(crate::proofs::Listing::coefficients_told), unfolding(lent_bytes::specs::Bytes::unless))]
 pub extern "C" fn pongewaru_formula_coefficients(text: &[u8], out: &mut [u8]) -> u64
     ensures { Answered (coefficients_refusal text.now) (coefficients_numbers text.now) out.old result out.new }
 {

@@ -18,55 +18,35 @@ use roots::Roots;
 use touching::Replies;
 
 // Those after the first four are left out: at most three questions are asked, so that each is refused, as the fourth is.
+#[tactic(auto, using(crate::proofs::Feeding::fed), unfolding(crate::specs::Inquiries::first_replies))]
 pub fn first_replies(replies: &[u8]) -> Replies
     ensures { result ≡ first_replies replies.now }
 {
-    let mut first = Replies {
-        reply: [false; 4],
-        count: 0,
-    };
-    for i in 0..replies.len().min(4) {
-        first = first.with(replies[i] != 0);
+    let mut first = Replies::default();
+    for reply in &replies[..replies.len().min(4)] {
+        first = first.with(*reply != 0);
     }
     first
 }
 
-// The last reply's number, whether there is a question, its place, and the list. Place by place: of two arrays joined by `array::from_fn`, over their sizes,
-// the proof did not close, since what a call of the closure gives was not found.
+// The last reply's number, whether there is a question, its place, and the list. (Number, flag and place, and no Asked: they are the doubles that C is told, in
+// their order.)
 fn shown_numbers(number: u32, asks: bool, place: f64, list: Roots) -> [f64; 16]
     requires { Fits list }
     ensures { result ≡ shown_numbers number asks place list }
 {
-    let asks = f64::from(asks);
-    let list = root_numbers(list);
-    [
-        number as f64,
-        asks,
-        place,
-        list[0],
-        list[1],
-        list[2],
-        list[3],
-        list[4],
-        list[5],
-        list[6],
-        list[7],
-        list[8],
-        list[9],
-        list[10],
-        list[11],
-        list[12],
-    ]
+    let mut numbers = [number as f64; 16];
+    numbers[1] = f64::from(asks);
+    numbers[2] = place;
+    numbers[3..].copy_from_slice(&root_numbers(list));
+    numbers
 }
 
 // The number of the refusal that there may be.
 fn number_in(refused: Option<Refusal>) -> u32
     ensures { result ≡ number_in refused }
 {
-    match refused {
-        None => 0,
-        Some(refusal) => u32::from(refusal),
-    }
+    refused.map_or(0, u32::from)
 }
 
 pub fn seen_numbers(s: Seen) -> [f64; 16]
@@ -75,12 +55,13 @@ pub fn seen_numbers(s: Seen) -> [f64; 16]
 {
     let number = number_in(s.refused);
     match s.asked {
-        Asked::Question(place) => shown_numbers(number, true, place, Roots::none()),
+        Asked::Question(place) => shown_numbers(number, true, place, Roots::default()),
         Asked::Finished(list) => shown_numbers(number, false, 0.0, list),
     }
 }
 
 #[unsafe(no_mangle)]
+#[tactic(auto, using(crate::proofs::Listing::inquiry_told), unfolding(lent_bytes::specs::Bytes::unless))]
 pub extern "C" fn pongewaru_inquire(coeffs: &[u8], tol: f64, replies: &[u8], out: &mut [u8]) -> u64
     ensures { Answered (inquiry_refusal coeffs.now tol) (shown_at coeffs.now tol replies.now)
         out.old result out.new }

@@ -14,10 +14,11 @@ use refusals::Refusal;
 pub fn not_doubles(s: &[u8]) -> bool
     ensures { result ≡ not_doubles s.now }
 {
-    8 * (s.len() / 8) < s.len()
+    s.len() % 8 != 0
 }
 
 #[unsafe(no_mangle)]
+#[tactic(auto, using(crate::proofs::Listing::list_told), unfolding(crate::specs::Lists::answer_at, lent_bytes::specs::Bytes::unless))]
 pub extern "C" fn pongewaru_real_roots(coeffs: &[u8], tol: f64, out: &mut [u8]) -> u64
     ensures { Answered (list_refusal coeffs.now tol) (list_numbers coeffs.now tol) out.old result out.new }
 {

@@ -15,6 +15,7 @@ use solution::QuadraticSolution;
 use trig_quartic::{Crank, TrigEquation, crank_front};
 
 // (No From here nor below: the trait and the types are of other crates, so that it would take a type of its own.)
+#[tactic(auto, using(lent_bytes::proofs::Counts::counts), unfolding(crate::specs::Quadratics::solution_numbers))]
 fn solution_numbers(s: QuadraticSolution) -> [f64; 3]
     ensures { result ≡ solution_numbers s }
 {
@@ -107,8 +108,9 @@ pub extern "C" fn pongewaru_touching_at(
 fn front_numbers(front: Crank) -> [f64; 6]
     ensures { result ≡ front_numbers front }
 {
-    let q = front.q;
-    [f64::from(front.k), q[0], q[1], q[2], q[3], q[4]]
+    let mut numbers = [f64::from(front.k); 6];
+    numbers[1..].copy_from_slice(&front.q);
+    numbers
 }
 
 #[unsafe(no_mangle)]

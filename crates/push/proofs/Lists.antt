@@ -13,7 +13,8 @@ use Rattle.roots.specs.Roots.{root, roots_of, kept, kept_in, pairs_of}
 use Rattle.roots.specs.Listed.{Shared}
 use Rattle.roots.proofs.Laws.{kept_roots, paired_pairs}
 use Rattle.roots.proofs.Sums.{shared_more, shared_kept, shared_paired}
-use Rattle.push.specs.Quadratic.{Factor, double, apart, complex, quadratic_roots_of, push_factor, push_quadratic_of, found_of, push_factor_in, push_quadratic_in}
+use Rattle.push.specs.Quadratic.{Factor, double, apart, complex, quadratic_roots_of, push_factor, push_quadratic_of, found_of, push_factor_in}
+use Rattle.push.specs.Quadratic.{push_quadratic_in}
 
 push_factor_is : (out : List RealRoot) (pairs : List Pair) (f : Factor) → push_factor_in (found_of (out, pairs)) f ≡ found_of (push_factor (out, pairs) f)
 unfolding push_factor push_factor_in

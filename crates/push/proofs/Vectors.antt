@@ -8,7 +8,8 @@ use lib.Ieee.{Float, nan, binary64, of_bits}
 use Rattle.float.specs.Literals.{zero64, half64, one64}
 use Rattle.isolated.proofs.Vectors.{computes as factors}
 use Rattle.scaled.specs.declared.Scaled.{Scaled}
-use Rattle.band.specs.Band.{magnitude_step, magnitude_of, budget_of, kth_root_of, radius_step, radius_of, noise_within, noise_of, base_of, band_of, within_band_of}
+use Rattle.band.specs.Band.{magnitude_step, magnitude_of, budget_of, kth_root_of, radius_step, radius_of, noise_within, noise_of, base_of, band_of}
+use Rattle.band.specs.Band.{within_band_of}
 use Rattle.critical.specs.Critical.{is_between_of, critical_next, critical_point_of, extremum_of}
 use Rattle.roots.specs.Roots.{root, pair, held, kept, paired}
 use Rattle.push.specs.Quadratic.{double, quadratic_roots_of, push_factor, push_quadratic_of}
@@ -70,7 +71,8 @@ extremum_there : extremum_of quartic (bits 0x3fd3_3333_3333_3333) (bits 0xbff0_0
 unfolding computes
 extremum_there = refl
 
-extremum_outside : extremum_of quartic (bits 0x3fd3_3333_3333_3333) (bits 0x3fd0_0000_0000_0000) (bits 0x3fd3_d70a_3d70_a3d7) (bits 0x3e11_2e0b_e826_d695) ≡ None
+extremum_outside : extremum_of quartic (bits 0x3fd3_3333_3333_3333) (bits 0x3fd0_0000_0000_0000) (bits 0x3fd3_d70a_3d70_a3d7) (bits 0x3e11_2e0b_e826_d695)
+    ≡ None
 unfolding computes
 extremum_outside = refl
 

@@ -12,7 +12,8 @@ pub struct Found {
     pub pairs: roots::Pairs,
 }
 
-// Of y^2 + al*y + be: a double root within the band, two simple roots, or a complex pair.
+// Of y^2 + al*y + be: a double root within the band, two simple roots, or a complex pair. (al and be by themselves, here and below, as in poly.rs and as C
+// hands them in: pongewaru_push_quadratic.)
 pub fn push_quadratic(poly: scaled::Scaled, al: f64, be: f64, tol: f64, found: Found) -> Found
     requires { poly.d ≤ 4 }
     ensures { result ≡ push_quadratic_in poly al be tol found.roots found.pairs }

@@ -36,7 +36,8 @@ fn largest(roots: CubicRoots) -> f64
     }
 }
 
-// m^3 + 2p*m^2 + (p^2 - 4r)*m - q^2
+// m^3 + 2p*m^2 + (p^2 - 4r)*m - q^2. (p, q and r by themselves, here and below: each function is a formula of poly.rs in these letters, and would take a
+// struct of them apart at once.)
 #[tactic(auto, unfolding(crate::specs::Quartic::resolvent_of))]
 fn resolvent(p: f64, q: f64, r: f64) -> f64
     ensures { result ≡ resolvent_of p q r }

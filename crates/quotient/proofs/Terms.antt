@@ -56,4 +56,5 @@ module _ (l : List Float) (dl : ℕ) (f : List Float) (k : ℕ) where
 
   pub terms_turn : (i : ℕ) (acc : Float) → i ≤ min (length f) (k + 1) → k - dl < i
       → terms_below i acc ≡ terms_below (i - 1) (add binary64 acc (mul binary64 (get_or l (k - (i - 1)) nan) (get_or f (i - 1) nan)))
-  terms_turn i acc h m = down_turn (product_term_of l dl f k) i acc (omega arith) ∙ ap (terms_below (i - 1)) (term_there (i - 1) acc (omega arith) (omega arith))
+  terms_turn i acc h m =
+      down_turn (product_term_of l dl f k) i acc (omega arith) ∙ ap (terms_below (i - 1)) (term_there (i - 1) acc (omega arith) (omega arith))

@@ -35,7 +35,7 @@ impl Monic {
     }
 }
 
-// The same by value.
+// The same by value, as the Rust has it.
 pub fn mul(mut p: Monic, f: &[f64]) -> Monic
     requires { (0 < length f.now) × (p.dl + length f.now ≤ 5) }
     ensures { result ≡ mul_of p f.now }
@@ -62,7 +62,8 @@ pub fn product(large: Factors) -> Monic
     p
 }
 
-// The inner loop takes off g[i] the products that the coefficients found so far make.
+// The inner loop takes off g[i] the products that the coefficients found so far make. By index, as in multiply: s[i] is made of the places before it, and where
+// j runs up, i - j runs down, so that a zip would cut two slices at ends of its own.
 #[tactic(auto, using(crate::proofs::Merging::loops), unfolding(crate::specs::Quotient::acc_of, crate::specs::Quotient::quotient_of))]
 pub fn quotient(g: [f64; 5], p: Monic, small: usize) -> [f64; 5]
     requires { small ≤ 4 }
@@ -84,7 +85,7 @@ pub fn usable(s: [f64; 5], small: usize) -> bool
     requires { small ≤ 4 }
     ensures { result ≡ usable_of s small }
 {
-    float::all_finite(&s[..small + 1]) && s[0] != 0.0 && s[small] != 0.0
+    float::all_finite(&s[..=small]) && s[0] != 0.0 && s[small] != 0.0
 }
 
 #[tactic(auto, using(crate::proofs::Merging::merging))]

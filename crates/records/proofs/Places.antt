@@ -1,20 +1,22 @@
 -- What stands at a place of a file: a refusal that ends reading, or a record of one of the kinds, whole.
-use mathlib.Core.Path.{◌≡◌, refl, sym, ap, subst, ◌∙◌}
+use mathlib.Core.Path.{◌≡◌, refl, sym, ap, ap₂, subst, ◌∙◌}
 use mathlib.Core.Bool.{Bool, true, false, cond}
 use mathlib.Core.List.{List, [], ◌∷◌}
-use Rattle.std.specs.Prelude.{Option, Some, None}
+use Rattle.std.specs.Prelude.{None}
 use Prim.Native.Nat.{ℕ, ◌+◌, ◌*◌, ◌-◌, ◌<◌, ◌≤◌}
 use native.Mathlib.Omega.{arith}
 use borrow.Author.Tests.{lt-ltb, le-ltb, ltb-false}
 use lib.Dec.{ltb}
-use lib.ListN.{length, get_or}
+use lib.ListN.{length, get_or, take, drop, length-drop}
+use Rattle.std.specs.Array.{IsFirstChunk}
+use Rattle.std.proofs.lemmas.List.{take_rest, get_or-drop, get_or-take}
 use Rattle.std.proofs.lemmas.Option.{none-some}
 use Rattle.refusals.specs.declared.Refusal.{Refusal}
 use Rattle.refusals.specs.declared.Refusal.TheVariants.{UnknownMark, Cut, CountTooLarge}
 use Rattle.records.specs.declared.Kind.{Kind}
 use Rattle.records.specs.declared.Kind.TheVariants.{Polynomial, Quadratic, Crank, Contact, Formula, Unknown}
 use Rattle.records.specs.declared.Record.{Record}
-use Rattle.records.specs.Marks.{kind_at}
+use Rattle.records.specs.Marks.{is_mark, marked_of, kind_at}
 use Rattle.records.specs.Records.{count_at, ended_of, held_of, counted_of, polynomial_record, formula_record, record_of, record_at, Sound}
 
 -- ---- a record whose mark was read, for `using`
@@ -23,10 +25,20 @@ module _ (s : List ℕ) (at : ℕ) where
   unfolding record_at
   cut_mark h is = simp (lt-ltb _ _ h) is
 
-  module _ {k m : Kind} (h : 2 ≤ length s - at) (e : k ≡ kind_at (get_or s at 0 ∷ get_or s (at + 1) 0 ∷ []) 0) (f : k ≡ m) where
+  module _ {k m : Kind} {mark : List ℕ} (first : IsFirstChunk (take (length s - at) (drop at s)) mark 2) (e : k ≡ kind_at mark 0) (f : k ≡ m) where
+    -- the bytes of the mark
+    byte_at : (i j : ℕ) → i < 2 → at + i ≡ j → get_or mark i 0 ≡ get_or s j 0
+    byte_at i j l e =
+        ap (λ (x : List ℕ). get_or x i 0) first.same ∙ get_or-take 2 _ i 0 l ∙ ap (λ (x : List ℕ). get_or x i 0) (take_rest s at) ∙ get_or-drop at s i 0
+        ∙ ap (λ (k : ℕ). get_or s k 0) e
+
     record_is : record_of m s at ≡ record_at s at
-    unfolding record_at kind_at
-    record_is = simp (le-ltb _ _ h) (ap (λ (x : Kind). record_of x s at) (sym f ∙ e))
+    unfolding record_at kind_at marked_of is_mark
+    record_is =
+        let h : 2 ≤ length s - at = omega (arith, first.enough, ap length (take_rest s at), length-drop at s) in
+        let same : kind_at mark 0 ≡ kind_at s at =
+        ap₂ (λ (x y : ℕ). kind_at (x ∷ y ∷ []) 0) (byte_at 0 at (omega arith) (omega arith)) (byte_at 1 (at + 1) (omega arith) refl) in
+        simp (le-ltb _ _ h) (ap (λ (x : Kind). record_of x s at) (sym f ∙ e ∙ same))
 
     pub held_read : (size : ℕ) {r : Record} → r ≡ held_of k size s at → held_of m size s at ≡ record_of m s at → r ≡ record_at s at
     held_read size is same = is ∙ ap (λ (x : Kind). held_of x size s at) f ∙ same ∙ record_is

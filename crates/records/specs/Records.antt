@@ -1,5 +1,5 @@
 -- The records of a hall file: 'a two-byte mark before each record; numbers are 8 bytes'. Definitions only.
-use Rattle.std.specs.Prelude.{◌≡◌, cond, List, ℕ, ◌+◌, ◌*◌, ◌-◌, ◌≤◌, ltb, length, get_or, Option, Some, None}
+use Rattle.std.specs.Prelude.{◌≡◌, cond, List, ℕ, ◌+◌, ◌*◌, ◌-◌, ◌≤◌, ltb, length, get_or, Some, None}
 use Rattle.refusals.specs.declared.Refusal.{Refusal}
 use Rattle.refusals.specs.declared.Refusal.TheVariants.{UnknownMark, Cut, CountTooLarge}
 use Rattle.records.specs.declared.Kind.{Kind}

@@ -8,7 +8,7 @@ ghost use Rattle.records.specs.Records.{ended_of, held_of, counted_of, record_at
 
 use refusals::Refusal;
 
-// A record's mark says its kind.
+// A record's mark says its kind. (`Unknown` is a variant and no `None`: every record has a kind, and prints its mark, `--` where none was read.)
 #[derive(Clone, Copy, PartialEq, Eq, Debug)]
 pub enum Kind {
     Polynomial,
@@ -94,10 +94,10 @@ fn counted(s: &[u8], at: usize, kind: Kind, size: usize, most: usize) -> Record
     requires { (at ≤ length s.now) × (size ≤ 8) }
     ensures { result ≡ counted_of kind size most s.now at }
 {
-    if s.len() - at < 3 {
+    let Some(&count) = s.get(at + 2) else {
         return ended(s, kind, Refusal::Cut);
-    }
-    let count = s[at + 2] as usize;
+    };
+    let count = count as usize;
     if most < count {
         return ended(s, kind, Refusal::CountTooLarge);
     }
@@ -109,10 +109,10 @@ pub fn record_at(s: &[u8], at: usize) -> Record
     requires { at ≤ length s.now }
     ensures { result ≡ record_at s.now at }
 {
-    if s.len() - at < 2 {
+    let Some(&mark) = s[at..].first_chunk::<2>() else {
         return ended(s, Kind::Unknown, Refusal::Cut);
-    }
-    let kind = Kind::from([s[at], s[at + 1]]);
+    };
+    let kind = Kind::from(mark);
     match kind {
         Kind::Polynomial => counted(s, at, kind, 8, 32),
         Kind::Quadratic => held(s, at, kind, 42),

@@ -1,5 +1,5 @@
 -- `refine` of poly.rs: Newton's method on a square system of any size n, each equation weighted by the magnitude of its terms. Definitions only.
-use Rattle.std.specs.Prelude.{ℕ, Bool, cond, not, ◌&&◌, ◌||◌, List, [], length, get_or, is_nan, slice_index_or, slice_set, Float}
+use Rattle.std.specs.Prelude.{ℕ, Bool, cond, not, ◌&&◌, ◌||◌, List, [], length, is_nan, slice_index_or, slice_set, Float}
 use Rattle.std.specs.Prelude.{Option as RustOption, None, Some}
 use Rattle.std.proofs.Math.Option.{Option, none, some}
 use Rattle.std.specs.Float.{nan}
@@ -50,10 +50,14 @@ weigh_rows_step mag i j = slice_set j i (weigh_row_of (slice_index_or j i []) (s
 unfoldable pub weigh_rows_of : ℕ → List (List Float) → List Float → List (List Float)
 weigh_rows_of n j mag = count_up n (weigh_rows_step mag) n j
 
+-- `std::array::from_fn(|i| x[i] - step[i])`
+abbrev pub stepped_of : ℕ → List Float → List Float → List Float
+stepped_of n x step = from_fn n (λ i. slice_index_or x i nan -ᶠ slice_index_or step i nan)
+
 -- `.filter(|s| s.iter().all(|v| v.is_finite()));`, and then `std::array::from_fn(|i| x[i] - step[i]);`
 unfoldable pub advanced_of : ℕ → List Float → RustOption (List Float) → RustOption (List Float)
 advanced_of n x None = None
-advanced_of n x (Some step) = cond (all_finite_of step) (Some (from_fn n (λ i. slice_index_or x i nan -ᶠ get_or step i nan))) None
+advanced_of n x (Some step) = cond (all_finite_of step) (Some (stepped_of n x step)) None
 
 -- `next`, the place to try, if there is one: 'Only an exactly singular step is refused', `solve_square(j, w, 0.0)`, and one that is not finite
 unfoldable pub trial_of : ℕ → List Float → List Float → List Float → List (List Float) → RustOption (List Float)

@@ -1,15 +1,17 @@
 // Newton's method on square systems: `refine` of poly.rs at any size, for the factors of a cubic, the two quadratics of a quartic, and a quartic with one
-// root peeled off; and `newton_cubic`. It rests on `square` (elimination), `horner` (evaluation), `float` and `facts`; factoring rests on it.
+// root peeled off; and on one number, `newton`, for `newton_cubic` and `critical_point`. It rests on `square` (elimination), `horner` (evaluation), `float` and
+// `facts`; factoring and `critical` rest on it.
 #![tactic(auto, using(crate::proofs::Laws::laws), unfolding(crate::proofs::Laws::definitions))]
 
-ghost use Rattle.std.specs.Prelude.{◌≡◌, ◌≤◌};
-ghost use Rattle.refine.specs.Refine.{System, over_of, weighted_of, is_settled_of, weigh_row_of, weigh_rows_of, trial_of, no_less_of, refine_of};
+ghost use Rattle.std.specs.Prelude.{◌≡◌, ◌≤◌, Float, Bool};
+ghost use Rattle.refine.specs.Refine.{System, over_of, weighted_of, is_settled_of, weigh_row_of, weigh_rows_of, stepped_of, trial_of, no_less_of, refine_of};
 ghost use Rattle.refine.specs.Systems.{cubic_system, quartic_system, peel_system};
 ghost use Rattle.refine.specs.Weighed.{weigh_of};
-ghost use Rattle.refine.specs.Newton.{flat_of, no_gain_of, newton_cubic_of};
+ghost use Rattle.facts.specs.Turns.{turns_of};
+ghost use Rattle.refine.specs.Newton.{flat_of, no_gain_of, Gives, newton_by, newton_cubic_of};
 
 use float::abs;
-use horner::Polynomial;
+use horner::{Polynomial, ValueSlope};
 
 // 2^-53
 const HALF_EPSILON: f64 = 1.1102230246251565e-16;
@@ -21,7 +23,7 @@ fn over(r: f64, m: f64) -> f64
     if m > 0.0 { r / m } else { r }
 }
 
-// (over at each entry, with its test once for the row.)
+// (over at each entry, but with one test of m for the row, where a call of over at each would do that work again.)
 fn weigh_row<const N: usize>(row: &mut [f64; N], m: f64)
     ensures { row.new ≡ weigh_row_of row.old m }
 {
@@ -32,7 +34,7 @@ fn weigh_row<const N: usize>(row: &mut [f64; N], m: f64)
     }
 }
 
-// (By index: of the rows that a zip lends a proof knows no entry.)
+// (By index: of the rows that iter_mut().zip(..) lends a proof knows no entry.)
 fn weigh_rows<const N: usize>(j: &mut [[f64; N]; N], mag: &[f64; N])
     ensures { j.new ≡ weigh_rows_of N j.old mag.now }
 {
@@ -69,10 +71,11 @@ trait Equations<const N: usize> {
         ensures { result ≡ (system self.now).jac x.now };
 }
 
+#[tactic(auto, using(float::proofs::Made::made_by), unfolding(crate::specs::Refine::weighted_of, crate::specs::Refine::over_of))]
 fn weighted<const N: usize>(r: &[f64; N], mag: &[f64; N]) -> [f64; N]
     ensures { result ≡ weighted_of N r.now mag.now }
 {
-    // (As slices, what the closure reads is known to the proof.)
+    // (As slices, here and in stepped: so what the closure reads is known to the proof.)
     let (r, mag) = (&r[..], &mag[..]);
     std::array::from_fn(|i| over(r[i], mag[i]))
 }
@@ -96,6 +99,14 @@ fn weigh<const N: usize, S: Equations<N>>(s: &S, x: &[f64; N]) -> Weighed<N>
     Weighed { mag, w, norm }
 }
 
+#[tactic(auto, using(float::proofs::Made::made_by))]
+fn stepped<const N: usize>(x: &[f64; N], step: &[f64; N]) -> [f64; N]
+    ensures { result ≡ stepped_of N x.now step.now }
+{
+    let (x, step) = (&x[..], &step[..]);
+    std::array::from_fn(|i| x[i] - step[i])
+}
+
 // The place to try next, from the rows of derivatives j.
 fn trial<const N: usize>(x: &[f64; N], at: &Weighed<N>, j: [[f64; N]; N]) -> Option<[f64; N]>
     ensures { result ≡ trial_of N x.now at.now.w at.now.mag j.entry }
@@ -106,9 +117,7 @@ fn trial<const N: usize>(x: &[f64; N], at: &Weighed<N>, j: [[f64; N]; N]) -> Opt
     if !float::all_finite(&step) {
         return None;
     }
-    // (As slices, what the closure reads is known to the proof.)
-    let (x, step) = (&x[..], &step[..]);
-    Some(std::array::from_fn(|i| x[i] - step[i]))
+    Some(stepped(x, &step))
 }
 
 // At most four equations: a matrix of any size would not fit in memory.
@@ -135,7 +144,7 @@ fn refine<const N: usize, S: Equations<N>>(s: &S, x0: [f64; N]) -> [f64; N]
     x
 }
 
-// y^3 + b*y^2 + c*y + d = (y - x0) * (y^2 + x1*y + x2)
+// y^3 + b*y^2 + c*y + d = (y - x0) * (y^2 + x1*y + x2). (Residuals, magnitudes and rows are written out, here and below: each entry is a formula of its own.)
 #[derive(Clone, Copy)]
 struct Cubic {
     b: f64,
@@ -223,7 +232,8 @@ pub fn refine_quartic(b: f64, c: f64, d: f64, e: f64, x0: [f64; 4]) -> [f64; 4]
     refine(&Quartic { b, c, d, e }, x0)
 }
 
-// y^4 + b*y^3 + c*y^2 + d*y + e = (y - x0) * (y^3 + x1*y^2 + x2*y + x3). (The coefficients of Quartic once more: the type says which system they stand in.)
+// y^4 + b*y^3 + c*y^2 + d*y + e = (y - x0) * (y^3 + x1*y^2 + x2*y + x3). (The coefficients of Quartic once more: a type has
+// one system of four equations, so a struct for both would stand in a newtype for each.)
 #[derive(Clone, Copy)]
 struct Peel {
     b: f64,
@@ -270,7 +280,7 @@ pub fn refine_peel(b: f64, c: f64, d: f64, e: f64, x0: [f64; 4]) -> [f64; 4]
     refine(&Peel { b, c, d, e }, x0)
 }
 
-// ---- newton_cubic
+// ---- one number
 
 // Nothing to do: the value or the slope is zero.
 pub fn flat(fy: f64, dy: f64) -> bool
@@ -286,19 +296,29 @@ pub fn no_gain(fy: f64, nf: f64) -> bool
     abs(nf) >= abs(fy) || float::is_nan(nf)
 }
 
-// The cubic stands as [c0, c1, c2, c3, 0]. (A loop of its own beside those of critical and polish, whose steps have other tests.)
-pub fn newton_cubic(p: [f64; 5], y0: f64) -> f64
-    ensures { result ≡ newton_cubic_of p y0 }
+// Newton's method from y0: at most so many turns, each to a place that is allowed and where the value is smaller. In line at its calls, as weigh.
+#[inline(always)]
+pub fn newton<F: Fn(f64) -> ValueSlope, G: Fn(f64) -> bool>(
+    turns: u32,
+    y0: f64,
+    look: F,
+    allows: G,
+) -> f64
+    requires look { F.IsAlwaysCallable look }
+    requires allows { G.IsAlwaysCallable allows }
+    ensures { (f : Float → ValueSlope) (p : Float → Bool) → Gives (F.post look) f → Gives (G.post allows) p → result ≡ turns_of (newton_by f p) turns y0 }
 {
-    let cubic = Polynomial { f: p, d: 3 };
     let mut y = y0;
-    let mut at = cubic.value_slope(y);
-    for _ in 0..4u32 {
+    let mut at = look(y);
+    for _ in 0..turns {
         if flat(at.value, at.slope) {
             return y;
         }
         let next = y - at.value / at.slope;
-        let there = cubic.value_slope(next);
+        if !allows(next) {
+            return y;
+        }
+        let there = look(next);
         if no_gain(at.value, there.value) {
             return y;
         }
@@ -306,4 +326,13 @@ pub fn newton_cubic(p: [f64; 5], y0: f64) -> f64
         at = there;
     }
     y
+}
+
+// The cubic stands as [c0, c1, c2, c3, 0].
+#[tactic(auto, using(crate::proofs::Laws::as_cubic))]
+pub fn newton_cubic(p: [f64; 5], y0: f64) -> f64
+    ensures { result ≡ newton_cubic_of p y0 }
+{
+    let cubic = Polynomial { f: p, d: 3 };
+    newton(4, y0, |y| cubic.value_slope(y), |_| true)
 }

@@ -8,63 +8,45 @@ ghost use Rattle.refusals.specs.Refusals.{number_of};
 #[derive(Clone, Copy, PartialEq, Eq, Debug)]
 pub enum Refusal {
     // 'some coefficient not finite, wherever it stands'; of a quadratic 'one of a, b, c', of a crank 'one of the five'.
-    NotFinite,
+    NotFinite = 1,
     // 'trimmed length 0 or 1'
-    TooFew,
+    TooFew = 2,
     // 'trimmed length above 5'
-    TooMany,
+    TooMany = 3,
     // 'nothing is being asked'
-    NothingAsked,
+    NothingAsked = 4,
     // 'a number in the Rust's answer is not finite'; of a crank 'a quartic coefficient'.
-    AnswerNotFinite,
+    AnswerNotFinite = 5,
     // 'unknown mark'
-    UnknownMark,
+    UnknownMark = 6,
     // 'bytes end inside the mark', 'no count byte', 'fewer bytes than the record needs'
-    Cut,
+    Cut = 7,
     // 'count above 32'
-    CountTooLarge,
+    CountTooLarge = 8,
     // 'over 65,536 bytes'
-    FileTooLong,
+    FileTooLong = 9,
     // 'a number of the record is not finite'
-    RecordNotFinite,
+    RecordNotFinite = 10,
     // 'R is not above 0'
-    NoRadius,
+    NoRadius = 11,
     // 'a coefficient made is not finite'
-    MadeNotFinite,
+    MadeNotFinite = 12,
     // 'the text is not a sum'
-    NotASum,
+    NotASum = 13,
     // 'some part of it has degree above 4 after zero terms are dropped'
-    DegreeTooHigh,
+    DegreeTooHigh = 14,
     // 'some coefficient of a part is above 2^53 in size'
-    CoefficientTooLarge,
+    CoefficientTooLarge = 15,
     // The coefficients' bytes end inside a double.
-    CutDouble,
+    CutDouble = 20,
     // The text has more bytes than a record holds, 255.
-    TextTooLong,
+    TextTooLong = 21,
 }
 
 impl From<Refusal> for u32 {
     ghost from_gives = { λ refusal number. number ≡ number_of refusal };
 
     fn from(refusal: Refusal) -> u32 {
-        match refusal {
-            Refusal::NotFinite => 1,
-            Refusal::TooFew => 2,
-            Refusal::TooMany => 3,
-            Refusal::NothingAsked => 4,
-            Refusal::AnswerNotFinite => 5,
-            Refusal::UnknownMark => 6,
-            Refusal::Cut => 7,
-            Refusal::CountTooLarge => 8,
-            Refusal::FileTooLong => 9,
-            Refusal::RecordNotFinite => 10,
-            Refusal::NoRadius => 11,
-            Refusal::MadeNotFinite => 12,
-            Refusal::NotASum => 13,
-            Refusal::DegreeTooHigh => 14,
-            Refusal::CoefficientTooLarge => 15,
-            Refusal::CutDouble => 20,
-            Refusal::TextTooLong => 21,
-        }
+        refusal as u32
     }
 }

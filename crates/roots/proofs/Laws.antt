@@ -50,16 +50,20 @@ module _ (s : Roots) (r : RealRoot) where
   pushed_at k four h e = rw (e, lt-ltb k 4 h) (ap (λ (l : List RealRoot). record { root = l; len = k + 1 }) (four_set s.root blank k r four h))
 
   -- each place, as the search finds it for the code
-  pub pushed_first : length s.root ≡ 4 → s.len ≡ 0 → record { root = r ∷ get_or s.root 1 blank ∷ get_or s.root 2 blank ∷ get_or s.root 3 blank ∷ []; len = 1 } ≡ pushed_of s r
+  pub pushed_first : length s.root ≡ 4 → s.len ≡ 0
+      → record { root = r ∷ get_or s.root 1 blank ∷ get_or s.root 2 blank ∷ get_or s.root 3 blank ∷ []; len = 1 } ≡ pushed_of s r
   pushed_first four e = pushed_at 0 four (omega arith) e
 
-  pub pushed_second : length s.root ≡ 4 → s.len ≡ 1 → record { root = get_or s.root 0 blank ∷ r ∷ get_or s.root 2 blank ∷ get_or s.root 3 blank ∷ []; len = 2 } ≡ pushed_of s r
+  pub pushed_second : length s.root ≡ 4 → s.len ≡ 1
+      → record { root = get_or s.root 0 blank ∷ r ∷ get_or s.root 2 blank ∷ get_or s.root 3 blank ∷ []; len = 2 } ≡ pushed_of s r
   pushed_second four e = pushed_at 1 four (omega arith) e
 
-  pub pushed_third : length s.root ≡ 4 → s.len ≡ 2 → record { root = get_or s.root 0 blank ∷ get_or s.root 1 blank ∷ r ∷ get_or s.root 3 blank ∷ []; len = 3 } ≡ pushed_of s r
+  pub pushed_third : length s.root ≡ 4 → s.len ≡ 2
+      → record { root = get_or s.root 0 blank ∷ get_or s.root 1 blank ∷ r ∷ get_or s.root 3 blank ∷ []; len = 3 } ≡ pushed_of s r
   pushed_third four e = pushed_at 2 four (omega arith) e
 
-  pub pushed_last : length s.root ≡ 4 → s.len ≡ 3 → record { root = get_or s.root 0 blank ∷ get_or s.root 1 blank ∷ get_or s.root 2 blank ∷ r ∷ []; len = 4 } ≡ pushed_of s r
+  pub pushed_last : length s.root ≡ 4 → s.len ≡ 3
+      → record { root = get_or s.root 0 blank ∷ get_or s.root 1 blank ∷ get_or s.root 2 blank ∷ r ∷ []; len = 4 } ≡ pushed_of s r
   pushed_last four e = pushed_at 3 four (omega arith) e
 
   pub pushed_not : 4 ≤ s.len → s ≡ pushed_of s r

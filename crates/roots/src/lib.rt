@@ -6,15 +6,15 @@
 ghost use Rattle.std.specs.Prelude.{◌≡◌};
 ghost use Rattle.roots.specs.Roots.{kind_number, kind_of, root_by, root, no_roots, pushed_of, kept_in, pair, no_pairs, paired_in};
 
-// Whether a root crossed, brushed, or is flat.
+// Whether a root crossed, brushed, or is flat; and its number for C.
 #[derive(Clone, Copy)]
 pub enum RootKind {
     // Its multiplicity is 1.
-    Crossing,
+    Crossing = 0,
     // Another one that a yes reply helped to form.
-    Brush,
+    Brush = 1,
     // Any other.
-    Flat,
+    Flat = 2,
 }
 
 // A place, its multiplicity and its kind.
@@ -69,11 +69,7 @@ impl From<RootKind> for u32 {
     ghost from_gives = { λ k n. n ≡ kind_number k };
 
     fn from(kind: RootKind) -> u32 {
-        match kind {
-            RootKind::Crossing => 0,
-            RootKind::Brush => 1,
-            RootKind::Flat => 2,
-        }
+        kind as u32
     }
 }
 
@@ -97,10 +93,10 @@ impl RealRoot {
     }
 }
 
-impl Roots {
-    pub fn none() -> Roots
-        ensures { result ≡ no_roots }
-    {
+impl Default for Roots {
+    ghost is_default = { λ s. s ≡ no_roots };
+
+    fn default() -> Roots {
         Roots {
             root: [RealRoot {
                 value: 0.0,
@@ -110,8 +106,11 @@ impl Roots {
             len: 0,
         }
     }
+}
 
-    // Each place by its number: the compiler then keeps the roots in registers, where a place that is counted would put them into memory.
+impl Roots {
+    // (Two of one contract, push and append, and not one: the wrong programs that are kept alter the places of each. Here each place has its number, and the
+    // compiler keeps the roots in registers, where a place that is counted would put them into memory.)
     #[tactic(auto, using(crate::proofs::Laws::pushes))]
     pub fn push(self, r: RealRoot) -> Roots
         ensures { result ≡ pushed_of self r }
@@ -138,17 +137,14 @@ impl Roots {
         }
     }
 
-    // The same for roots that lie in memory: one place is stored, where push would write all four.
+    // For roots that lie in memory: one place is stored, where push would write all four.
     #[tactic(auto, unfolding(crate::specs::Roots::pushed_of))]
-    pub fn append(self, r: RealRoot) -> Roots
+    pub fn append(mut self, r: RealRoot) -> Roots
         ensures { result ≡ pushed_of self r }
     {
-        let at = self.len;
-        if at < 4 {
-            let mut more = self;
-            more.root[at] = r;
-            more.len = at + 1;
-            return more;
+        if self.len < 4 {
+            self.root[self.len] = r;
+            self.len += 1;
         }
         self
     }
@@ -172,10 +168,10 @@ impl Roots {
     }
 }
 
-impl Pairs {
-    pub fn none() -> Pairs
-        ensures { result ≡ no_pairs }
-    {
+impl Default for Pairs {
+    ghost is_default = { λ s. s ≡ no_pairs };
+
+    fn default() -> Pairs {
         Pairs {
             pair: [Pair {
                 centre: 0.0,
@@ -184,8 +180,10 @@ impl Pairs {
             len: 0,
         }
     }
+}
 
-    // One more, where its centre is finite and there is room.
+impl Pairs {
+    // One more, where its centre is finite and there is room; each place by its number, as in push of Roots.
     #[tactic(auto, using(crate::proofs::Laws::pairings))]
     pub fn push(self, centre: f64, half: f64) -> Pairs
         ensures { result ≡ paired_in self (pair centre half) }

@@ -20,7 +20,7 @@ use Rattle.algebra.specs.NatOrder.{le_or_lt}
 use Rattle.algebra.specs.IntOrder.{≤ℤ_add, nat_abs_pos_sub}
 use Rattle.facts.specs.Cond.{both_hold, first_fails, either_way}
 use Rattle.float.specs.Units.{units_of}
-use Rattle.std.specs.Prelude.{Some}
+use Rattle.std.specs.Prelude.{Some, None}
 use Rattle.decode.specs.Exponent.{regular_of}
 use Rattle.decode.specs.Shape.{Decoded}
 use Rattle.decode.specs.declared.digits.Digits.{Digits}
@@ -30,6 +30,7 @@ use Rattle.nearest.proofs.Search.{found}
 use Rattle.nearest.proofs.ByTest.{Monotone, apart}
 use Rattle.scaled.specs.Exponent.{held_at, held_below, candidate, too_small, scale_exponent_of, Least}
 use Rattle.scaled.proofs.Held.{held, not_held, one_held_more, held_more}
+use Rattle.scaled.proofs.Needed.{reach_none}
 use Rattle.scaled.proofs.Signed.{less}
 
 -- ---- the candidates rise
@@ -118,10 +119,17 @@ module _ (a : List Float) (d n k r w z : ℕ) (N : w * 2 ^ z ≡ units_of (get_o
   either s p q = ⊎_elim (λ l. best_kept s (q l) l) (λ l. best_raised s (p l) l) (le_or_lt r k)
 
 -- s is the larger of the two, whatever function gives it
-pub best_more : (a : List Float) (d n k r : ℕ) (lead : Digits) → Decoded (get_or a d nan) (Some lead)
-    → Least (lead.w * 2 ^ lead.k) (units_of (get_or a n nan) * 2 ^ 52) (d - n) r → Best a d n k
-    → (s : ℕ) → (k < r → s ≡ r) → (r ≤ k → s ≡ k) → Best a d (n + 1) s
-best_more a d n k r lead D L B = either a d n k r lead.w lead.k (decoded_normal _ _ D).value L B
+pub best_more : (a : List Float) (d n k r : ℕ) (lead m : Digits) → Decoded (get_or a d nan) (Some lead) → Decoded (get_or a n nan) (Some m)
+    → Least (lead.w * 2 ^ lead.k) (m.w * 2 ^ m.k) (d - n) r → Best a d n k → (s : ℕ) → (k < r → s ≡ r) → (r ≤ k → s ≡ k) → Best a d (n + 1) s
+best_more a d n k r lead m D E L B =
+    either a d n k r lead.w lead.k (decoded_normal _ _ D).value
+    (subst (λ (u : ℕ). Least (lead.w * 2 ^ lead.k) u (d - n) r) (decoded_normal _ _ E).value L) B
+
+-- one without digits needs nothing
+pub best_same : (a : List Float) (d n k : ℕ) (lead : Digits) → Decoded (get_or a d nan) (Some lead) → Decoded (get_or a n nan) None → Best a d n k
+    → Best a d (n + 1) k
+best_same a d n k lead D E B =
+    best_kept a d n k 0 lead.w lead.k (decoded_normal _ _ D).value (reach_none (get_or a n nan) _ _ E) B k refl (omega arith)
 
 -- ---- the definition's e
 pub exponent_is : (a : List Float) (d : ℕ) → scale_exponent_of a d

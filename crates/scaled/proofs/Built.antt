@@ -1,4 +1,4 @@
--- The logarithms, and what the parts of Scaled::new rest on where one function hands an i32 to another, which stands there as the machine reads it.
+-- The degree, the logarithms, and what the parts of Scaled::new rest on where one function hands an i32 to another, which stands there as the machine reads it.
 use mathlib.Core.Path.{◌≡◌, refl}
 use mathlib.Core.Bool.{true}
 use mathlib.Core.List.{List}
@@ -12,10 +12,14 @@ use mir.Val.{to_z, of_z}
 use Rattle.decode.specs.Exponent.{exponent_of}
 use Rattle.facts.specs.Arrays.{from_fn}
 use Rattle.log2.specs.Log.{log2_five_of}
-use Rattle.scaled.specs.Scaled.{top_of, sizes_of, log_size_of, log_sizes_of}
+use Rattle.scaled.specs.Scaled.{top_of, sizes_of, log_size_of, log_sizes_of, scaled_of}
 use Rattle.scaled.proofs.Signed.{back, negated, sum, sum_small}
 use Rattle.scaled.proofs.Digits.{exponent_small}
 use Rattle.scaled.proofs.Best.{exponent_bounded}
+
+pub degree_is : (a : List Float) (d : ℕ) → (scaled_of a d).d ≡ d
+unfolding scaled_of
+degree_is a d = refl
 
 -- f64::NEG_INFINITY
 abbrev pub least : Float

@@ -2,18 +2,18 @@
 -- So 2^x is the smallest power of two that brings the leading one up to it, 2^(2098 j) times, where x is k' + 2098 j - k, and one more where w < w'. Then k is
 -- x / j, rounded up.
 use mathlib.Core.Path.{◌≡◌, sym, ap, ◌∙◌, subst}
-use Prim.Native.Nat.{ℕ, zero, suc, ◌+◌, ◌-◌, ◌*◌, ◌/◌, ◌^◌, ◌≤◌, ◌<◌, zero-le}
+use Prim.Native.Nat.{ℕ, zero, suc, ◌+◌, ◌-◌, ◌*◌, ◌/◌, ◌%◌, ◌^◌, ◌≤◌, ◌<◌, zero-le, min}
 use native.Mathlib.Omega.{arith}
 use native.Mathlib.Nat.{mul_assoc, mul_comm, mul-le-mul_right, mul-le-mul_left, mul-lt-mul_of_pos_right, le_trans, le_of_eq, lt_of_le_of_lt}
-use native.Mathlib.Nat.{suc-mul, zero-mul, div-mul-le_self, pow-succ', zero-lt-suc, le-div_iff_mul-le, lt_of_not-le, lt_irrefl}
+use native.Mathlib.Nat.{suc-mul, zero-mul, pow-succ', zero-lt-suc, lt_of_not-le, lt_irrefl}
 use lib.Pow.{pow_pos, pow_mono}
 use lib.Ieee.{Float}
 use Rattle.algebra.specs.NatOrder.{pow2_join}
 use Rattle.float.specs.Units.{units_of}
-use Rattle.std.specs.Prelude.{Some, None}
-use Rattle.decode.specs.Shape.{Normal, Decoded}
-use Rattle.decode.specs.declared.digits.Digits.{Digits}
-use Rattle.decode.proofs.Class.{decoded_irregular, decoded_normal, irregular_units}
+use Rattle.std.specs.Prelude.{None}
+use Rattle.std.proofs.lemmas.Grind.{div_ceil_times}
+use Rattle.decode.specs.Shape.{Decoded}
+use Rattle.decode.proofs.Class.{decoded_irregular, irregular_units}
 use Rattle.scaled.specs.Exponent.{Least}
 
 -- rounding up: (k - 1) * j < x ≤ k * j
@@ -21,21 +21,21 @@ record Ceiling (x j k : ℕ) : Type 0 where
   above : x ≤ k * j
   below : 0 < k → (k - 1) * j < x
 
+-- as `div_ceil` gives it
+abbrev over : ℕ → ℕ → ℕ
+over x j = x / j + min 1 (x % j)
+
 less_one : (q : ℕ) → suc q - 1 ≡ q
 less_one q = omega arith
 
-ceiling : (x j : ℕ) → 0 < j → 0 < x → Ceiling x j ((x + (j - 1)) / j)
-ceiling x j J X = go ((x + (j - 1)) / j) (div-mul-le_self (x + (j - 1)) j) over
+ceiling : (x j : ℕ) → 0 < j → Ceiling x j (over x j)
+ceiling x j J = let d = div_ceil_times x j J in go (over x j) d.0 d.1
   where
-    over : x + (j - 1) < suc ((x + (j - 1)) / j) * j
-    over = lt_of_not-le (λ (g : suc ((x + (j - 1)) / j) * j ≤ x + (j - 1)). lt_irrefl ((x + (j - 1)) / j) ((le-div_iff_mul-le J).1 g))
-
-    go : (q : ℕ) → q * j ≤ x + (j - 1) → x + (j - 1) < suc q * j → Ceiling x j q
-    go zero a b = absurd (let z : 1 * j ≡ j = omega arith in omega arith)
+    go : (q : ℕ) → x ≤ q * j → q * j < x + j → Ceiling x j q
+    go zero a b = record { above = a; below = λ p. absurd (lt_irrefl 0 p) }
     go (suc q) a b =
         let s : suc q * j ≡ q * j + j = suc-mul q j in
-        let t : suc (suc q) * j ≡ suc q * j + j = suc-mul (suc q) j in
-        record { above = omega arith; below = λ p. subst (λ (y : ℕ). y * j < x) (sym (less_one q)) (omega arith) }
+        record { above = a; below = λ p. subst (λ (y : ℕ). y * j < x) (sym (less_one q)) (omega arith) }
 
 -- it is at most 4196 where x is at most 2098 (j + 1)
 at_most : (x j k : ℕ) → 0 < j → x ≤ 2098 + 2098 * j → Ceiling x j k → k ≤ 4196
@@ -48,10 +48,10 @@ at_most x j (suc k) J h C =
 module _ (w k w' k' j : ℕ) (J : 0 < j) where
   -- 2^x brings the leading coefficient up, and 2^(x - 1) does not
   from_power : (x : ℕ) → 0 < x → x ≤ 2098 + 2098 * j → w' * 2 ^ (k' + 2098 * j) ≤ w * 2 ^ (k + x) → w * 2 ^ (k + (x - 1)) < w' * 2 ^ (k' + 2098 * j)
-      → Least (w * 2 ^ k) (w' * 2 ^ k') j ((x + (j - 1)) / j)
+      → Least (w * 2 ^ k) (w' * 2 ^ k') j (over x j)
   from_power x X B lo hi =
-      let r = (x + (j - 1)) / j in
-      let C = ceiling x j J X in
+      let r = over x j in
+      let C = ceiling x j J in
       record {
         holds =
             le_trans (le_of_eq (pow2_join w' k' (2098 * j))) (le_trans lo
@@ -69,7 +69,7 @@ module _ (w k w' k' j : ℕ) (J : 0 < j) where
 
   module _ (K : k < 2098) (K' : k' < 2098) where
     -- w' is at most w: the exponents alone decide
-    same : w < 2 ^ 53 → 2 ^ 52 ≤ w' → w' ≤ w → Least (w * 2 ^ k) (w' * 2 ^ k') j ((k' + 2098 * j - k + (j - 1)) / j)
+    same : w < 2 ^ 53 → 2 ^ 52 ≤ w' → w' ≤ w → Least (w * 2 ^ k) (w' * 2 ^ k') j (over (k' + 2098 * j - k) j)
     same s l h =
         let x = k' + 2098 * j - k in
         from_power x (omega arith) (omega arith)
@@ -79,41 +79,26 @@ module _ (w k w' k' j : ℕ) (J : 0 < j) where
         (mul-lt-mul_of_pos_right (let t : w < 2 * w' = omega arith in t) (pow_pos (k + (x - 1))))))
 
     -- w' is above w: one more
-    more : 2 ^ 52 ≤ w → w' < 2 ^ 53 → w < w' → Least (w * 2 ^ k) (w' * 2 ^ k') j ((k' + 2098 * j - k + j) / j)
+    more : 2 ^ 52 ≤ w → w' < 2 ^ 53 → w < w' → Least (w * 2 ^ k) (w' * 2 ^ k') j (over (k' + 2098 * j - k + 1) j)
     more l s h =
         let t = k' + 2098 * j - k in
-        let x = suc t in
-        subst (λ (y : ℕ). Least (w * 2 ^ k) (w' * 2 ^ k') j (y / j)) (let q : suc t + (j - 1) ≡ t + j = omega arith in q)
-        (from_power x (omega arith) (omega arith)
+        let x = t + 1 in
+        from_power x (omega arith) (omega arith)
         (le_trans (mul-le-mul_right (2 ^ (k' + 2098 * j)) (let t : w' ≤ 2 * w = omega arith in t))
         (le_trans (le_of_eq (double w (k' + 2098 * j))) (le_of_eq (ap (λ (y : ℕ). w * 2 ^ y) (let q : suc (k' + 2098 * j) ≡ k + x = omega arith in q)))))
         (subst (λ (y : ℕ). w * 2 ^ y < w' * 2 ^ (k' + 2098 * j)) (let q : k' + 2098 * j ≡ k + (x - 1) = omega arith in q)
-        (mul-lt-mul_of_pos_right h (pow_pos (k' + 2098 * j)))))
+        (mul-lt-mul_of_pos_right h (pow_pos (k' + 2098 * j))))
 
--- ---- the same for a double x
+-- ---- the same for a number r that was computed
+module _ (w k w' k' j r : ℕ) (J : 0 < j) (K : k < 2098) (K' : k' < 2098) where
+  pub reach_same : w < 2 ^ 53 → 2 ^ 52 ≤ w' → w' ≤ w → r ≡ over (k' + 2098 * j - k) j → Least (w * 2 ^ k) (w' * 2 ^ k') j r
+  reach_same s l h q = subst (λ (r : ℕ). Least (w * 2 ^ k) (w' * 2 ^ k') j r) (sym q) (same w k w' k' j J K K' s l h)
+
+  pub reach_more : 2 ^ 52 ≤ w → w' < 2 ^ 53 → w < w' → r ≡ over (k' + 2098 * j - k + 1) j → Least (w * 2 ^ k) (w' * 2 ^ k') j r
+  reach_more l s h q = subst (λ (r : ℕ). Least (w * 2 ^ k) (w' * 2 ^ k') j r) (sym q) (more w k w' k' j J K K' l s h)
+
+-- a double without digits needs nothing
 pub reach_none : (x : Float) (top j : ℕ) → Decoded x None → Least top (units_of x * 2 ^ 52) j 0
 reach_none x top j D =
     subst (λ (n : ℕ). Least top (n * 2 ^ 52) j 0) (sym (irregular_units x (decoded_irregular x D)))
     (record { holds = le_trans (le_of_eq (zero-mul (2 ^ (2098 * j)))) zero-le; least = λ p. absurd (lt_irrefl 0 p); bound = omega arith })
-
-module _ (x : Float) (lead n : Digits) (j : ℕ) (D : Decoded x (Some n)) (J : 0 < j) where
-  abbrev w : ℕ
-  w = lead.w
-
-  abbrev k : ℕ
-  k = lead.k
-
-  abbrev w' : ℕ
-  w' = n.w
-
-  abbrev k' : ℕ
-  k' = n.k
-
-  N : Normal (units_of x) w' k'
-  N = decoded_normal x n D
-
-  pub reach_same : w' ≤ w → Least (w * 2 ^ k) (units_of x * 2 ^ 52) j ((k' + 2098 * j - k + (j - 1)) / j)
-  reach_same h = subst (λ (u : ℕ). Least (w * 2 ^ k) u j ((k' + 2098 * j - k + (j - 1)) / j)) N.value (same w k w' k' j J lead.reach N.reach lead.short N.led h)
-
-  pub reach_more : w < w' → Least (w * 2 ^ k) (units_of x * 2 ^ 52) j ((k' + 2098 * j - k + j) / j)
-  reach_more h = subst (λ (u : ℕ). Least (w * 2 ^ k) u j ((k' + 2098 * j - k + j) / j)) N.value (more w k w' k' j J lead.reach N.reach lead.led N.short h)

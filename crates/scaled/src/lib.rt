@@ -3,7 +3,6 @@
 #![tactic(auto)]
 
 ghost use Rattle.std.specs.Prelude.{◌≡◌, ◌≤◌, ◌<◌, ◌*◌, ◌^◌, nat_abs};
-ghost use Rattle.float.specs.Units.{units_of};
 ghost use Rattle.scaled.specs.Exponent.{Least, scale_exponent_of};
 ghost use Rattle.scaled.specs.Scaled.{top_of, shift_of, coefficient_of, coefficients_of, monic_at, monic_of};
 ghost use Rattle.scaled.specs.Scaled.{sizes_of, log_size_of, log_sizes_of, scaled_of, with_logs_of};
@@ -11,7 +10,8 @@ ghost use Rattle.scaled.specs.Scaled.{sizes_of, log_size_of, log_sizes_of, scale
 use decode::Digits;
 use horner::Polynomial;
 
-// a(x) of degree d in y = x / 2^e: f is a times powers of two, g is f / f_d, lg the logarithms of f's sizes, and unit is one unit of x in y.
+// a(x) of degree d in y = x / 2^e: f is a times powers of two, g is f / f_d, lg the logarithms of f's sizes, and unit is one unit of x in y. By value, side by
+// side, as document 01 has Scaled.
 // d has no bound here, since an inquiry holds a Scaled and takes any value of it: a narrower type would ask more of its callers.
 #[derive(Clone, Copy)]
 pub struct Scaled {
@@ -34,24 +34,20 @@ struct Shift {
     ghost top_size: { nat_abs top ≤ 2 ^ 16 },
 }
 
-// e + 2098 for one coefficient x alone, j places below the leading one: t says how far apart the exponents are, and a comparison of the digits whether one more
-// is needed. An x without digits, as a zero, needs nothing.
-#[tactic(auto, using(crate::proofs::Needed::reach_none, decode::proofs::Class::decoded_normal))]
-fn reach(lead: Digits, x: f64, j: u64) -> u64
+// e + 2098 for one coefficient alone, j places below the leading one: t says how far apart the exponents are, and a comparison of the digits whether one more
+// is needed.
+fn reach(lead: Digits, n: Digits, j: u64) -> u64
     requires j_in_range { (0 < j) × (j ≤ 4) }
-    ensures { Least (lead.w * 2 ^ lead.k) (units_of x * 2 ^ 52) j result }
+    ensures { Least (lead.w * 2 ^ lead.k) (n.w * 2 ^ n.k) j result }
 {
-    let Some(n) = decode::normal_of(x) else {
-        return 0;
-    };
     let t = n.k + 2098 * j - lead.k;
     if n.w <= lead.w {
-        return (t + (j - 1)) / j;
+        return t.div_ceil(j);
     }
-    (t + j) / j
+    (t + 1).div_ceil(j)
 }
 
-// e: the largest that one of the coefficients below the leading one needs.
+// e: the largest that one of the coefficients below the leading one needs. One without digits, as a zero, needs nothing; where none needs any, e is 0.
 #[tactic(auto, using(crate::proofs::Best::best))]
 pub fn scale_exponent(p: Polynomial) -> i32
     ensures { result ≡ scale_exponent_of p.f p.d }
@@ -61,7 +57,9 @@ pub fn scale_exponent(p: Polynomial) -> i32
     };
     let mut k = 0;
     for i in 0..p.d {
-        k = std::cmp::max(k, reach(lead, p.f[i], (p.d - i) as u64));
+        if let Some(n) = decode::normal_of(p.f[i]) {
+            k = std::cmp::max(k, reach(lead, n, (p.d - i) as u64));
+        }
     }
     if k == 0 {
         return 0;

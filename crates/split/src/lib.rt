@@ -48,7 +48,7 @@ impl Hull {
         ensures { (result ≡ popped_of lg.now self.now.at i self.now.h) × (result ≤ self.now.h) }
     {
         let mut k = self.h;
-        // A while: how many points are dropped is read off the points.
+        // A while: k is both the count that stays and the place that is read, and a take_while's count would have to be taken off h again.
         while 2 <= k && cross(lg, self.at[k - 2], self.at[k - 1], i) >= 0.0 {
             k -= 1;
         }
@@ -68,13 +68,14 @@ impl Hull {
     }
 }
 
+// (lg with d beside it, here and in magnitude_split, as C hands them in: pongewaru_magnitude_split. So d ≤ 4 and i ≤ 4: lg has five places.)
 #[tactic(auto, using(crate::proofs::Rises::hulls), unfolding(crate::specs::Hull::hull_of))]
 pub fn upper_hull(lg: [f64; 5], d: usize) -> Hull
     requires { d ≤ 4 }
     ensures { result ≡ hull_of lg d }
 {
     let mut s = Hull { at: [0; 5], h: 0 };
-    for i in 0..d + 1 {
+    for i in 0..=d {
         if float::is_finite(lg[i]) {
             let k = s.popped(&lg, i);
             s.at[k] = i;
@@ -102,6 +103,7 @@ pub fn magnitude_split(lg: [f64; 5], d: usize) -> Option<Gap>
     ensures { result ≡ magnitude_split_of lg d }
 {
     let s = upper_hull(lg, d);
+    // A for: find_map does not tell its closure that k + 2 is below h, which the edges need.
     for k in (0..s.h.saturating_sub(2)).rev() {
         let lo = s.mag(&lg, k);
         let hi = s.mag(&lg, k + 1);

@@ -1,5 +1,6 @@
 -- The root of x's size, beside the roots of x and of -x.
-use Rattle.std.proofs.Common.{◌≡◌, zero, suc, ◌+◌, ◌*◌, ◌≤◌, Bool, true, false, ◌&&◌, ◌||◌, T, eqb, ltb, sym, refl, subst, true≢false, suc-mul, zero-mul, arith, eqb→eq, ltb-false}
+use Rattle.std.proofs.Common.{◌≡◌, zero, suc, ◌+◌, ◌*◌, ◌≤◌, Bool, true, false, ◌&&◌, ◌||◌}
+use Rattle.std.proofs.Common.{T, eqb, ltb, sym, refl, subst, true≢false, suc-mul, zero-mul, arith, eqb→eq, ltb-false}
 use mathlib.Core.Bool.{false≢true}
 use borrow.Author.Tests.{eqb-false}
 use lib.Ieee.{Float, nan, inf, fin, up, down, neg, lt, eq, le, of_bits}

@@ -3,17 +3,19 @@ use mathlib.Core.Path.{◌≡◌, ap, sym, ◌∙◌}
 use mathlib.Core.Bool.{true, false, cond}
 use mathlib.Core.List.{List, [], ◌∷◌}
 use Rattle.std.specs.Prelude.{swap, None, Some}
+use Rattle.std.specs.List.{fold}
 use Prim.Native.Nat.{ℕ, suc, ◌+◌, ◌-◌, ◌≤◌, ◌<◌}
 use native.Mathlib.Omega.{arith}
-use native.Mathlib.Nat.{sub-zero}
+use native.Mathlib.Nat.{sub-zero, zero-add}
 use lib.ListN.{length, get_or, length-set}
 use lib.Ieee.{Float, nan, lt, le}
 use Rattle.std.proofs.lemmas.List.{get_or_default, length-replicate}
 use Rattle.facts.specs.Cond.{either_way}
 use Rattle.facts.specs.Count.{up_turn, up_end, down_turn, down_end}
+use Rattle.float.specs.Rounded.{◌-ᶠ◌, ◌*ᶠ◌}
 use Rattle.float.specs.Methods.{abs_of}
 use Rattle.square.specs.Square.{size_sum_of, scale_of, least_pivot_of, larger_of, pivot_of, Lines, lines, swapped, swap_pivot_of, lose_of}
-use Rattle.square.specs.Square.{remainder_of, substitute_step, substitute_of, reduce_step, reduce_of, solve_from, solve_square_of}
+use Rattle.square.specs.Square.{remainder_step, remainder_of, substitute_step, substitute_of, reduce_step, reduce_of, solve_from, solve_square_of}
 
 pub larger_below : (n i : ℕ) (a : Float) (j : ℕ) (b : Float) → i < n → j < n → larger_of i a j b < n
 unfolding larger_of
@@ -53,6 +55,21 @@ module _ (n : ℕ) (least : Float) (col : ℕ) (s t : Lines) (p : List Float) (s
 pub solve_end : (n : ℕ) (least : Float) (col : ℕ) (s : Lines) → n ≤ col → solve_from n least (n - col) s ≡ Some (substitute_of n s)
 unfolding solve_from
 solve_end n least col s h = let e : n - col ≡ 0 = omega arith in ap (λ (k : ℕ). solve_from n least k s) e
+
+-- what the row's entries from a place on, with the unknowns there, take from acc: as a fold over the pairs
+pub remainder_folded : {P : Type 0} (entry unknown : P → Float) (row x : List Float) (from : ℕ) (acc : Float) (pairs : List P)
+    → length pairs ≡ length row - from
+    → ((d : P) (k : ℕ) → k < length pairs → entry (get_or pairs k d) ≡ get_or row (k + from) nan)
+    → ((d : P) (k : ℕ) → k < length pairs → unknown (get_or pairs k d) ≡ get_or x (k + from) nan)
+    → fold (λ a p. a -ᶠ entry p *ᶠ unknown p) acc pairs ≡ remainder_of row x from acc
+unfolding remainder_of
+remainder_folded entry unknown row x from acc [] l e u = sym (up_end (length row) (remainder_step row x) from acc (omega (arith, l)))
+remainder_folded entry unknown row x from acc (p ∷ pairs) l e u =
+    let next : (k : ℕ) → suc k + from ≡ k + (from + 1) = λ k. omega arith in
+    remainder_folded entry unknown row x (from + 1) (acc -ᶠ entry p *ᶠ unknown p) pairs (omega (arith, l))
+    (λ d k h. e d (suc k) (omega (arith, h)) ∙ ap (λ (j : ℕ). get_or row j nan) (next k))
+    (λ d k h. u d (suc k) (omega (arith, h)) ∙ ap (λ (j : ℕ). get_or x j nan) (next k))
+    ∙ rw (e p 0 (omega arith), u p 0 (omega arith), zero-add from) (sym (up_turn (length row) (remainder_step row x) from acc (omega (arith, l))))
 
 -- What the functions' proofs rest on: the laws, and the definitions.
 pub ruleset laws = (sub-zero, length-set, length-replicate, up_turn, up_end, down_turn, down_end, larger_below, swap_is, solve_stop, solve_go, solve_end)

@@ -34,7 +34,7 @@ fn larger(i: usize, a: f64, j: usize, b: f64) -> usize
     if float::abs(a) > float::abs(b) { i } else { j }
 }
 
-// The row of the pivot in column col.
+// The row of the pivot in column col. (By number: what is looked for is a row's number, and the entry of the best so far is read anew at each turn.)
 fn pivot<const N: usize>(m: &[[f64; N]; N], col: usize) -> usize
     requires { col < N }
     ensures value { result ≡ pivot_of N m.now col }
@@ -47,7 +47,7 @@ fn pivot<const N: usize>(m: &[[f64; N]; N], col: usize) -> usize
     pivot
 }
 
-// The row less factor times the pivot row, from place col on.
+// The row less factor times the pivot row, from place col on. (By index: of what row[col..].iter_mut().zip(..) lends a proof knows no entry.)
 fn lose<const N: usize>(row: &mut [f64; N], factor: f64, p: &[f64; N], col: usize)
     ensures { row.new ≡ lose_of factor p.now col row.old }
 {
@@ -60,13 +60,13 @@ fn lose<const N: usize>(row: &mut [f64; N], factor: f64, p: &[f64; N], col: usiz
 fn rest<const N: usize>(row: &[f64; N], x: &[f64; N], from: usize, acc: f64) -> f64
     ensures { result ≡ remainder_of row.now x.now from acc }
 {
-    let mut a = acc;
-    for k in from..N {
-        a -= row[k] * x[k];
-    }
-    a
+    row.iter()
+        .zip(x)
+        .skip(from)
+        .fold(acc, |a, (r, y)| a - r * y)
 }
 
+// (By number, here and below: a row's number is that of its column too.)
 fn substitute<const N: usize>(m: &[[f64; N]; N], b: &[f64; N]) -> [f64; N]
     ensures { result ≡ substitute_of N (lines m.now b.now) }
 {

@@ -46,6 +46,9 @@ pub decimal_low : (n : ℕ) → n < 10 → decimal n ≡ (48 + n) ∷ []
 unfolding decimal decimal_within
 decimal_low n h = ap (λ (b : Bool). cond b ((48 + n) ∷ []) (decimal_within n (n / 10) ++ ((48 + n % 10) ∷ []))) (lt-ltb n 10 h)
 
+pub decimal_short : (n : ℕ) → n < 10 → length (decimal n) ≡ 1
+decimal_short n h = ap length (decimal_low n h)
+
 pub decimal_step : (n : ℕ) → 10 ≤ n → decimal n ≡ decimal (n / 10) ++ ((48 + n % 10) ∷ [])
 unfolding decimal decimal_within
 decimal_step n h =
@@ -54,6 +57,8 @@ decimal_step n h =
 
 pub decimal_longer : (n : ℕ) → 10 ≤ n → length (decimal n) ≡ length (decimal (n / 10)) + 1
 decimal_longer n h = ap length (decimal_step n h) ∙ length-append (decimal (n / 10)) ((48 + n % 10) ∷ [])
+
+pub ruleset decimal_lengths = (decimal_short, decimal_longer, div-add-mod)
 
 below_or : (m n : ℕ) (b : Bool) → ltb m n ≡ b → (m < n) ⊎ (n ≤ m)
 below_or m n true e = inl (ltb-true m n e)

@@ -6,24 +6,25 @@ ghost use Rattle.std.specs.Prelude.{[], ◌∷◌, ◌≡◌, ◌<◌, length};
 ghost use Rattle.text.specs.Digits.{hex_digit, hex_digits, decimal, signed_decimal};
 ghost use Rattle.text.specs.Written.{Written, Room};
 
-// A buffer, and the place where the next byte goes. What lies beyond the buffer's end is not stored, but counted.
+// A buffer, and the place where the next byte goes. What lies beyond the buffer's end is not stored, but counted. (`Room` bounds the
+// place, and no ghost field: each call moves it, and would have to ask for the same room to keep such a field.)
 #[derive(Drop)]
 pub struct Text<'a> {
     pub out: &'a mut [u8],
     pub at: usize,
 }
 
-// A digit below 16, in upper case. (By hand, as the numbers are: what `write!` gives a sink of one's own no clause knows, and what lies beyond the buffer's
-// end is counted too.)
+// A digit below 16, in upper case. (By hand, as the numbers are: `write!` to a sink of one's own says what it wrote only where it returns Ok,
+// and no clause says that it will, so `Written` would not hold of every call.)
 #[tactic(auto, unfolding(crate::specs::Digits::hex_digit))]
 fn hex_digit(d: u64) -> u8
     requires { d < 16 }
     ensures { result ≡ hex_digit d }
 {
     if d < 10 {
-        (48 + d) as u8
+        b'0' + d as u8
     } else {
-        (55 + d) as u8
+        b'A' + (d - 10) as u8
     }
 }
 
@@ -48,6 +49,7 @@ impl<'a> Text<'a> {
     }
 
     // The last hexadecimal digits of n, as many as `digits` says. (A recursion, as the definition: the leading digits come first.)
+    #[tactic(auto, using(crate::proofs::Digits::hex_length, crate::proofs::Laws::written_no_hex))]
     pub fn hex(&mut self, n: u64, digits: usize)
         requires { Room self.old digits }
         ensures { Written self.old (hex_digits digits n) self.new }
@@ -59,15 +61,16 @@ impl<'a> Text<'a> {
     }
 
     // The decimal digits of n. (A recursion: the leading digits come first, and how many there are is not known before.)
+    #[tactic(auto, using(crate::proofs::Digits::decimal_lengths))]
     pub fn decimal(&mut self, n: u64)
         requires { Room self.old (length (decimal n)) }
         ensures { Written self.old (decimal n) self.new }
     {
         if n < 10 {
-            self.byte((48 + n) as u8);
+            self.byte(b'0' + n as u8);
         } else {
             self.decimal(n / 10);
-            self.byte((48 + n % 10) as u8);
+            self.byte(b'0' + (n % 10) as u8);
         }
     }
 

@@ -2,7 +2,7 @@
 use mathlib.Core.Path.{◌≡◌, refl, sym, ap, ◌∙◌}
 use mathlib.Core.Bool.{Bool, true, false, cond, ◌&&◌}
 use mathlib.Core.List.{List, [], ◌∷◌, ◌++◌}
-use Prim.Native.Nat.{ℕ, zero, suc, ◌+◌, ◌≤◌, ◌<◌}
+use Prim.Native.Nat.{ℕ, zero, suc, ◌+◌, ◌-◌, ◌≤◌, ◌<◌}
 use native.Mathlib.Omega.{arith}
 use borrow.Author.Tests.{eq-eqb, ne_eqb}
 use lib.Dec.{ltb}
@@ -36,8 +36,8 @@ use Rattle.touching.specs.declared.Links.{Links}
 use Rattle.touching.specs.declared.Chain.{Chain}
 use Rattle.touching.specs.Touching.{touches_at, pair_order, reach_of, apart_by, all_apart, apart_of, pair_item, pair_at, pair_turn, ordered, no_chain}
 use Rattle.touching.specs.Touching.{double_of, opened_by, extended_by, contact_of, emitted, parted, link_at, item_turn, chained, touching}
-use Rattle.touching.specs.Walk.{walk_at, links_at, chain_of, at_hand, Tidy, PairAdds}
-use Rattle.touching.proofs.Lists.{tidy_more, reply_cons, reply_nil, pushed_more, pairs_none, pairs_one, pairs_two}
+use Rattle.touching.specs.Walk.{walk_at, links_at, chain_of, at_hand, counts, Tidy, PairAdds}
+use Rattle.touching.proofs.Lists.{tidy_more, reply_cons, reply_nil, pushed_more, pairs_none, pairs_some, pairs_one, pairs_two, multiplicities_by_value}
 
 -- ---- stages
 module _ {A : Type 0} where
@@ -91,7 +91,8 @@ unfolding all_apart
 apart_all b y [] = refl
 apart_all b y (it ∷ l) = ap (λ (t : Bool). apart_by b y it && t) (apart_all b y l)
 
-pub reach_fold : (m r : Float) (l : List RealRoot) → reach_of m r l ≡ fold (λ (r : Float) (it : RealRoot). min_of r (mul binary64 half64 (abs_of (sub binary64 it.value m)))) r l
+pub reach_fold : (m r : Float) (l : List RealRoot)
+    → reach_of m r l ≡ fold (λ (r : Float) (it : RealRoot). min_of r (mul binary64 half64 (abs_of (sub binary64 it.value m)))) r l
 unfolding reach_of
 reach_fold m r [] = refl
 reach_fold m r (it ∷ l) = reach_fold m (min_of r (mul binary64 half64 (abs_of (sub binary64 it.value m)))) l
@@ -134,23 +135,24 @@ at_most_two true = omega arith
 at_most_two false = omega arith
 
 -- a reply adds an item
-pub pair_added : (s s' : Roots) (y : Float) (r : RealRoot) (reply : Bool) → Fits s → s.len < 4 → s' ≡ pushed_of s r → r ≡ pair_item y reply
-    → (list_of s' ≡ list_of s ++ pair_item y reply ∷ []) × PairAdds s s'
-pair_added s s' y r reply fits room e er =
+pair_added : (s : Roots) (y : Float) (reply : Bool) → Fits s → s.len < 4
+    → (list_of (pushed_of s (pair_item y reply)) ≡ list_of s ++ pair_item y reply ∷ []) × PairAdds s (pushed_of s (pair_item y reply))
+pair_added s y reply fits room =
+    let r = pair_item y reply in
     let grown = pushed_more s r fits room in
-    let list : list_of s' ≡ list_of s ++ r ∷ [] = ap (λ (t : Roots). list_of t) e ∙ grown.0 in
-    let len : s'.len ≡ s.len + 1 = ap (λ (t : Roots). t.len) e ∙ grown.2 in
-    let sum : multiplicities (list_of s') ≡ multiplicities (list_of s) + r.multiplicity = ap multiplicities list
+    let sum : multiplicities (list_of (pushed_of s r)) ≡ multiplicities (list_of s) + r.multiplicity = ap multiplicities grown.0
     ∙ sum_snoc (λ (r : RealRoot). r.multiplicity) (list_of s) r in
-    let two : r.multiplicity ≤ 2 = rw er (at_most_two reply) in
-    (list ∙ ap (λ (x : RealRoot). list_of s ++ x ∷ []) er, (rw e grown.1, omega arith, omega arith))
+    let two : r.multiplicity ≤ 2 = at_most_two reply in
+    (grown.0, (grown.1, omega (arith, grown.2), omega arith))
 
-pub pair_more : (poly : Scaled) (tol : Float) (rs left : List Bool) (s s' : Roots) (y : Float) (r : RealRoot) (reply : Bool) → Fits s → s.len < 4
-    → all_apart (apart_of poly tol y) y (list_of s) ≡ true → ended reply left ≡ walked rs (touches_at poly.e y) → s' ≡ pushed_of s r → r ≡ pair_item y reply
-    → (ended (list_of s') left ≡ walked rs (pair_at poly tol (list_of s) (Some y))) × PairAdds s s'
-pair_more poly tol rs left s s' y r reply fits room far h e er =
-    let more = pair_added s s' y r reply fits room e er in
-    (ap (λ (l : List RealRoot). ended l left) more.0 ∙ pair_heard poly tol rs (list_of s) y reply left far h, more.1)
+pub pair_more : (poly : Scaled) (tol : Float) (rs left : List Bool) (s : Roots) (y : Float) (reply : Bool) → Fits s → s.len < 4
+    → all_apart (apart_of poly tol y) y (list_of s) ≡ true → ended reply left ≡ walked rs (touches_at poly.e y)
+    → ended (list_of (pushed_of s (pair_item y reply))) left ≡ walked rs (pair_at poly tol (list_of s) (Some y))
+pair_more poly tol rs left s y reply fits room far h =
+    ap (λ (l : List RealRoot). ended l left) (pair_added s y reply fits room).0 ∙ pair_heard poly tol rs (list_of s) y reply left far h
+
+pub pair_adds : (s : Roots) (y : Float) (reply : Bool) → Fits s → s.len < 4 → PairAdds s (pushed_of s (pair_item y reply))
+pair_adds s y reply fits room = (pair_added s y reply fits room).1
 
 -- ---- pairs: in their order
 pub order_short : (q : Pair) (ps : Pairs) → PairsFit ps → (ps.len ≡ 2 → ⊥)
@@ -188,7 +190,14 @@ at_hand_is o c e = (ap chain_of e, ap at_hand e)
 pub none_at_hand : (o : Option Chain) → o ≡ None → (chain_of o ≡ no_chain) × (at_hand o ≡ 0)
 none_at_hand o e = (ap chain_of e, ap at_hand e)
 
+pub counts_most : (o : Option Chain) → counts o ≤ at_hand o
+counts_most None = omega arith
+counts_most (Some c) = omega arith
+
 -- ---- emit
+counts_is : (o : Option Chain) (c : Chain) → o ≡ Some c → (chain_of o ≡ c) × (counts o ≡ 1 - (1 - c.mult))
+counts_is o c e = (ap chain_of e, ap counts e)
+
 module _ (e : ℤ) (out : List RealRoot) (c : Chain) where
   pub emit_none : c.mult ≡ 0 → out ≡ emitted e out c
   unfolding emitted
@@ -203,14 +212,13 @@ module _ (e : ℤ) (out : List RealRoot) (c : Chain) where
   unfolding emitted
   emit_root y x n h g f = simp (ne_eqb _ _ n, sym h, sym g, f)
 
-pub emit_more : (e : ℤ) (s s' : Roots) (o : Option Chain) (c : Chain) (y x : Float) → Tidy s → s.len + at_hand o ≤ 4 → at_hand o ≤ (chain_of o).mult → o ≡ Some c
+pub emit_more : (e : ℤ) (s s' : Roots) (o : Option Chain) (c : Chain) (y x : Float) → Tidy s → s.len + counts o ≤ 4 → o ≡ Some c → (c.mult ≡ 0 → ⊥)
     → y ≡ contact_of c → x ≡ unscaled_of e y → is_finite_of x ≡ true → s' ≡ pushed_of s (record { value = x; multiplicity = c.mult; kind = c.kind })
-    → (list_of s' ≡ emitted e (list_of s) (chain_of o)) × Tidy s' × (s'.len ≤ s.len + at_hand o)
-emit_more e s s' o c y x t room counted i h g f is =
-    let hand = at_hand_is o c i in
-    let some : c.mult ≡ 0 → ⊥ = omega (arith, counted, hand.1, ap (λ (k : Chain). k.mult) hand.0) in
-    let more = tidy_more s (record { value = x; multiplicity = c.mult; kind = c.kind }) t (omega (arith, room, hand.1)) in
-    rw is (more.0 ∙ emit_root e (list_of s) c y x some h g f ∙ sym (ap (emitted e (list_of s)) hand.0), more.1, omega (arith, hand.1, more.2))
+    → (list_of s' ≡ emitted e (list_of s) (chain_of o)) × Tidy s' × (s'.len ≤ s.len + counts o)
+emit_more e s s' o c y x t room i some h g f is =
+    let hand = counts_is o c i in
+    let more = tidy_more s (record { value = x; multiplicity = c.mult; kind = c.kind }) t (omega (arith, room, hand.1, some)) in
+    rw is (more.0 ∙ emit_root e (list_of s) c y x some h g f ∙ sym (ap (emitted e (list_of s)) hand.0), more.1, omega (arith, hand.1, some, more.2))
 
 -- ---- link_at
 module _ (e : ℤ) (rs : List Bool) (out : List RealRoot) (c : Chain) (it : RealRoot) where
@@ -229,6 +237,10 @@ module _ (e : ℤ) (rs : List Bool) (out : List RealRoot) (c : Chain) (it : Real
     pub link_asks : (x : Float) → asks x ≡ walked rs (touches_at e y) → asks x ≡ walked rs (link_at e out c it (Some y))
     unfolding link_at
     link_asks x h = rw inside (asked_then rs (touches_at e y) (link_by y) x h)
+
+    pub link_asked : (rp : Replies) (P : Links → Type 0) (q : Question) (r : Result Links Question) → IsErr r × IsErrAnd r (λ e. e ≡ q)
+        → asks q.place ≡ walked rs (touches_at e y) → (links_at rp r ≡ walked rs (link_at e out c it (Some y))) × IfOk r P
+    link_asked rp P q r h t = links_err rp _ P q r h (link_asks q.place t)
 
     link_heard : (r : Bool) (left : List Bool) → ended r left ≡ walked rs (touches_at e y)
         → ended (cond r (extended_by c it y, out) (parted e out c it)) left ≡ walked rs (link_at e out c it (Some y))
@@ -286,23 +298,27 @@ module _ (poly : Scaled) (tol : Float) (rs : List Bool) where
     abbrev onto : List RealRoot → Asking (List RealRoot)
     onto l = chained poly tol (ordered pairs l)
 
-    pub touching_asks : (x : Float) → asks x ≡ walked rs (each (pair_turn poly tol) roots (pair_order pairs)) → asks x ≡ walked rs (touching poly tol roots pairs)
+    pub touching_asks : (x : Float) → asks x ≡ walked rs (each (pair_turn poly tol) roots (pair_order pairs))
+        → asks x ≡ walked rs (touching poly tol roots pairs)
     unfolding touching
     touching_asks x h = asked_then rs (each (pair_turn poly tol) roots (pair_order pairs)) onto x h
 
-    pub touching_goes : (its its' : List RealRoot) (left : List Bool) → its' ≡ ordered pairs its
+    touching_goes : (its its' : List RealRoot) (left : List Bool) → its' ≡ ordered pairs its
         → ended its left ≡ walked rs (each (pair_turn poly tol) roots (pair_order pairs))
         → walked left (chained poly tol its') ≡ walked rs (touching poly tol roots pairs)
     unfolding touching
     touching_goes its its' left e h = rw e (ended_then rs (each (pair_turn poly tol) roots (pair_order pairs)) onto its left h)
 
-pub ordered_none : (ps : List Pair) (l : List RealRoot) → ps ≡ [] → l ≡ ordered ps l
-unfolding ordered
-ordered_none ps l e = rw e
+  module _ (roots : List RealRoot) (ps : Pairs) (its : List RealRoot) (left : List Bool)
+      (h : ended its left ≡ walked rs (each (pair_turn poly tol) roots (pair_order (pair_list_of ps)))) where
+    pub touching_plain : ps.len ≡ 0 → walked left (chained poly tol its) ≡ walked rs (touching poly tol roots (pair_list_of ps))
+    unfolding ordered
+    touching_plain z = touching_goes roots (pair_list_of ps) its its left (rw (pairs_none ps z)) h
 
-pub ordered_some : (ps qs : List Pair) (p : Pair) (l : List RealRoot) → ps ≡ p ∷ qs → by_value l ≡ ordered ps l
-unfolding ordered
-ordered_some ps qs p l e = rw e
+    pub touching_ordered : PairsFit ps → (ps.len ≡ 0 → ⊥)
+        → walked left (chained poly tol (by_value its)) ≡ walked rs (touching poly tol roots (pair_list_of ps))
+    unfolding ordered
+    touching_ordered fit some = touching_goes roots (pair_list_of ps) its (by_value its) left (rw (pairs_some ps fit some)) h
 
 pub sum_next : (l : List RealRoot) (d : RealRoot) (k : ℕ) → k < length l → multiplicities (drop k l)
     ≡ (get_or l k d).multiplicity + multiplicities (drop (k + 1) l)
@@ -311,7 +327,7 @@ sum_next l d k h = ap multiplicities (drop_next l k d h)
 -- ---- the laws that each function's proof takes
 pub ruleset touches = (reply_cons, reply_nil, touch_none, touch_reply, touch_ask)
 
-pub ruleset pairs_at = (walk_err, pair_near, pair_asked)
+pub ruleset pairs_at = (walk_err, pair_near, pair_asked, pair_more, pair_adds)
 
 pub ruleset pair_turns = (pair_passed, pair_step)
 
@@ -319,6 +335,10 @@ pub ruleset orders = (order_short, order_kept, order_turned)
 
 pub ruleset emits = (at_hand_is, none_at_hand, emit_none, emit_lost)
 
-pub ruleset links = (at_hand_is, double_most, links_err, link_outside, link_asks, link_yes, link_no)
+pub ruleset parts = (counts_most, double_most)
 
-pub ruleset turns = (at_hand_is, none_at_hand, link_nowhere, item_separator, item_first, item_link, item_parted)
+pub ruleset links = (at_hand_is, double_most, links_err, link_outside, link_asked, link_yes, link_no)
+
+pub ruleset turns = (at_hand_is, none_at_hand, counts_most, link_nowhere, item_separator, item_first, item_link, item_parted)
+
+pub ruleset touchings = (walk_err, touching_asks, touching_plain, touching_ordered, multiplicities_by_value)

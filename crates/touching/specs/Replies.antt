@@ -1,6 +1,10 @@
 -- The replies so far, in an array with a count. Definitions only.
-use Rattle.std.specs.Prelude.{◌≡◌, Bool, List, ◌+◌, ◌≤◌, length, take, set}
+use Rattle.std.specs.Prelude.{◌≡◌, Bool, false, List, ◌+◌, ◌≤◌, length, take, set, replicate}
 use Rattle.touching.specs.declared.Replies.{Replies}
+
+-- none
+abbrev pub no_replies : Replies
+no_replies = record { reply = replicate 4 false; count = 0 }
 
 -- the replies that count
 abbrev pub replies_of : Replies → List Bool

@@ -1,5 +1,5 @@
 -- What the functions inside say of each other: where a walk with the replies at hand has come to, and what their structs hold. Definitions only.
-use Rattle.std.specs.Prelude.{◌≡◌, Bool, List, ℕ, ◌+◌, ◌*◌, ◌≤◌, drop, Option, Some, None, Result, Ok, Err}
+use Rattle.std.specs.Prelude.{◌≡◌, Bool, List, ℕ, ◌+◌, ◌-◌, ◌*◌, ◌≤◌, drop, Option, Some, None, Result, Ok, Err}
 use Rattle.roots.specs.declared.RealRoot.{RealRoot}
 use Rattle.roots.specs.declared.Roots.{Roots}
 use Rattle.roots.specs.declared.Pairs.{Pairs}
@@ -47,6 +47,11 @@ Tidy s = (s ≡ roots_of (list_of s)) × (s.len ≤ 4)
 abbrev pub at_hand : Option Chain → ℕ
 at_hand None = 0
 at_hand (Some c) = 1
+
+-- 1 where the chain at hand has a root, which goes into the list
+abbrev pub counts : Option Chain → ℕ
+counts None = 0
+counts (Some c) = 1 - (1 - c.mult)
 
 -- what a pair adds at most to the items
 abbrev pub PairAdds : Roots → Roots → Type 0

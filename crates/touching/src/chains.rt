@@ -5,8 +5,9 @@ ghost use Rattle.roots.specs.Roots.{list_of};
 ghost use Rattle.roots.specs.Listed.{multiplicities, Fits};
 ghost use Rattle.asking.specs.Asking.{ended, walked};
 ghost use Rattle.touching.specs.Touching.{double_of, opened_by, extended_by, contact_of, emitted, parted, link_at, item_turn, chained};
-ghost use Rattle.touching.specs.Walk.{left_of, walk_at, links_at, chain_of, Tidy, at_hand, ItemAdds, ItemRoom};
+ghost use Rattle.touching.specs.Walk.{left_of, walk_at, links_at, chain_of, Tidy, counts, ItemAdds, ItemRoom};
 
+use crate::items::touches_at;
 use crate::{Chain, Links, Question, Walk, Walker};
 
 fn double(m: u32) -> u32
@@ -64,35 +65,35 @@ impl Chain {
     }
 }
 
-impl Walker {
-    // A chain's root goes into the list, if finite.
-    #[tactic(auto, using(crate::proofs::Steps::emits))]
-    fn emit(&self, out: roots::Roots, chain: Option<Chain>) -> roots::Roots
-        requires { Tidy out × (out.len + at_hand chain ≤ 4) × (at_hand chain ≤ (chain_of chain).mult) }
-        ensures { (list_of result ≡ emitted self.now.poly.e (list_of out) (chain_of chain)) × Tidy result × (result.len ≤ out.len + at_hand chain) }
-    {
-        let Some(c) = chain else {
-            return out;
-        };
-        let x = self.unscaled(c.contact());
-        if !float::is_finite(x) {
-            return out;
-        }
-        out.append(roots::RealRoot {
-            value: x,
-            multiplicity: c.mult,
-            kind: c.kind,
-        })
+// A chain's root goes into the list, if finite. (A chain of no root, which no walk makes, is none.)
+#[tactic(auto, using(crate::proofs::Steps::emits))]
+pub fn emit(e: i32, out: roots::Roots, chain: Option<Chain>) -> roots::Roots
+    requires { Tidy out × (out.len + counts chain ≤ 4) }
+    ensures { (list_of result ≡ emitted e (list_of out) (chain_of chain)) × Tidy result × (result.len ≤ out.len + counts chain) }
+{
+    let Some(c) = chain else {
+        return out;
+    };
+    let x = ldexp::ldexp(c.contact(), e);
+    if c.mult == 0 || !float::is_finite(x) {
+        return out;
     }
+    out.append(roots::RealRoot {
+        value: x,
+        multiplicity: c.mult,
+        kind: c.kind,
+    })
+}
 
+impl Walker {
     // The chain ends, and the item begins one.
-    #[tactic(auto, using(crate::proofs::Steps::double_most))]
+    #[tactic(auto, using(crate::proofs::Steps::parts))]
     fn part(&self, it: roots::RealRoot, w: Links, used: usize) -> Links
         requires { ItemRoom w it × (1 ≤ it.multiplicity) }
         ensures { (links_at self.now.replies (Ok result)
             ≡ ended (parted self.now.poly.e (list_of w.out) (chain_of w.chain) it) (left_of self.now.replies used)) × ItemAdds w result it }
     {
-        let out = self.emit(w.out, w.chain);
+        let out = emit(self.poly.e, w.out, w.chain);
         let chain = Some(Chain::opened(it));
         Links { chain, out, used }
     }
@@ -108,14 +109,13 @@ impl Walker {
         if !between(c.last, y, it.value) {
             return Ok(self.part(it, w, w.used));
         }
-        let h = self.touches_at(w.used, y)?;
+        let h = touches_at(self.poly.e, self.replies, w.used, y)?;
         if h.yes {
             let chain = Some(c.extended(it, y));
-            let out = w.out;
             return Ok(Links {
                 chain,
-                out,
                 used: h.used,
+                ..w
             });
         }
         Ok(self.part(it, w, h.used))
@@ -129,12 +129,13 @@ impl Walker {
             ≡ walked (left_of self.now.replies w.used) (item_turn self.now.poly self.now.tol (chain_of w.chain, list_of w.out) it))
             × IfOk result (λ r. ItemAdds w r it) }
     {
+        // A separator.
         if it.multiplicity == 0 {
-            let out = self.emit(w.out, w.chain);
+            let out = emit(self.poly.e, w.out, w.chain);
             return Ok(Links {
                 chain: None,
                 out,
-                used: w.used,
+                ..w
             });
         }
         let Some(c) = w.chain else {
@@ -161,13 +162,13 @@ impl Walker {
     {
         let mut w = Links {
             chain: None,
-            out: roots::Roots::none(),
+            out: roots::Roots::default(),
             used,
         };
         for it in &its.root[..its.len] {
             w = self.item_turn(*it, w)?;
         }
-        let items = self.emit(w.out, w.chain);
+        let items = emit(self.poly.e, w.out, w.chain);
         Ok(Walk {
             items,
             used: w.used,

@@ -2,13 +2,32 @@
 ghost use Rattle.std.specs.Prelude.{◌≡◌, ◌≤◌, ◌<◌, take, Some, IfOk};
 ghost use Rattle.roots.specs.Roots.{list_of, pair_list_of};
 ghost use Rattle.roots.specs.Listed.{multiplicities, Fits, PairsFit};
-ghost use Rattle.poly.specs.RealRoots.{unscaled_of};
 ghost use Rattle.asking.specs.Asking.{walked, each};
 ghost use Rattle.touching.specs.Touching.{touches_at, pair_order, reach_of, all_apart, pair_item, pair_at, pair_turn};
 ghost use Rattle.touching.specs.Replies.{replies_of};
-ghost use Rattle.touching.specs.Walk.{left_of, heard_at, walk_at, PairAdds, Held};
+ghost use Rattle.touching.specs.Walk.{left_of, heard_at, walk_at, RepliesFit, PairAdds, Held};
 
-use crate::{Heard, Question, Walk, Walker};
+use crate::{Heard, Question, Replies, Walk, Walker};
+
+// The reply about the place of y, after `used` of them. A place that is not finite is not asked about, and does not touch.
+#[tactic(auto, using(crate::proofs::Steps::touches))]
+pub fn touches_at(e: i32, replies: Replies, used: usize, y: f64) -> Result<Heard, Question>
+    requires { RepliesFit replies }
+    ensures { heard_at replies result ≡ walked (left_of replies used) (touches_at e y) }
+{
+    let x = ldexp::ldexp(y, e);
+    if !float::is_finite(x) {
+        return Ok(Heard { yes: false, used });
+    }
+    if used < replies.count {
+        let yes = replies.reply[used];
+        return Ok(Heard {
+            yes,
+            used: used + 1,
+        });
+    }
+    Err(Question { place: x })
+}
 
 // Half the distance from m to the nearest item, or far where that is less.
 #[tactic(auto, using(crate::proofs::Steps::reach_fold))]
@@ -32,7 +51,7 @@ fn all_apart(items: roots::Roots, b: f64, y: f64) -> bool
         .all(|it| float::abs(it.value - y) > b)
 }
 
-// A touching pair is a double root, another one a separator.
+// A touching pair is a double root, another one a separator: of multiplicity 0, as in the Rust's items, whose type the list and the definition share.
 fn pair_item(y: f64, yes: bool) -> roots::RealRoot
     ensures { result ≡ pair_item y yes }
 {
@@ -53,32 +72,6 @@ fn narrower_first(ps: roots::Pairs) -> [roots::Pair; 2]
 }
 
 impl Walker {
-    // The place y in x.
-    pub fn unscaled(&self, y: f64) -> f64
-        ensures { result ≡ unscaled_of self.now.poly.e y }
-    {
-        ldexp::ldexp(y, self.poly.e)
-    }
-
-    // A place that is not finite is not asked about, and does not touch.
-    #[tactic(auto, using(crate::proofs::Steps::touches))]
-    pub fn touches_at(&self, used: usize, y: f64) -> Result<Heard, Question>
-        ensures { heard_at self.now.replies result ≡ walked (left_of self.now.replies used) (touches_at self.now.poly.e y) }
-    {
-        let x = self.unscaled(y);
-        if !float::is_finite(x) {
-            return Ok(Heard { yes: false, used });
-        }
-        if used < self.replies.count {
-            let yes = self.replies.reply[used];
-            return Ok(Heard {
-                yes,
-                used: used + 1,
-            });
-        }
-        Err(Question { place: x })
-    }
-
     #[tactic(auto, using(crate::proofs::Steps::pairs_at))]
     fn pair_at(&self, w: Walk, y: f64) -> Result<Walk, Question>
         requires { Fits w.items × (w.items.len < 4) }
@@ -90,7 +83,7 @@ impl Walker {
         if !all_apart(items, b, y) {
             return Ok(w);
         }
-        let h = self.touches_at(w.used, y)?;
+        let h = touches_at(self.poly.e, self.replies, w.used, y)?;
         let more = items.append(pair_item(y, h.yes));
         Ok(Walk {
             items: more,

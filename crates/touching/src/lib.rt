@@ -1,10 +1,10 @@
 // What real_roots_touching of poly.rs does after `finish`, walked with the replies at hand: the pairs among the items, and the chains of items that touch.
-// A walk ends at its first place that has no reply yet, or with its value. It rests on `critical` (extremum), `roots`, `ldexp`, the definitions of `finish` and
-// `poly`, and `asking`, which says what a computation that asks is; the inquiry rests on it.
+// A walk ends at its first place that has no reply yet, or with its value. It rests on `critical` (extremum), `finish` (ordered), `scaled`, `roots`, `ldexp`,
+// the definitions of `poly`, and `asking`, which says what a computation that asks is; the inquiry rests on it.
 #![tactic(auto)]
 
 ghost use Rattle.std.specs.Prelude.{◌≡◌, ◌<◌, ◌≤◌};
-ghost use Rattle.touching.specs.Replies.{replied_by, RepliesFit};
+ghost use Rattle.touching.specs.Replies.{no_replies, replied_by, RepliesFit};
 
 pub mod chains;
 pub mod items;
@@ -15,6 +15,17 @@ pub mod whole;
 pub struct Replies {
     pub reply: [bool; 4],
     pub count: usize,
+}
+
+impl Default for Replies {
+    ghost is_default = { λ r. r ≡ no_replies };
+
+    fn default() -> Replies {
+        Replies {
+            reply: [false; 4],
+            count: 0,
+        }
+    }
 }
 
 // What a walk reads: the polynomial, the tolerance, and the replies at hand.
@@ -33,7 +44,8 @@ pub struct Question {
     pub place: f64,
 }
 
-// A reply, or no where nothing is asked. `used` replies are behind it.
+// A reply, or no where nothing is asked. `used` replies are behind it. (One generic struct for this and the two like it would need a ghost reading of its
+// value for each: the reply itself, the list of items, chain and list.)
 #[derive(Clone, Copy)]
 pub struct Heard {
     pub yes: bool,
@@ -59,6 +71,7 @@ pub struct Chain {
 }
 
 // The chain at hand, if there is one, and the list so far, likewise.
+// (ItemRoom and Held are said of two values at once, links and the next item, roots and pairs, so no ghost field of one of them says them.)
 #[derive(Clone, Copy)]
 pub struct Links {
     pub chain: Option<Chain>,
@@ -68,14 +81,12 @@ pub struct Links {
 
 impl Replies {
     // One reply more.
-    pub fn with(self, yes: bool) -> Replies
+    pub fn with(mut self, yes: bool) -> Replies
         requires { self.count < 4 }
         ensures { result ≡ replied_by self yes }
     {
-        let at = self.count;
-        let mut out = self;
-        out.reply[at] = yes;
-        out.count = at + 1;
-        out
+        self.reply[self.count] = yes;
+        self.count += 1;
+        self
     }
 }

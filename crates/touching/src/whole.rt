@@ -10,6 +10,7 @@ use crate::{Question, Walk, Walker};
 
 impl Walker {
     // The list, or the place of the first question that has no reply yet.
+    #[tactic(auto, using(crate::proofs::Steps::touchings))]
     pub fn touching(&self, roots: roots::Roots, ps: roots::Pairs) -> Result<Walk, Question>
         requires { Held roots ps }
         ensures { (walk_at self.now.replies result

@@ -7,6 +7,7 @@ ghost use Rattle.float.specs.Methods.{all_finite_of};
 ghost use Rattle.trig_quartic.specs.Crank.{eighth_of, f_at_of, numbers_of, sample_of, quartic_of, crank_front_of};
 
 use refusals::Refusal;
+use std::f64::consts::FRAC_1_SQRT_2 as H;
 
 #[derive(Clone, Copy)]
 struct CosSin {
@@ -14,30 +15,29 @@ struct CosSin {
     sin: f64,
 }
 
-const H: f64 = 0.7071067811865476;
+// cos and sin of k*PI/4.
+static UNIT: [CosSin; 8] = [
+    CosSin { cos: 1.0, sin: 0.0 },
+    CosSin { cos: H, sin: H },
+    CosSin { cos: 0.0, sin: 1.0 },
+    CosSin { cos: -H, sin: H },
+    CosSin {
+        cos: -1.0,
+        sin: 0.0,
+    },
+    CosSin { cos: -H, sin: -H },
+    CosSin {
+        cos: 0.0,
+        sin: -1.0,
+    },
+    CosSin { cos: H, sin: -H },
+];
 
-// UNIT: cos and sin of k*PI/4.
-#[tactic(auto, unfolding(crate::specs::Crank::eighth_of))]
 fn unit(k: u32) -> CosSin
     requires { k < 8 }
     ensures { result ≡ eighth_of k }
 {
-    match k {
-        0 => CosSin { cos: 1.0, sin: 0.0 },
-        1 => CosSin { cos: H, sin: H },
-        2 => CosSin { cos: 0.0, sin: 1.0 },
-        3 => CosSin { cos: -H, sin: H },
-        4 => CosSin {
-            cos: -1.0,
-            sin: 0.0,
-        },
-        5 => CosSin { cos: -H, sin: -H },
-        6 => CosSin {
-            cos: 0.0,
-            sin: -1.0,
-        },
-        _ => CosSin { cos: H, sin: -H },
-    }
+    UNIT[k as usize]
 }
 
 // a2*cos 2t + b2*sin 2t + c1*cos t + d1*sin t + e = 0.
@@ -70,6 +70,7 @@ impl TrigEquation {
     }
 
     // The k for which the left side at k*PI/4 + PI is largest in size, the last of equals: no root lies near u = infinity then.
+    // (A loop, as the Rust's: max_by would take an order of all doubles, and std's total_cmp takes no NaN, which counts as the largest here.)
     #[tactic(auto, using(facts::specs::Count::up_turn, facts::specs::Count::up_end), unfolding(crate::specs::Crank::sample_of))]
     fn sample(self) -> u32
         ensures { (result ≡ sample_of self) × (result < 8) }

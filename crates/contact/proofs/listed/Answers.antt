@@ -15,7 +15,7 @@ pub returns-in_err-s : goal.returns-in_err-s
 returns-in_err-s c = listed_refused _ _ _ _ _ c.in_err-s.ensures (search rules)
 
 pub loop-t-init : goal.loop-t-init
-loop-t-init c = let s = c.in_ok-s in along_start _ _ s.s (brief_has _ _ (Ok s.s) s.ensures)
+loop-t-init c = let s = c.in_ok-s in rw c.default-replies.ensures (along_start _ _ s.s (brief_has _ _ (Ok s.s) s.ensures))
 
 pub with-replies-requires : goal.with-replies-requires
 with-replies-requires c =

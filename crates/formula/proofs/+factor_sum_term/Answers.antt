@@ -1,32 +1,18 @@
 -- A factor by its first byte; a sum and a term by what is read so far, and whether one more comes.
-use Rattle.std.proofs.Common.{sym, subst, ◌∙◌, arith, Some}
-use Rattle.formula.proofs.Bytes.{at_inside, sign_inside, sign_some, sign_none}
+use Rattle.std.proofs.Common.{sym, subst, ◌∙◌, Some}
+use Rattle.formula.proofs.Bytes.{sign_some, sign_none}
 use Rattle.formula.specs.declared.cursor.Cursor.{Cursor}
-use Rattle.formula.proofs.Cycle.{Base, bracket_none, base_bracket, base_unit, factor_none, factor_read}
+use Rattle.formula.proofs.Cycle.{Base, base_bracket, base_unit, factor_none, factor_read}
 use Rattle.formula.proofs.Cycle.{term_none, term_first, term_next_none, term_next, term_last, sum_none, sum_first, sum_next_none, sum_next, sum_last}
 use Rattle.formula.proofs.+factor_sum_term.Goals.{factor-then-is_at+in_ok-inner+in_ok-base, factor-else-is_at+in_ok-base-2}
 use Rattle.formula.proofs.+factor_sum_term.Goals as goal
 
 -- ---- a factor
-pub factor-sum-requires : goal.factor-sum-requires
-factor-sum-requires t c =
-    let inside = at_inside c.args.s.now c.args.at 40 (sym c.is_at.ensures ∙ c.if-is_at.true) in
-    (omega arith, omega arith)
-
-pub factor-returns-in_err-inner : goal.factor-returns-in_err-inner
-factor-returns-in_err-inner t c =
-    rw c.from_residual.ensures (bracket_none _ _ (sym c.is_at.ensures ∙ c.if-is_at.true) c.in_err-inner.ensures)
-
 pub factor-returns-in_err-base : goal.factor-returns-in_err-base
 factor-returns-in_err-base t c =
     let e = c.in_err-base.ensures in
     let base = base_bracket _ _ _ _ (sym c.is_at.ensures ∙ c.if-is_at.true) c.in_ok-inner.ensures e.ahead e.closed in
     rw c.from_residual-in_err-base.ensures (factor_none _ _ base)
-
-pub factor-returns-in_err-base-2 : goal.factor-returns-in_err-base-2
-factor-returns-in_err-base-2 t c =
-    let e = c.in_err-base-2.ensures in
-    rw c.from_residual-in_err-base-2.ensures (factor_none _ _ (base_unit _ _ _ (sym c.is_at.ensures ∙ c.if-is_at.false) e.ahead e.based))
 
 pub factor-returns : goal.factor-returns
 factor-returns t c =
@@ -47,11 +33,6 @@ sum-returns-in_err-left t c = rw c.from_residual.ensures (sum_none _ _ c.in_err-
 pub sum-loop-op-init : goal.sum-loop-op-init
 sum-loop-op-init t c = sum_first _ _ _ c.in_ok-left.ensures
 
-pub sum-term-requires-in-Some : goal.sum-term-requires-in-Some
-sum-term-requires-in-Some t c =
-    let inside = sign_inside _ _ (sign_some _ _ _ c.in-Some.ensures).0 in
-    (omega (arith, inside, c.loop-op.invariant.ahead.low), omega (arith, inside))
-
 pub sum-returns-in_err-right : goal.sum-returns-in_err-right
 sum-returns-in_err-right t c =
     let sign = sign_some _ _ _ c.in-Some.ensures in
@@ -71,11 +52,6 @@ term-returns-in_err-left t c = rw c.from_residual.ensures (term_none _ _ c.in_er
 
 pub term-loop-left-init : goal.term-loop-left-init
 term-loop-left-init t c = term_first _ _ _ c.in_ok-left.ensures
-
-pub term-factor-requires-in-loop-left : goal.term-factor-requires-in-loop-left
-term-factor-requires-in-loop-left t c =
-    let inside = at_inside c.args.s.now c.loop-left.left.next 42 (sym c.is_at.ensures ∙ c.loop-left-test.true) in
-    (omega (arith, inside, c.loop-left.invariant.ahead.low), omega (arith, inside))
 
 pub term-returns-in_err-right : goal.term-returns-in_err-right
 term-returns-in_err-right t c =

@@ -1,14 +1,10 @@
 -- By the byte behind what was read, and by the one behind that.
 use mathlib.Core.Path.{refl, sym, ◌∙◌}
-use Rattle.formula.proofs.Factors.{powered_plain, powered_none, powered_digit}
+use Rattle.formula.proofs.Factors.{powered_plain, powered_digit}
 use Rattle.formula.proofs.powered.Goals as goal
 
 pub returns-then-not-is_at-clause-powered : goal.returns-then-not-is_at-clause-powered
 returns-then-not-is_at-clause-powered c = powered_plain _ c.args.base (sym c.is_at.ensures ∙ c.if-not-is_at.true)
-
-pub returns-in_err-d-clause-powered : goal.returns-in_err-d-clause-powered
-returns-in_err-d-clause-powered c =
-    rw c.from_residual.ensures (powered_none _ c.args.base (sym c.is_at.ensures ∙ c.if-not-is_at.false) c.in_err-d.ensures)
 
 pub returns : goal.returns
 returns c =

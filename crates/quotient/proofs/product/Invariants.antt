@@ -5,9 +5,12 @@ use Rattle.quotient.proofs.product.Given as goal
 
 abbrev pub invariant-loop-r : goal.invariant-loop-r
 invariant-loop-r l =
-    (l.p.dl ≡ l.r-index) × (count_up l.fn.large.nlin (mul_lin l.fn.large) (l.fn.large.nlin - l.r-index) l.p ≡ count_up l.fn.large.nlin (mul_lin l.fn.large) l.fn.large.nlin monic_one)
+    let n = l.fn.large.nlin in
+    let turn = mul_lin l.fn.large in
+    (l.p.dl ≡ l.r-index) × (count_up n turn (n - l.r-index) l.p ≡ count_up n turn n monic_one)
 
 abbrev pub invariant-loop-q : goal.invariant-loop-q
 invariant-loop-q l =
-    (l.p.dl ≡ l.fn.large.nlin + 2 * l.q-index) × (count_up l.fn.large.nquad (mul_quad l.fn.large) (l.fn.large.nquad - l.q-index) l.p
-    ≡ count_up l.fn.large.nquad (mul_quad l.fn.large) l.fn.large.nquad l.initial.p)
+    let n = l.fn.large.nquad in
+    let turn = mul_quad l.fn.large in
+    (l.p.dl ≡ l.fn.large.nlin + 2 * l.q-index) × (count_up n turn (n - l.q-index) l.p ≡ count_up n turn n l.initial.p)

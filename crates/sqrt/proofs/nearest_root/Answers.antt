@@ -2,12 +2,12 @@
 use Rattle.std.proofs.Common.{◌*◌, ◌^◌, subst, arith, rules, le-leb, ℕ}
 use Rattle.nearest.specs.Greatest.{NearestHalf}
 use Rattle.sqrt.specs.Root.{square_le}
-use Rattle.sqrt.proofs.Squares.{top_word, half_found}
-use Rattle.sqrt.proofs.Words.{upper_word}
+use Rattle.sqrt.proofs.Squares.{above_all, half_found}
+use Rattle.sqrt.proofs.Words.{shifted_lt}
 use Rattle.sqrt.proofs.nearest_root.Goals as goal
 
 pub overflow_mul-a : goal.overflow_mul-a
-overflow_mul-a c = omega (arith, upper_word _ c.args.n.w _ c.shifted-a.ensures c.args.n.short (omega arith))
+overflow_mul-a c = omega (arith, shifted_lt _ c.args.n.w _ c.shifted-a.ensures c.args.n.short (omega arith))
 
 pub returns-in-Some : goal.returns-in-Some
 returns-in-Some c =
@@ -16,5 +16,6 @@ returns-in-Some c =
 pub returns-in-None : goal.returns-in-None
 returns-in-None c =
     let a = c.shifted-a.ensures in
-    half_found c.args.n _ _ a (c.whole_part.ensures.found _ (record { says = λ t b l r. search rules }) (le-leb 0 _ (omega arith))
-    (top_word _ (upper_word _ _ _ a c.args.n.short (omega arith)) (omega arith)))
+    let p = c.mul-square.ensures.product in
+    half_found c.args.n _ _ _ a p (c.whole_part.ensures.found _ (record { says = λ t b l r. search rules }) (le-leb 0 _ (omega arith))
+    (above_all _ _ p (shifted_lt _ _ _ a c.args.n.short (omega arith))))

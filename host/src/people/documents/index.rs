@@ -24,7 +24,7 @@ const OTHERWISE: [(&str, Parts); 6] = [
             ("touching::Replies::with", ""),
             ("touching::Walker::pairs", "pair_turn"),
             ("touching::Walker::chained", "item_turn"),
-            ("touching::Walker::emit", "emitted"),
+            ("touching::emit", "emitted"),
         ],
     ),
     ("Candidates::push", &[("Roots::keep", "")]),

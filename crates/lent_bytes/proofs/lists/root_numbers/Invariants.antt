@@ -3,4 +3,4 @@ use Rattle.lent_bytes.proofs.Rows.{filled}
 use Rattle.lent_bytes.proofs.lists.root_numbers.Given as goal
 
 abbrev pub invariant-loop-k : goal.invariant-loop-k
-invariant-loop-k l = l.x ≡ filled l.s l.k
+invariant-loop-k l = l.x ≡ filled l.fn.s l.k

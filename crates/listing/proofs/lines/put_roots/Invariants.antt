@@ -5,7 +5,7 @@ use Rattle.text.specs.Written.{Written}
 use Rattle.listing.specs.Lines.{root_text}
 use Rattle.listing.proofs.lines.put_roots.Given as goal
 
-abbrev pub invariant-loop-i : goal.invariant-loop-i
-invariant-loop-i l =
-    (l.out.at ≤ l.initial.out.at + 22 * l.i)
-    × Written l.initial.out (flat_map root_text (take l.i l.root)) l.out
+abbrev pub invariant-loop-root : goal.invariant-loop-root
+invariant-loop-root l =
+    (l.out.at ≤ l.initial.out.at + 22 * l.root-index)
+    × Written l.initial.out (flat_map root_text (take l.root-index l.root-items)) l.out

@@ -18,4 +18,4 @@ pub returns : goal.returns
 returns c =
     let f = the_factors c.factorize_rooted-r.ensures in
     rw (← f) (candidates_found _ _ _ _ _ _ _ c.zero_roots.ensures c.with_lins-roots.ensures
-    (c.with_quads.ensures ∙ rw c.none-pairs.ensures))
+    (c.with_quads.ensures ∙ rw c.default-pairs.ensures))

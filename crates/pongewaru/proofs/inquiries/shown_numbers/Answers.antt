@@ -1,6 +1,7 @@
--- Number by number.
+-- Three numbers before those of the list.
+use mathlib.Core.Path.{◌∙◌}
 use Rattle.pongewaru.proofs.Feeding.{shown_is}
 use Rattle.pongewaru.proofs.inquiries.shown_numbers.Goals as goal
 
 pub returns : goal.returns
-returns c = shown_is _ _ _ _ _ _ c.from-asks.ensures c.root_numbers-list.ensures
+returns c = shown_is _ _ _ _ _ _ c.from.ensures (c.copy_from_slice.ensures.after ∙ c.root_numbers.ensures)

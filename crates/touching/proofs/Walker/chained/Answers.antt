@@ -1,16 +1,18 @@
 -- The items left, from where the walk is, give the whole walk; and then the last chain ends.
-use mathlib.Core.Path.{refl, ◌∙◌}
+use mathlib.Core.Path.{◌≡◌, refl, ◌∙◌}
 use native.Mathlib.Omega.{arith}
+use borrow.Author.Rules.{rules}
 use Rattle.roots.specs.Roots.{list_of}
 use Rattle.roots.specs.Listed.{blank}
 use Rattle.roots.proofs.Laws.{length_list}
-use Rattle.touching.specs.Touching.{item_turn}
-use Rattle.touching.proofs.Steps.{walk_err, each_asks, each_goes, each_ends, chained_asks, chained_ends, sum_next}
+use Rattle.touching.specs.Touching.{emitted, item_turn}
+use Rattle.touching.specs.Walk.{chain_of}
+use Rattle.touching.proofs.Steps.{walk_err, each_asks, each_goes, each_ends, chained_asks, chained_ends, counts_most, sum_next}
 use Rattle.touching.proofs.Walker.chained.Goals as goal
 
 pub loop-it-init : goal.loop-it-init
 loop-it-init c =
-    rw c.none.ensures (record {
+    rw c.default.ensures (record {
       items = refl;
       tidy = (refl, omega arith);
       length = omega arith;
@@ -60,12 +62,13 @@ emit-items-requires c =
     let inv = c.loop-it.invariant in
     let few = length_list c.args.its c.requires.0 in
     let end = c.loop-it.auto.it-index-end in
-    (inv.tidy, omega (arith, inv.length, few, c.requires.0.1, end), inv.counted)
+    (inv.tidy, omega (arith, inv.length, few, c.requires.0.1, end, counts_most c.loop-it.w.chain))
 
 pub returns : goal.returns
 returns c =
     let s = c.args.self.now in
     let inv = c.loop-it.invariant in
     let whole = each_ends (item_turn s.poly s.tol) _ blank c.loop-it.it-index _ _ c.loop-it-test.false ∙ inv.walk in
-    let out = c.emit-items.ensures in
-    (rw out.0 (chained_ends s.poly s.tol _ _ _ _ _ whole), out.1)
+    let w = c.loop-it.w in
+    let last : list_of c.emit-items.result ≡ emitted s.poly.e (list_of w.out) (chain_of w.chain) = (let h = c.emit-items.ensures.0 in search rules) in
+    (rw last (chained_ends s.poly s.tol _ _ _ _ _ whole), c.emit-items.ensures.1)

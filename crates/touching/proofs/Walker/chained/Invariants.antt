@@ -19,6 +19,7 @@ invariant-loop-it l =
       counted : at_hand l.w.chain ≤ (chain_of l.w.chain).mult;
       mult : (chain_of l.w.chain).mult + multiplicities (drop l.it-index l.it-items) ≤ 4;
       touching : (chain_of l.w.chain).touching ≤ 2 * l.it-index;
-      walk : walked (left_of l.self.replies l.w.used) (each (item_turn l.self.poly l.self.tol) (chain_of l.w.chain, list_of l.w.out) (drop l.it-index l.it-items))
+      walk : walked (left_of l.self.replies l.w.used)
+          (each (item_turn l.self.poly l.self.tol) (chain_of l.w.chain, list_of l.w.out) (drop l.it-index l.it-items))
           ≡ walked (left_of l.self.replies l.fn.used) (each (item_turn l.self.poly l.self.tol) (no_chain, []) l.it-items);
     }

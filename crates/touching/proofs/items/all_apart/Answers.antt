@@ -11,5 +11,6 @@ use Rattle.touching.proofs.items.all_apart.Goals as goal
 
 pub returns : goal.returns
 returns c =
-    all_from_yields_List (apart_by c.args.b c.args.y) _ _ _ c.all.ensures.ran (YieldsList-from_slice (list_of c.args.items) (cc)) (λ x b q k. search (rules, tests))
+    all_from_yields_List (apart_by c.args.b c.args.y) _ _ _ c.all.ensures.ran (YieldsList-from_slice (list_of c.args.items) (cc))
+    (λ x b q k. search (rules, tests))
     ∙ sym (apart_all c.args.b c.args.y (list_of c.args.items))
