@@ -151,7 +151,7 @@ static void formula(const char *text)
         printf("refused %d: %s\n", (int)said, why(said));
 }
 
-/* ---- A hall file: one record of five numbers, and one that is cut off */
+/* ---- A hall file: one record of five numbers, and one that is cut off. The places of a QD are no roots, so the total counts two lines alone. */
 
 static void file(void)
 {

@@ -119,8 +119,8 @@ struct pongewaru_coefficients {
     double c[5];
 };
 
-/* No listing is longer. */
-#define PONGEWARU_LISTING_MOST 524308
+/* No listing is longer. It has a line for each record, and then the total, `T` and three numbers: of lines, of roots, and the sum of the multiplicities. */
+#define PONGEWARU_LISTING_MOST 524328
 
 /* ---- First part: libpongewaru.a */
 

@@ -347,4 +347,11 @@ pub const OWN_OPENED: &[Patch] = &[
          pub fn print(",
         1,
     ),
+    (
+        "lister.rs",
+        "impl fmt::Display for Total {\n    fn fmt(",
+        "impl fmt::Display for Total {\n    fn fmt(&self, f: &mut fmt::Formatter) -> fmt::Result {\n        self.print(f)\n    }\n}\n\nimpl Total {\n    \
+         pub fn print(",
+        1,
+    ),
 ];

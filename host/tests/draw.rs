@@ -361,7 +361,7 @@ fn made_records() {
     let (mut pictures, mut none) = (0, 0);
     for _ in 0..40 {
         let bytes = file(&records(&mut r, 50));
-        for record in shown(&bytes, list_file).unwrap() {
+        for record in shown(&bytes, list_file).unwrap().0 {
             match drawn(&record) {
                 Ok(svg) => {
                     pictures += 1;

@@ -182,14 +182,17 @@ mod listings {
     };
     use host::truth::hall_file::Kind;
     use host::truth::kind;
-    use host::truth::lister::{Line, Reference, Untouched, lines, listing};
+    use host::truth::lister::{Line, Reference, Untouched, listing};
+    use host::truth::listing::lines;
 
     fn listed(bytes: &[u8]) -> String {
         String::from_utf8(listing(bytes, &Reference)).unwrap()
     }
 
+    /// The lines of a text's records; the total behind them is theirs.
     fn listed_text(text: &str) -> Vec<String> {
-        listed(&read(text).unwrap()).lines().map(str::to_string).collect()
+        let lines = lines(listed(&read(text).unwrap()).as_bytes()).unwrap();
+        lines.iter().map(Line::to_string).collect()
     }
 
     #[test]
@@ -222,16 +225,16 @@ mod listings {
         ];
         assert_eq!(listed_text(REFUSED), wanted);
         let known: [(&[u8], &str); 10] = [
-            (b"", ""),
-            (b"P", "1 -- refused 7\n"),
-            (b"PX", "1 -- refused 6\n"),
-            (b"PXPL", "1 -- refused 6\n"),
-            (b"PL", "1 PL refused 7\n"),
-            (b"PL\x20", "1 PL refused 7\n"),
-            (b"PL\x21", "1 PL refused 8\n"),
-            (b"QD", "1 QD refused 7\n"),
-            (b"TG\0", "1 TG refused 7\n"),
-            (b"PC", "1 PC refused 7\n"),
+            (b"", "T 0 0 0\n"),
+            (b"P", "1 -- refused 7\nT 1 0 0\n"),
+            (b"PX", "1 -- refused 6\nT 1 0 0\n"),
+            (b"PXPL", "1 -- refused 6\nT 1 0 0\n"),
+            (b"PL", "1 PL refused 7\nT 1 0 0\n"),
+            (b"PL\x20", "1 PL refused 7\nT 1 0 0\n"),
+            (b"PL\x21", "1 PL refused 8\nT 1 0 0\n"),
+            (b"QD", "1 QD refused 7\nT 1 0 0\n"),
+            (b"TG\0", "1 TG refused 7\nT 1 0 0\n"),
+            (b"PC", "1 PC refused 7\nT 1 0 0\n"),
         ];
         for (bytes, lines) in known {
             assert_eq!(listed(bytes), lines, "{bytes:?}");
@@ -269,7 +272,7 @@ mod listings {
             (b"TX\0\0\0\0\0\0\0\0\0", 13),
             (b"TX\xFF\0\0\0\0\0\0\0\0", 7),
         ] {
-            assert_eq!(listed(bytes), format!("1 TX refused {number}\n"));
+            assert_eq!(listed(bytes), format!("1 TX refused {number}\nT 1 0 0\n"));
         }
     }
 
@@ -347,7 +350,8 @@ mod listings {
             let bytes = read(line).unwrap();
             for cut in 1..bytes.len() {
                 let mark = if cut < 2 { "--" } else { mark };
-                let wanted = format!("1 PL ok 1 4008000000000000 1 c\n2 {mark} refused 7\n");
+                let lines = format!("1 PL ok 1 4008000000000000 1 c\n2 {mark} refused 7\n");
+                let wanted = lines + "T 2 1 1\n";
                 assert_eq!(listed(&[&first, &bytes[..cut]].concat()), wanted);
             }
         }
@@ -360,12 +364,12 @@ mod listings {
             bytes.extend([0; 8].repeat(1 + numbers));
             listed(&bytes)
         };
-        assert_eq!(with(0, 0), "1 PL refused 2\n");
-        assert_eq!(with(32, 32), "1 PL refused 2\n");
-        assert_eq!(with(32, 31), "1 PL refused 7\n");
-        assert_eq!(with(31, 32), "1 PL refused 2\n2 -- refused 6\n");
+        assert_eq!(with(0, 0), "1 PL refused 2\nT 1 0 0\n");
+        assert_eq!(with(32, 32), "1 PL refused 2\nT 1 0 0\n");
+        assert_eq!(with(32, 31), "1 PL refused 7\nT 1 0 0\n");
+        assert_eq!(with(31, 32), "1 PL refused 2\n2 -- refused 6\nT 2 0 0\n");
         for count in 33..=255 {
-            assert_eq!(with(count, 33), "1 PL refused 8\n");
+            assert_eq!(with(count, 33), "1 PL refused 8\nT 1 0 0\n");
         }
     }
 
@@ -373,20 +377,21 @@ mod listings {
     fn lengths() {
         let root = "ok 2 3FF0000000000000 1 c 4000000000000000 1 c";
         for size in [65_535, 65_536] {
-            let lines = listed(&of_size(size));
-            assert!(lines.lines().all(|line| line.ends_with(root)), "{size}");
-            assert!(lines.lines().count() > 245);
+            let read = lines(&listing(&of_size(size), &Reference)).unwrap();
+            assert!(read.iter().all(|line| line.to_string().ends_with(root)), "{size}");
+            assert!(read.len() > 245);
         }
+        let too_long = "0 -- refused 9\nT 1 0 0\n";
         for size in [65_537, 65_538, 200_000] {
-            assert_eq!(listed(&vec![b'P'; size]), "0 -- refused 9\n");
+            assert_eq!(listed(&vec![b'P'; size]), too_long);
         }
-        assert_eq!(listed(&of_size(65_537)), "0 -- refused 9\n");
-        let cut = listed(&of_size(65_536)[..65_535]);
-        assert!(cut.ends_with(" PL refused 7\n"));
+        assert_eq!(listed(&of_size(65_537)), too_long);
+        let cut = lines(&listing(&of_size(65_536)[..65_535], &Reference)).unwrap();
+        assert!(cut.last().unwrap().to_string().ends_with(" PL refused 7"));
         // the most lines that a file can have
         let short = b"PL\0\0\0\0\0\0\0\0\0".repeat(5957);
         assert_eq!(short.len(), 65_527);
-        assert!(listed(&short).ends_with("\n5957 PL refused 2\n"));
+        assert!(listed(&short).ends_with("\n5957 PL refused 2\nT 5957 0 0\n"));
     }
 
     /// Every line reads back, and is numbered from 1; none but a contact's has a brush.

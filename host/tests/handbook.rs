@@ -1,6 +1,7 @@
 //! docs/HALL.md and docs/HALL-FILE.md: what their examples say is what the program prints.
 mod run;
 
+use host::truth::listing::lines;
 use run::{hall, made, scratch, text};
 use std::path::Path;
 use std::process::Command;
@@ -50,8 +51,8 @@ fn examples_are_true() {
 
 /// The rows of the tables under a heading, each as its cells.
 fn rows<'a>(document: &'a str, heading: &str) -> Vec<Vec<&'a str>> {
-    let (_, section) = document.split_once(&format!("\n## {heading}\n")).unwrap();
-    let section = section.split_once("\n## ").map_or(section, |(section, _)| section);
+    let (_, section) = document.split_once(&format!("# {heading}\n")).unwrap();
+    let section = section.split_once("\n#").map_or(section, |(section, _)| section);
     let row = |line: &'a str| line.trim_matches('|').split(" | ").map(str::trim).collect();
     section.lines().filter(|line| line.starts_with("| ")).skip(1).map(row).collect()
 }
@@ -61,8 +62,10 @@ fn quoted<'a>(cell: &'a str) -> Option<&'a str> {
     cell.split('`').nth(1)
 }
 
+/// The lines of the records; the total behind them is theirs.
 fn listed(bytes: &[u8]) -> String {
-    text(&hall(&["list"], bytes).stdout)
+    let lines = lines(&hall(&["list"], bytes).stdout).unwrap();
+    lines.iter().map(|line| format!("{line}\n")).collect()
 }
 
 /// Each refusal has its bytes, and its line has its number.
@@ -81,6 +84,19 @@ fn refusals_are_true() {
         let line = quoted(line).unwrap();
         assert!(line.ends_with(&format!(" refused {number}")), "{row:?}");
         assert_eq!(listed(&bytes), format!("{line}\n"), "{row:?}");
+    }
+}
+
+#[test]
+fn totals_are_true() {
+    let document = document("HALL-FILE.md");
+    let all = rows(&document, "The total");
+    assert!(all.len() >= 4, "{} totals", all.len());
+    for row in all {
+        let [typed, total, _] = row[..] else { panic!("{row:?}") };
+        let [typed, total] = [typed, total].map(|cell| quoted(cell).unwrap());
+        let listing = text(&hall(&["list"], &made(typed)).stdout);
+        assert!(listing.ends_with(&format!("\n{total}\n")), "{typed}: {listing}");
     }
 }
 

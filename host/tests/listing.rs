@@ -71,7 +71,8 @@ fn lengths() {
         for bytes in [whole, vec![0; len], vec![b'P'; len]] {
             let wanted = listing(&bytes, &Reference);
             assert_eq!(by_port(&bytes), wanted, "{len} bytes");
-            assert_eq!(len > MOST_BYTES, wanted == b"0 -- refused 9\n", "{len} bytes");
+            let too_long = wanted == b"0 -- refused 9\nT 1 0 0\n";
+            assert_eq!(len > MOST_BYTES, too_long, "{len} bytes");
         }
     }
 }
@@ -96,6 +97,8 @@ fn short_buffers() {
     all.extend(
         ["document", "entries", "refused", "deep_brackets", "empty", "bytes_65537"].map(stored),
     );
+    // they end inside the total, whose numbers have one digit, two and three
+    all.extend(["total", "total_of_9", "total_of_10", "total_of_99", "total_of_100"].map(stored));
     let mut lengths = 0;
     for bytes in all {
         let wanted = by_port(&bytes);

@@ -66,6 +66,7 @@ fn a_file_as_a_table() {
   0 roots
 7 --
   refused 6: byte 223: unknown mark `XX`
+in all: 7 records, 6 roots, which together count 6 times, not counting the places of quads
 ";
     let table = format!("{head}{table}");
     let out = hall(&["show"], &bytes);
@@ -74,7 +75,11 @@ fn a_file_as_a_table() {
     fs::write(&path, &bytes).unwrap();
     assert_eq!(hall(&["show", path.to_str().unwrap()], b"").stdout, table.as_bytes());
     let nothing = hall(&["show"], b"");
-    assert_eq!(text(&nothing.stdout), "no record: the file is empty\n");
+    let empty = "no record: the file is empty\nin all: 0 records, 0 roots\n";
+    assert_eq!(text(&nothing.stdout), empty);
+    let long = text(&hall(&["show"], &[b'P'; 70_000]).stdout);
+    let why = "0 --\n  refused 9: the file has 70000 bytes, more than 65,536\n";
+    assert_eq!(long, format!("{why}in all: 1 record, 0 roots\n"));
 }
 
 /// The angles of a crank's roots ascend from 0 to below 360, and no line has over 100 columns.
@@ -156,6 +161,7 @@ fn contacts() {
 3 contact, confusion 0.25: |(5.25, t - 3) - (0, 0)| = 5
   1 contact   3      4008000000000000  2 brush
     ball at x = 5.25, y = 0, D - R = 0.25
+in all: 3 records, 4 roots, which together count 6 times
 ";
     assert_eq!(text(&hall(&["show"], &bytes).stdout), format!("{head}{table}"));
     let csv = text(&hall(&["show", "--csv"], &bytes).stdout);
@@ -215,7 +221,8 @@ fn listings() {
     let listing = "1 PL ok 2 3FF0000000000000 1 c 4000000000000000 1 c\n2 PL refused 2\n";
     let bytes = made("list 2^-30 2 -3 1\nlist 2^-30");
     let out = hall(&["list"], &bytes);
-    assert_eq!((text(&out.stdout), out.status.code()), (listing.to_string(), Some(0)));
+    let whole = format!("{listing}T 2 2 2\n");
+    assert_eq!((text(&out.stdout), out.status.code()), (whole, Some(0)));
     assert_eq!(out.stderr, b"");
     let ends: [(&[u8], &str, &str); 4] = [
         (b"XX", "3 -- refused 6\n", "byte 46: unknown mark `XX`"),
@@ -228,14 +235,14 @@ fn listings() {
         fs::write(&path, [&bytes, end].concat()).unwrap();
         let out = hall(&["list", path.to_str().unwrap()], b"");
         let whole = match line {
-            "" => "0 -- refused 9\n".to_string(),
-            line => format!("{listing}{line}"),
+            "" => "0 -- refused 9\nT 1 0 0\n".to_string(),
+            line => format!("{listing}{line}T 3 2 2\n"),
         };
         assert_eq!((text(&out.stdout), out.status.code()), (whole, Some(1)), "{why}");
         assert!(said(&out).contains(why), "{}", said(&out));
     }
     let out = hall(&["list"], b"");
-    assert_eq!((&out.stdout[..], out.status.code()), (&b""[..], Some(0)));
+    assert_eq!((&out.stdout[..], out.status.code()), (&b"T 0 0 0\n"[..], Some(0)));
 }
 
 /// Which places are marked, in the table and as comma-separated values.

@@ -271,6 +271,7 @@ fn answered_formulas() {
 3 list, tol 2^-30: x^3 - 3 x^2 + 4 = 0
   2 roots  -1     BFF0000000000000  1 crossing
            2      4000000000000000  2 flat
+in all: 3 records, 4 roots, which together count 6 times
 ";
     assert_eq!(shown(&made(text)), wanted);
     let csv = lines(&hall(&["show", "--csv"], &made(text)).stdout);
@@ -322,7 +323,7 @@ fn refused_formulas() {
         assert!(format!("{refused} ").starts_with(&format!("  refused {why} ")), "{table}");
         assert!(!table.contains("expanded"), "{table}");
         let reason = lines(&hall(&["explain", "-", "1"], &record(0.5, text)).stdout);
-        assert_eq!(reason, table);
+        assert_eq!(format!("{reason}in all: 1 record, 0 roots\n"), table);
         let csv = lines(&hall(&["show", "--csv"], &record(0.5, text)).stdout);
         let row = csv.lines().nth(1).unwrap();
         assert!(row.contains(why.split_once(": ").unwrap().1), "{row}");
@@ -358,9 +359,8 @@ fn long_formulas() {
 fn deep_brackets() {
     let deep = |n: usize| format!("{}t{}", "(".repeat(n), ")".repeat(n));
     let table = shown(&made(&format!("formula 1 {}", deep(127))));
-    assert!(
-        table.ends_with("\n  expanded: t = 0\n  1 root  0      0000000000000000  1 crossing\n")
-    );
+    let root = "\n  expanded: t = 0\n  1 root  0      0000000000000000  1 crossing\n";
+    assert!(table.ends_with(&format!("{root}in all: 1 record, 1 root, which counts once\n")));
     let open = [&[b'('; 128][..], b"t", &[b')'; 126]].concat();
     let table = shown(&record(1.0, &open)).replace("\n    ", " ");
     let why =
@@ -431,8 +431,8 @@ fn any_text() {
             let plain = marked::rows("1 formula: ", &text, behind, None);
             assert_eq!(under_marks(&plain, &rows), shown_part(&text, part), "{rows}");
         }
-        let all = show::shown(&record(0.5, &text), list_file).unwrap();
-        let table = table::table(&all);
+        let (all, total) = show::shown(&record(0.5, &text), list_file).unwrap();
+        let table = table::table(&all, total);
         assert!(table.lines().all(|line| line.chars().count() <= 100), "{table}");
         let typed = text::read(&[b"formula 1 ", &text[..]].concat());
         let whole = |text: &str| text.trim() == text && !text.contains('#');

@@ -27,6 +27,7 @@ record 2 at byte 35: list 2^-30 -18 21 -8 1
 4 records: 3 answered, 1 refused
 port: 4 equal to the reference build, 0 not
 untouched Rust: 3 equal to the reference build, 1 not
+total: reference build T 4 8 9, port the same, untouched Rust the same
 ";
     assert_eq!(text(&out.stdout), shown);
     assert_eq!(hall(&["compare", "-"], &made(lines)).stdout, out.stdout);
@@ -59,6 +60,7 @@ record 1 at byte 0: formula 2^-30 (t-3)^2*(t-2)
 2 records: 1 answered, 1 refused
 port: 2 equal to the reference build, 0 not
 untouched Rust: 1 equal to the reference build, 1 not
+total: reference build T 2 2 3, port the same, untouched Rust the same
 ";
     assert_eq!(text(&out.stdout), shown);
 }

@@ -10,12 +10,12 @@ use std::os::unix::fs::OpenOptionsExt;
 use std::path::PathBuf;
 use std::process::{Child, Command, Output, Stdio};
 
-/// A hall file whose listing has 84,893 bytes, more than a pipe holds.
+/// A hall file whose listing has 84,910 bytes, more than a pipe holds.
 fn long_file(name: &str) -> (PathBuf, usize) {
     let path = scratch(name);
     std::fs::write(&path, made(&"list 2^-30 2 -3 1\n".repeat(1700))).unwrap();
     let line = " PL ok 2 3FF0000000000000 1 c 4000000000000000 1 c\n".len();
-    (path, 9 + 2 * 90 + 3 * 900 + 4 * 701 + 1700 * line)
+    (path, 9 + 2 * 90 + 3 * 900 + 4 * 701 + 1700 * line + "T 1700 3400 3400\n".len())
 }
 
 fn hall_list(file: &PathBuf) -> Command {
@@ -137,8 +137,8 @@ fn small_stack() {
     let text = |text: &str| [b"TX", &[text.len() as u8][..], &[0; 8], text.as_bytes()].concat();
     let closed = format!("{}t{}", "(".repeat(127), ")".repeat(127));
     let mut bytes = [text(&"(".repeat(255)), text(&closed)].concat();
-    let lists = made("list 2^-30 2 -3 1\n").repeat((65_536 - bytes.len()) / 35);
-    bytes.extend(lists);
+    let count = (65_536 - bytes.len()) / 35;
+    bytes.extend(made("list 2^-30 2 -3 1\n").repeat(count));
     std::fs::write(&path, bytes).unwrap();
     let mut shell = Command::new("sh");
     shell.args(["-c", "ulimit -s 1024; exec \"$0\" < \"$1\""]).arg(program).arg(&path);
@@ -147,4 +147,6 @@ fn small_stack() {
     let lines = String::from_utf8(out.stdout).unwrap();
     let first = "1 TX refused 13\n2 TX ok 1 0000000000000000 1 c\n3 PL ok 2 ";
     assert!(lines.starts_with(first) && lines.lines().count() > 1800, "{lines:.200}");
+    let (records, roots) = (2 + count, 1 + 2 * count);
+    assert!(lines.ends_with(&format!("\nT {records} {roots} {roots}\n")), "{lines:.200}");
 }

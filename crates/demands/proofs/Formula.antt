@@ -1,4 +1,4 @@
--- The line of a file of one record TX, whole or cut.
+-- The listing of a file of one record TX, whole or cut.
 use mathlib.Core.Path.{◌≡◌, refl, sym, ap, ◌∙◌}
 use mathlib.Core.List.{List, ◌∷◌, ◌++◌}
 use Prim.Native.Nat.{ℕ, ◌+◌, ◌-◌, ◌<◌, ◌≤◌}
@@ -18,7 +18,9 @@ use Rattle.records.specs.Records.{count_at, ended_of, held_of, formula_record, r
 use Rattle.records.proofs.Places.{whole_of}
 use Rattle.formula_roots.specs.FormulaRoots.{formula_roots_of}
 use Rattle.listing.specs.Answers.{text_at, formula_at}
-use Rattle.listing.specs.Lines.{polynomial_text, answer_text, words_of, head_of, line_of}
+use Rattle.poly.specs.RealRoots.{roots_in}
+use Rattle.listing.specs.Lines.{polynomial_text, answer_text, words_of, head_of, line_of, total_text}
+use Rattle.listing.specs.Totals.{line_total, listed_at, record_total}
 use Rattle.listing.specs.File.{listing}
 use Rattle.demands.specs.Example.{ascii}
 use Rattle.demands.proofs.Line.{one_line}
@@ -59,13 +61,20 @@ module _ (tolerance text : List ℕ) (eight : length tolerance ≡ 8) (short : l
       ap (λ (k : ℕ). take (length text) (drop k (tolerance ++ text))) (sym eight) ∙ ap (take (length text)) (drop-append_seam tolerance text)
       ∙ take_all (length text) text (omega arith)
 
-  only_line : line_of 1 file 0 (whole_of Formula (11 + length text)) ≡ ascii "1 TX " ++ (polynomial_text (formula_roots_of text (f64_at file 3)) ++ ascii "\n")
-  unfolding line_of head_of words_of answer_text formula_at decimal ascii
-  only_line = ap (λ (t : List ℕ). ascii "1 TX " ++ (polynomial_text (formula_roots_of t (f64_at file 3)) ++ ascii "\n")) text_is
+  -- the line, and its total, of a text's answer
+  shown : List ℕ → List ℕ
+  shown t =
+      let a = formula_roots_of t (f64_at file 3) in
+      ascii "1 TX " ++ (polynomial_text a ++ ascii "\n") ++ total_text (line_total (roots_in a))
+
+  only_line : let r = whole_of Formula (11 + length text) in line_of 1 file 0 r ++ total_text (record_total file 0 r) ≡ shown text
+  unfolding shown line_of head_of words_of answer_text formula_at record_total listed_at decimal ascii
+  only_line = ap shown text_is
 
   pub formula_line : let file = ascii "TX" ++ (length text ∷ tolerance ++ text) in
-      listing file ≡ ascii "1 TX " ++ (polynomial_text (formula_roots_of text (f64_at file 3)) ++ ascii "\n")
-  unfolding ascii
+      let a = formula_roots_of text (f64_at file 3) in
+      listing file ≡ ascii "1 TX " ++ (polynomial_text a ++ ascii "\n") ++ total_text (line_total (roots_in a))
+  unfolding shown ascii
   formula_line =
       one_line file (whole_of Formula (11 + length text)) (omega arith) (omega (arith, long)) found (omega (arith, long)) ∙ only_line
 
@@ -78,10 +87,11 @@ module _ (s : List ℕ) (byte : get_or s 0 0 ≤ 255) (cut : length s < 9 + get_
   unfolding kind_at
   cut_found = cut_off cut_file refl (omega arith) (omega arith)
 
-  cut_line : line_of 1 cut_file 0 (ended_of Formula Cut cut_file) ≡ ascii "1 TX refused 7\n"
-  unfolding line_of head_of words_of decimal ascii
+  cut_line : let r = ended_of Formula Cut cut_file in
+      line_of 1 cut_file 0 r ++ total_text (record_total cut_file 0 r) ≡ ascii "1 TX refused 7\nT 1 0 0\n"
+  unfolding line_of head_of words_of total_text record_total decimal ascii
   cut_line = refl
 
-  pub formula_cut : listing (ascii "TX" ++ s) ≡ ascii "1 TX refused 7\n"
+  pub formula_cut : listing (ascii "TX" ++ s) ≡ ascii "1 TX refused 7\nT 1 0 0\n"
   unfolding ascii
   formula_cut = one_line cut_file (ended_of Formula Cut cut_file) (omega arith) (omega arith) cut_found (omega arith) ∙ cut_line

@@ -19,4 +19,7 @@ pub mod Example
 pub mod Line
 pub mod Contact
 pub mod Formula
+pub mod Parted
+pub mod Said
+pub mod ByHand
 pub mod Proved

@@ -2,7 +2,7 @@
 use mathlib.Core.Path.{refl, sym, ap, ◌∙◌}
 use mathlib.Core.Logic.{⊎_elim}
 use mathlib.Core.List.{List}
-use Prim.Native.Nat.{◌-◌, ◌≤◌}
+use Prim.Native.Nat.{◌-◌}
 use native.Mathlib.Omega.{arith}
 use lib.Dec.{lit≤}
 use lib.Ieee.{nan, lt, eq, is_nan, of_bits}
@@ -49,7 +49,7 @@ use Rattle.formula_roots.proofs.Theorem.{formulas}
 use Rattle.demands.specs.Table.{table}
 use Rattle.demands.specs.Example.{ascii}
 use Rattle.demands.specs.Demands.{Demands, SquareRoot, CubeRoot, Third, Logarithm, ScaledCoefficients, FactorDegrees}
-use Rattle.demands.specs.Demands.{TotalOrder, Sorts, Lists, SimpleRoots, PinContacts, NeverBrush, TypedFormulas}
+use Rattle.demands.specs.Demands.{TotalOrder, Sorts, Lists, SimpleRoots, PinContacts, NeverBrush, TypedFormulas, ClosingTotal}
 use Rattle.demands.proofs.Nearest.{signed, positive_units}
 use Rattle.demands.proofs.Doubles.{units_exact, only_one}
 use Rattle.demands.proofs.Roots.{square_nearest, cube_nearest, rest_nearest, scaled_most, scaled_least, sqrt_is, cbrt_is}
@@ -63,6 +63,8 @@ use Rattle.demands.proofs.Brushes.{kinds}
 use Rattle.demands.proofs.Loops.{runs, chains}
 use Rattle.demands.proofs.Quadratics.{quadratics}
 use Rattle.listing.proofs.Bound.{listing_fits}
+use Rattle.demands.proofs.Parted.{digits_read}
+use Rattle.demands.proofs.ByHand.{last_line, ends, no_other, marked_so, refused_says, agrees, fit}
 use Rattle.demands.proofs.Example.{example, empty, is_too_long}
 use Rattle.demands.proofs.Contact.{contact_line}
 use Rattle.demands.proofs.Formula.{formula_line, formula_cut}
@@ -189,6 +191,18 @@ typed_formulas = record {
   rows = refl;
 }
 
+closing_total : ClosingTotal
+closing_total = record {
+  last = last_line;
+  ended = ends;
+  digits = digits_read;
+  only = no_other;
+  marks = marked_so;
+  refused = refused_says;
+  agrees = agrees;
+  fits = fit;
+}
+
 pub demands : Demands
 demands = record {
   doubles = record { exact = units_exact; one = only_one };
@@ -214,4 +228,5 @@ demands = record {
   pin_contacts = pin_contacts;
   kinds = kinds;
   typed_formulas = typed_formulas;
+  closing_total = closing_total;
 }

@@ -1,6 +1,6 @@
 -- What is promised, as theorems about the definitions: the customer's demands (document 00) and the claims of documents 01 and 02, in their words. Statements
 -- only; proofs/Proved.antt has the proof of `Demands`, the last of them.
-use Rattle.std.specs.Prelude.{◌≡◌, ◌⊎◌, Bool, true, false, cond, ◌&&◌, ℕ, suc, ◌+◌, ◌-◌, ◌*◌, ◌^◌, ◌≤◌, ◌<◌, ltb, ℤ, pos, negsuc, ◌*ℤ◌, ◌≤ℤ◌}
+use Rattle.std.specs.Prelude.{◌≡◌, ◌⊎◌, Bool, true, false, cond, ◌&&◌, ◌||◌, ℕ, suc, ◌+◌, ◌-◌, ◌*◌, ◌^◌, ◌≤◌, ◌<◌, ltb, ℤ, pos, negsuc, ◌*ℤ◌, ◌≤ℤ◌}
 use Rattle.std.specs.Prelude.{length, take, get_or, Float, Result, Ok}
 use mathlib.Core.List.{List, [], ◌∷◌, ◌++◌, map, Memᴰ}
 use Rattle.std.specs.Float.{nan, inf, fin, binary64}
@@ -66,13 +66,16 @@ use Rattle.formula_roots.specs.Claims.{Formulas}
 use Rattle.listing.specs.Answers.{contact_at}
 use Rattle.text.specs.Digits.{decimal}
 use Rattle.listing.specs.Words.{letter_of}
-use Rattle.listing.specs.Lines.{place_text, root_text, polynomial_text}
+use Rattle.listing.specs.Lines.{place_text, root_text, polynomial_text, total_text}
+use Rattle.listing.specs.Totals.{line_total, total_of}
 use Rattle.listing.specs.File.{listing}
 use Rattle.demands.specs.Loops.{runs_from, chains_from}
 use Rattle.demands.specs.Formed.{Formed, times_of, unasked, chains_formed, roots_formed, reply_in, SomeYes, unformed}
 use Rattle.demands.specs.Table.{Row, table, row_answer_of}
 use Rattle.demands.specs.Example.{ascii, example_file, example_listing}
 use Rattle.demands.specs.Texts.{TextRow, texts, parts_in_order}
+use Rattle.demands.specs.ByHand.{lines, word, before_last, same, number, like_list, like_crank, line_roots, line_multiplicities, roots_on, multiplicities_on}
+use Rattle.demands.specs.ByHand.{closing_line}
 
 -- ---- words
 
@@ -344,21 +347,22 @@ pub record Entries : Type 0 where
 
 -- ---- 'The hall file'
 
--- Document 01's file has the listing that stands there, byte for byte. 'An empty file prints nothing.' '9, over 65,536 bytes, the only line then being
--- `0 -- refused 9`.' No listing has more bytes than the program lends for it.
+-- Document 01's file has the listing that stands there, byte for byte, with what requests Two and Five add. '9, over 65,536 bytes, the only line then being
+-- `0 -- refused 9`.' 'An empty file prints only `T 0 0 0`, and an over-long one `T 1 0 0` after its line. This amends document 01 on both, and its listing,
+-- which now ends `T 5 4 4`.' No listing has more bytes than the program lends for it.
 pub record HallFile : Type 0 where
   pub example : listing example_file ≡ example_listing
-  pub empty : listing [] ≡ []
-  pub too_long : (s : List ℕ) → 65536 < length s → listing s ≡ ascii "0 -- refused 9\n"
-  pub room : (s : List ℕ) → length (listing s) ≤ 524308
+  pub empty : listing [] ≡ ascii "T 0 0 0\n"
+  pub too_long : (s : List ℕ) → 65536 < length s → listing s ≡ ascii "0 -- refused 9\nT 1 0 0\n"
+  pub room : (s : List ℕ) → length (listing s) ≤ 524328
 
 -- ---- request One, 'Pin contact from path and circle'
 
 -- `Contacts`: 'Errors: 10, a number of the record is not finite; 11, R is not above 0; 12, a coefficient made is not finite; in that order, then 2 as for a
 -- list', each exactly there, and no other number. An answer is the Rust's list of the coefficients made, 'A question at t is replied yes exactly when |D − R|
 -- is at most confusion'; at most three questions; demand 1. 'Demand 3, the accuracy rule, covers these roots through the list': what is asked about and listed
--- are the roots that the list of the same coefficients found, none of them worsened. 'A record PC holds ..', 'The line prints like PL': the line of a file of
--- one such record.
+-- are the roots that the list of the same coefficients found, none of them worsened. 'A record PC holds ..', 'The line prints like PL': the listing of a file
+-- of one such record, with its total.
 pub record PinContacts : Type 0 where
   pub every : (confusion : Float) (path : Path) (circle : Circle) → Contacts confusion path circle
   pub through_the_list : (confusion : Float) (path : Path) (circle : Circle) → outcome_of (pin_contact_of confusion path circle) ≡ 0
@@ -367,7 +371,8 @@ pub record PinContacts : Type 0 where
   pub polished : (confusion : Float) (path : Path) (circle : Circle) → outcome_of (pin_contact_of confusion path circle) ≡ 0
       → NotWorsened (made_of path circle) confusion
   pub line : (s : List ℕ) → length s ≡ 80
-      → let file = ascii "PC" ++ s in listing file ≡ ascii "1 PC " ++ (polynomial_text (contact_at file 0) ++ ascii "\n")
+      → let file = ascii "PC" ++ s in
+      listing file ≡ ascii "1 PC " ++ (polynomial_text (contact_at file 0) ++ ascii "\n") ++ total_text (line_total (roots_in (contact_at file 0)))
 
 -- ---- request Two, 'Say whether it crossed or brushed'
 
@@ -429,18 +434,43 @@ pub record Kinds : Type 0 where
 -- above 2^53 in size. 13 comes before the others, and of 14 and 15 the one met first decides, 14 where one product meets both', each exactly there, then the
 -- list's 2, and no other number. 'Expansion is exact over whole numbers'; 'The result, zero being +0, goes to the list operation'; demand 1. So demand 3
 -- covers these roots through the list, and so do the kinds of request Two: none is a brush, since nothing is asked. 'A record TX holds a length byte 0 to 255,
--- a tolerance and that much ASCII', 'whose answer or refusal prints like PL': the line of a file of one such record, and of one whose length byte or later
--- bytes are missing, '7, fewer bytes than the record needs'. `rows` and `order`: what some texts come to, and the parts of one.
+-- a tolerance and that much ASCII', 'whose answer or refusal prints like PL': the listing of a file of one such record, with its total, and of one whose length
+-- byte or later bytes are missing, '7, fewer bytes than the record needs'. `rows` and `order`: what some texts come to, and the parts of one.
 pub record TypedFormulas : Type 0 where
   pub every : (s : List ℕ) (tol : Float) → Formulas s tol
   pub polished : (s : List ℕ) (tol : Float) → outcome_of (formula_roots_of s tol) ≡ 0 → NotWorsened (handed_on (formula_of s)) tol
   pub kinds : (s : List ℕ) (tol : Float) → NeverBrush (list_of (roots_in (formula_roots_of s tol)))
   pub line : (tolerance text : List ℕ) → length tolerance ≡ 8 → length text ≤ 255
       → let file = ascii "TX" ++ (length text ∷ tolerance ++ text) in
-      listing file ≡ ascii "1 TX " ++ (polynomial_text (formula_roots_of text (f64_at file 3)) ++ ascii "\n")
-  pub cut : (s : List ℕ) → get_or s 0 0 ≤ 255 → length s < 9 + get_or s 0 0 → listing (ascii "TX" ++ s) ≡ ascii "1 TX refused 7\n"
+      let a = formula_roots_of text (f64_at file 3) in
+      listing file ≡ ascii "1 TX " ++ (polynomial_text a ++ ascii "\n") ++ total_text (line_total (roots_in a))
+  pub cut : (s : List ℕ) → get_or s 0 0 ≤ 255 → length s < 9 + get_or s 0 0 → listing (ascii "TX" ++ s) ≡ ascii "1 TX refused 7\nT 1 0 0\n"
   pub order : if_some (reading_of (ascii "2-(t+1)^2")) [] sum_parts ≡ parts_in_order
   pub rows : map (λ (r : TextRow). formula_of (ascii r.text)) texts ≡ map (λ (r : TextRow). r.value) texts
+
+-- ---- request Five, 'A closing total'
+
+-- A listing read as a person reads it, by lines, words and decimal numbers (ByHand.antt): all its lines but the last.
+abbrev pub lines_before : List ℕ → List (List ℕ)
+lines_before s = before_last (lines (listing s))
+
+-- 'After the last record `hallroots` prints `T`, the number of record lines, the number of roots listed and the sum of their multiplicities. Every record
+-- line counts, QD and `--` lines too, but roots come only from PL, TG, PC and TX lines. The three numbers are proved equal to what the printed records hold, a
+-- refused one adding only its line.' For every file: `last`, the last line, `ended` by a line end, has the three numbers that a person counts in the lines
+-- before it, whose `digits` say them; `only`, no other line is a `T` line; `marks`, a line that says a root has one of the four; `refused`, a refused one says
+-- none; `agrees`, the records' answers come to the same; `fits`, no number is above 65,536. An empty file, one that is too long, and the room: `HallFile`.
+pub record ClosingTotal : Type 0 where
+  pub last : (s : List ℕ) → let before = lines_before s in
+      lines (listing s) ≡ before ++ (closing_line (length before) (roots_on before) (multiplicities_on before) ∷ [])
+  pub ended : (s : List ℕ) → get_or (listing s) (length (listing s) - 1) 0 ≡ 10
+  pub digits : (n : ℕ) → number (decimal n) ≡ n
+  pub only : (s : List ℕ) (k : ℕ) → k < length (lines_before s) → same (word 0 (get_or (lines_before s) k [])) (ascii "T") ≡ false
+  pub marks : (line : List ℕ) → 0 < line_roots line → let mark = word 1 line in (like_list mark || like_crank mark) ≡ true
+  pub refused : (line : List ℕ) → word 2 line ≡ ascii "refused" → (line_roots line ≡ 0) × (line_multiplicities line ≡ 0)
+  pub agrees : (s : List ℕ) → let before = lines_before s in
+      total_of s ≡ record { records = length before; roots = roots_on before; multiplicities = multiplicities_on before }
+  pub fits : (s : List ℕ) → let before = lines_before s in
+      (length before ≤ 65536) × (roots_on before ≤ 65536) × (multiplicities_on before ≤ 65536)
 
 -- ---- all of them
 pub record Demands : Type 0 where
@@ -467,3 +497,4 @@ pub record Demands : Type 0 where
   pub pin_contacts : PinContacts
   pub kinds : Kinds
   pub typed_formulas : TypedFormulas
+  pub closing_total : ClosingTotal

@@ -27,7 +27,7 @@ example_file =
     ++ ascii "TG" ++ doubles_bytes (tol ∷ zero64 ∷ zero64 ∷ one64 ∷ zero64 ∷ zero64 ∷ [])
     ++ ascii "XX"
 
--- with the kinds of request Two: 'document 01's listing gains it too'
+-- with the kinds of request Two: 'document 01's listing gains it too', and the total of request Five: 'which now ends `T 5 4 4`'
 unfoldable pub example_listing : List ℕ
 unfolding ascii
 example_listing =
@@ -36,3 +36,4 @@ example_listing =
     ++ ascii "3 QD two 3FF0000000000000 4000000000000000\n"
     ++ ascii "4 TG ok 4 2 BFF0000000000000 1 c 3FF0000000000000 1 c\n"
     ++ ascii "5 -- refused 6\n"
+    ++ ascii "T 5 4 4\n"

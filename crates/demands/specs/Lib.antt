@@ -4,3 +4,4 @@ pub mod Loops
 pub mod Formed
 pub mod Example
 pub mod Texts
+pub mod ByHand

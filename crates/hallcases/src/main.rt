@@ -9,7 +9,7 @@ use std::io::Write;
 use std::{env, io};
 
 // The listing of the file, stored in out; how many bytes it has.
-fn listed(rt: &HostRuntime, name: &str, out: &mut [u8; 524308]) -> io::Result<usize>
+fn listed(rt: &HostRuntime, name: &str, out: &mut [u8; 524328]) -> io::Result<usize>
     ensures { IfOk result (λ n. IsPrefixLen n out.new) }
 {
     let mut from = File::open(rt, name)?;

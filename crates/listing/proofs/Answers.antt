@@ -1,5 +1,5 @@
 -- What printing needs of the solver's answers: at most four roots, short multiplicities, k below 8. Of lists, that they have fewer roots than coefficients; of
--- formulas, at most one root more than bytes.
+-- formulas, at most one root more than bytes; also where a root counts as often as its multiplicity says.
 use mathlib.Core.Path.{◌≡◌, refl, sym, ap, subst, subst⁻¹}
 use mathlib.Core.Bool.{false}
 use mathlib.Core.Logic.{⊎_elim}
@@ -25,7 +25,8 @@ use Rattle.refusals.specs.declared.Refusal.{Refusal}
 use Rattle.refusals.specs.Refusals.{outcome_of, and_then}
 use Rattle.trig_quartic.specs.declared.TrigEquation.{TrigEquation}
 use Rattle.crank.specs.declared.CrankInquiry.{CrankInquiry}
-use Rattle.crank.specs.Crank.{trig_quartic_of, solve_trig_of, crank_start_of, crank_of}
+use Rattle.crank.specs.declared.CrankAnswer.{CrankAnswer}
+use Rattle.crank.specs.Crank.{trig_quartic_of, solve_trig_of, crank_start_of, crank_of, crank_roots_in}
 use Rattle.crank.specs.Claims.{Cranks}
 use Rattle.crank.proofs.Theorem.{cranks}
 use Rattle.contact.specs.declared.Path.{Path}
@@ -43,13 +44,14 @@ within_short d l h w = record {
   short = subst (λ (k : List RealRoot). multiplicities k < 100) (sym (list_roots l)) (omega (arith, w.sum));
 }
 
-none_short : Printable no_roots
+pub none_short : Printable no_roots
 none_short = within_short 0 [] (omega arith) within_none
 
 -- ---- lists
 pub record ListShort (cs : List Float) (a : Result Roots Refusal) : Type 0 where
   pub roots : Printable (roots_in a)
   pub fewer : (roots_in a).len ≤ length cs - 1
+  pub sum : multiplicities (list_of (roots_in a)) ≤ length cs - 1
 
 module _ (cs : List Float) (tol : Float) where
   abbrev list : Roots
@@ -73,6 +75,7 @@ module _ (cs : List Float) (tol : Float) where
       record {
         roots = list_prints;
         fewer = omega (arith, length_list list (answer_fits cs tol), each, w.sum, (trimmed_is cs).within);
+        sum = omega (arith, w.sum, (trimmed_is cs).within);
       }
 
 -- ---- cranks
@@ -94,6 +97,10 @@ crank_short confusion trig = go (crank_start_of confusion trig) refl
     )
     go (Err refusal) e = tt
 
+pub crank_listed : (a : Result CrankAnswer Refusal) → CrankPrintable a → Printable (crank_roots_in a)
+crank_listed (Ok a) p = p.1
+crank_listed (Err refusal) p = none_short
+
 -- ---- pin contacts
 pub contact_short : (confusion : Float) (path : Path) (circle : Circle) → Printable (roots_in (pin_contact_of confusion path circle))
 contact_short confusion path circle =
@@ -103,8 +110,9 @@ contact_short confusion path circle =
 pub record FormulaShort (text : List ℕ) (a : Result Roots Refusal) : Type 0 where
   pub roots : Printable (roots_in a)
   pub few : (roots_in a).len ≤ length text + 1
+  pub sum : multiplicities (list_of (roots_in a)) ≤ length text + 1
 
 pub formula_short : (text : List ℕ) (tol : Float) → FormulaShort text (formula_roots_of text tol)
 formula_short text tol =
-    answered_by_list (FormulaShort text) text tol (λ refusal h. record { roots = none_short; few = omega arith })
-    (λ cs h. let a = list_short cs tol in record { roots = a.roots; few = omega (arith, a.fewer) })
+    answered_by_list (FormulaShort text) text tol (λ refusal h. record { roots = none_short; few = omega arith; sum = omega arith })
+    (λ cs h. let a = list_short cs tol in record { roots = a.roots; few = omega (arith, a.fewer); sum = omega (arith, a.sum) })

@@ -1,4 +1,4 @@
--- What the solver answers to a record's numbers can be printed, and is short.
+-- What the solver answers to a record's numbers can be printed, and is short; the roots that it lists are few.
 use mathlib.Core.Path.{◌≡◌, subst⁻¹}
 use mathlib.Core.List.{List}
 use Prim.Native.Nat.{ℕ, ◌+◌, ◌*◌, ◌-◌, ◌≤◌}
@@ -7,10 +7,14 @@ use lib.ListN.{length, drop, length-take}
 use Rattle.text.proofs.Laws.{written_none}
 use Rattle.float.specs.Bytes.{f64_at}
 use Rattle.roots.specs.declared.Roots.{Roots}
+use Rattle.roots.specs.Roots.{list_of}
+use Rattle.roots.specs.Listed.{multiplicities}
 use Rattle.poly.specs.RealRoots.{roots_in}
 use Rattle.std.specs.Prelude.{Result}
 use Rattle.refusals.specs.declared.Refusal.{Refusal}
 use Rattle.crank.specs.declared.CrankAnswer.{CrankAnswer}
+use Rattle.crank.proofs.Theorem.{cranks}
+use Rattle.contact.proofs.Theorem.{contacts}
 use Rattle.lent_bytes.specs.Bytes.{f64s_at}
 use Rattle.lent_bytes.proofs.Doubles.{f64s_length}
 use Rattle.records.specs.declared.Kind.{Kind}
@@ -19,9 +23,10 @@ use Rattle.records.specs.declared.Record.{Record}
 use Rattle.records.specs.Records.{count_at}
 use Rattle.listing.specs.Answers.{polynomial_at, quadratic_at, trig_at, crank_at, path_at, circle_at, contact_at, text_at, formula_at}
 use Rattle.listing.specs.Lines.{polynomial_text, answer_text, words_of}
+use Rattle.listing.specs.Totals.{listed_at}
 use Rattle.listing.specs.Printable.{Printable, CrankPrintable}
 use Rattle.listing.proofs.Texts.{or_length, polynomial_length, quadratic_length, crank_length}
-use Rattle.listing.proofs.Answers.{ListShort, list_short, crank_short, contact_short, FormulaShort, formula_short}
+use Rattle.listing.proofs.Answers.{none_short, ListShort, list_short, crank_short, crank_listed, contact_short, FormulaShort, formula_short}
 
 module _ (s : List ℕ) (at : ℕ) where
   polynomial_at_short : ListShort (f64s_at (count_at s at) s (at + 11)) (polynomial_at s at)
@@ -87,5 +92,39 @@ module _ (s : List ℕ) (at : ℕ) where
   pub words_length : (found : Record) → length (words_of s at found) ≤ 98
   unfolding words_of
   words_length found = or_length found.refused (answer_text found.kind s at) 98 (omega arith) (answer_length found.kind)
+
+  -- ---- which roots they list
+  pub listed_prints : (kind : Kind) → Printable (listed_at kind s at)
+  unfolding listed_at
+  listed_prints Polynomial = polynomial_at_short.roots
+  listed_prints Quadratic = none_short
+  listed_prints Crank = crank_listed (crank_at s at) crank_at_short
+  listed_prints Contact = contact_at_short
+  listed_prints Formula = formula_at_short.roots
+  listed_prints Unknown = none_short
+
+  pub polynomial_sum : multiplicities (list_of (listed_at Polynomial s at)) ≤ count_at s at - 1
+  unfolding listed_at
+  polynomial_sum = omega (arith, polynomial_at_short.sum, f64s_length (count_at s at) s (at + 11))
+
+  pub quadratic_sum : multiplicities (list_of (listed_at Quadratic s at)) ≤ 0
+  unfolding listed_at
+  quadratic_sum = omega arith
+
+  pub crank_sum : multiplicities (list_of (listed_at Crank s at)) ≤ 4
+  unfolding listed_at crank_at
+  crank_sum =
+      let all = cranks (f64_at s (at + 2)) (trig_at s at) in
+      omega (arith, all.answer.sum, all.degree)
+
+  pub contact_sum : multiplicities (list_of (listed_at Contact s at)) ≤ 4
+  unfolding listed_at contact_at
+  contact_sum =
+      let all = contacts (f64_at s (at + 2)) (path_at s at) (circle_at s at) in
+      omega (arith, all.roots.sum, all.degree)
+
+  pub formula_sum : multiplicities (list_of (listed_at Formula s at)) ≤ count_at s at + 1
+  unfolding listed_at
+  formula_sum = omega (arith, formula_at_short.sum, length-take (count_at s at) (drop (at + 11) s))
 
 pub ruleset prints = (written_none, polynomial_prints, crank_prints, contact_prints, formula_prints)

@@ -1,10 +1,10 @@
--- No listing is longer than 524,308 bytes: a line has at most eight bytes for each of its record, and the last one, after which reading ends, at most 20.
+-- No listing is longer than 524,328 bytes: a line has at most eight bytes for each of its record, that after which reading ends at most 20, and the total 20.
 -- (A line has at most 20 bytes, and 22 for each root, of which there are at most four. A formula of n bytes, whose record has 11 + n, has at most n + 1 roots;
 -- all other records have more bytes for their roots.)
 use mathlib.Core.Path.{◌≡◌, refl, ap}
 use mathlib.Core.Bool.{Bool, true, false, cond}
 use mathlib.Core.Logic.{◌⊎◌, inl, inr, ⊎_elim}
-use mathlib.Core.List.{List, [], ◌++◌}
+use mathlib.Core.List.{List, [], ◌∷◌, ◌++◌}
 use Prim.Native.Nat.{ℕ, zero, suc, ◌+◌, ◌*◌, ◌-◌, ◌<◌, ◌≤◌}
 use native.Mathlib.Omega.{arith}
 use borrow.Author.Tests.{le-ltb, ltb-true, ltb-false}
@@ -16,9 +16,13 @@ use Rattle.records.specs.declared.Kind.{Kind}
 use Rattle.records.specs.declared.Kind.TheVariants.{Polynomial, Quadratic, Crank, Contact, Formula, Unknown}
 use Rattle.records.specs.declared.Record.{Record}
 use Rattle.records.specs.Records.{count_at, ended_of, record_at}
-use Rattle.listing.specs.Lines.{words_of, line_of}
-use Rattle.listing.specs.File.{lines_from, listing}
-use Rattle.listing.proofs.Texts.{refused_length, line_length}
+use Rattle.listing.specs.declared.total.Total.{Total}
+use Rattle.listing.specs.Lines.{words_of, line_of, total_text}
+use Rattle.listing.specs.Totals.{total_of}
+use Rattle.listing.specs.File.{lines_from, record_lines, listing}
+use Rattle.text.specs.Digits.{decimal}
+use Rattle.listing.proofs.Texts.{refused_length, line_length, five_digits}
+use Rattle.listing.proofs.Totals.{AtMost, total_fits}
 use Rattle.listing.proofs.Asked.{polynomial_at_length, quadratic_at_length, formula_at_length, answer_length}
 use Rattle.records.proofs.Places.{whole_of, record_by, record_forward}
 
@@ -85,9 +89,9 @@ lines_length (suc f) s at n h = go (ltb at (length s)) refl (λ j p. lines_lengt
 pub all_lines_fit : (s : List ℕ) → length s ≤ 65536 → length (lines_from (length s) s 0 1) ≤ 524308
 all_lines_fit s h = omega (arith, lines_length (length s) s 0 1 (omega arith))
 
-pub listing_fits : (s : List ℕ) → length (listing s) ≤ 524308
-unfolding listing
-listing_fits s = go (ltb 65536 (length s)) refl
+pub record_lines_fit : (s : List ℕ) → length (record_lines s) ≤ 524308
+unfolding record_lines
+record_lines_fit s = go (ltb 65536 (length s)) refl
   where
     last : Record
     last = ended_of Unknown FileTooLong s
@@ -95,3 +99,28 @@ listing_fits s = go (ltb 65536 (length s)) refl
     go : (b : Bool) → ltb 65536 (length s) ≡ b → length (cond b (line_of 0 s 0 last) (lines_from (length s) s 0 1)) ≤ 524308
     go true e = omega (arith, line_length 0 s 0 last (omega arith), ended_length s 0 Unknown FileTooLong)
     go false e = all_lines_fit s (ltb-false 65536 (length s) e)
+
+-- ---- the total, of which no number has more than five digits
+total_length : (t : Total) → AtMost 65536 t → length (total_text t) ≤ 20
+unfolding total_text
+total_length t h =
+    let last : List ℕ = decimal t.multiplicities ++ (10 ∷ []) in
+    omega (
+      arith,
+      length-append (decimal t.records) (32 ∷ decimal t.roots ++ (32 ∷ last)),
+      length-append (decimal t.roots) (32 ∷ last),
+      length-append (decimal t.multiplicities) (10 ∷ []),
+      five_digits {n = t.records} (omega (arith, h.records)),
+      five_digits {n = t.roots} (omega (arith, h.roots)),
+      five_digits {n = t.multiplicities} (omega (arith, h.multiplicities)),
+    )
+
+pub listing_fits : (s : List ℕ) → length (listing s) ≤ 524328
+unfolding listing
+listing_fits s =
+    omega (
+      arith,
+      length-append (record_lines s) (total_text (total_of s)),
+      record_lines_fit s,
+      total_length (total_of s) (total_fits s),
+    )

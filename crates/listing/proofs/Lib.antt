@@ -1,7 +1,8 @@
 -- What the proofs of several functions use, and what callers use of the listing.
 mod Texts
 mod Answers
-mod Asked
+pub mod Asked
 pub mod Reading
 pub mod Bound
+pub mod Totals
 mod Sample

@@ -45,6 +45,10 @@ row file mark number = record { file = file; mark = mark; number = number }
 abbrev line : ℕ → List ℕ → ℕ → List ℕ
 line n mark number = (48 + n) ∷ 32 ∷ mark ++ (32 ∷ refused ++ ((48 + number) ∷ 10 ∷ []))
 
+-- `T`, so many lines, and no root
+abbrev total : ℕ → List ℕ
+total n = 84 ∷ 32 ∷ (48 + n) ∷ 32 ∷ 48 ∷ 32 ∷ 48 ∷ 10 ∷ []
+
 rows : List Row
 rows =
     row (80 ∷ []) unknown 7
@@ -59,16 +63,16 @@ rows =
     ∷ row (pc ++ replicate 79 0) pc 7
     ∷ []
 
-refusals : map (λ (r : Row). listing r.file) rows ≡ map (λ (r : Row). line 1 r.mark r.number) rows
+refusals : map (λ (r : Row). listing r.file) rows ≡ map (λ (r : Row). line 1 r.mark r.number ++ total 1) rows
 unfolding rows listing decimal
 refusals = refl
 
 -- the empty file, and a list of no coefficient before an unknown mark
-empty : listing [] ≡ []
-unfolding listing
+empty : listing [] ≡ total 0
+unfolding listing decimal
 empty = refl
 
-goes_on : listing (pl ++ (replicate 9 0 ++ (88 ∷ 88 ∷ []))) ≡ line 1 pl 2 ++ line 2 unknown 6
+goes_on : listing (pl ++ (replicate 9 0 ++ (88 ∷ 88 ∷ []))) ≡ line 1 pl 2 ++ (line 2 unknown 6 ++ total 2)
 unfolding listing real_roots_of answer_of unscaled_all solve_of counted_by trimmed_of trimmed_from decimal
 goes_on = refl
 

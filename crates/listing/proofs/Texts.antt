@@ -1,7 +1,7 @@
 -- How long the texts of a line are.
 use mathlib.Core.Path.{◌≡◌}
 use mathlib.Core.List.{List, [], ◌∷◌, ◌++◌, flat_map}
-use Prim.Native.Nat.{ℕ, zero, suc, ◌+◌, ◌*◌, ◌<◌, ◌≤◌}
+use Prim.Native.Nat.{ℕ, zero, suc, ◌+◌, ◌*◌, ◌^◌, ◌<◌, ◌≤◌}
 use native.Mathlib.Omega.{arith}
 use lib.ListN.{length, get_or, length-append}
 use lib.Ieee.{Float, binary64, to_bits}
@@ -85,6 +85,9 @@ two_digits {n} h = decimal_length 2 n (omega arith) h
 
 pub five_digits : {n : ℕ} → n < 100000 → length (decimal n) ≤ 5
 five_digits {n} h = decimal_length 5 n (omega arith) h
+
+pub word_length : {n : ℕ} → n < 2 ^ 64 → length (decimal n) ≤ 20
+word_length {n} h = decimal_length 20 n (omega arith) (omega (arith, h))
 
 pub digit_length : {k : ℕ} → k < 8 → length (decimal k) ≤ 1
 digit_length {k} h = decimal_length 1 k (omega arith) (omega (arith, h))

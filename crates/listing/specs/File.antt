@@ -1,9 +1,10 @@
--- The listing of a hall file: one line for each record. Definitions only.
+-- The listing of a hall file: one line for each record, and the closing total. Definitions only.
 use Rattle.std.specs.Prelude.{cond, List, [], ◌++◌, ℕ, zero, suc, ◌+◌, ltb, length}
 use Rattle.records.specs.declared.Kind.TheVariants.{Unknown}
 use Rattle.refusals.specs.declared.Refusal.TheVariants.{FileTooLong}
 use Rattle.records.specs.Records.{ended_of, record_at}
-use Rattle.listing.specs.Lines.{line_of}
+use Rattle.listing.specs.Lines.{line_of, total_text}
+use Rattle.listing.specs.Totals.{total_of}
 
 -- the lines from at on, the first of them the n-th; f is at least as large as the number of bytes that are left
 unfoldable pub lines_from : ℕ → List ℕ → ℕ → ℕ → List ℕ
@@ -14,6 +15,11 @@ lines_from (suc f) s at n =
     cond (ltb at (length s)) (line_of n s at found ++ lines_from f s found.next (n + 1)) []
 
 -- '9, over 65,536 bytes, the only line then being `0 -- refused 9`'
-unfoldable pub listing : List ℕ → List ℕ
+unfoldable pub record_lines : List ℕ → List ℕ
 unfolding lines_from
-listing s = cond (ltb 65536 (length s)) (line_of 0 s 0 (ended_of Unknown FileTooLong s)) (lines_from (length s) s 0 1)
+record_lines s = cond (ltb 65536 (length s)) (line_of 0 s 0 (ended_of Unknown FileTooLong s)) (lines_from (length s) s 0 1)
+
+-- 'An empty file prints only `T 0 0 0`, and an over-long one `T 1 0 0` after its line'
+unfoldable pub listing : List ℕ → List ℕ
+unfolding record_lines total_of total_text
+listing s = record_lines s ++ total_text (total_of s)

@@ -17,6 +17,7 @@ use Rattle.records.specs.declared.Kind.{Kind}
 use Rattle.records.specs.declared.Kind.TheVariants.{Polynomial, Quadratic, Crank, Contact, Formula, Unknown}
 use Rattle.records.specs.declared.Record.{Record}
 use Rattle.records.specs.Marks.{mark_of}
+use Rattle.listing.specs.declared.total.Total.{Total}
 use Rattle.listing.specs.Words.{refused, ok, two, one, linear, degenerate, empty, letter_of}
 use Rattle.listing.specs.Answers.{polynomial_at, quadratic_at, crank_at, contact_at, formula_at}
 
@@ -103,3 +104,7 @@ head_of n kind = decimal n ++ (32 ∷ mark_of kind ++ (32 ∷ []))
 unfoldable pub line_of : ℕ → List ℕ → ℕ → Record → List ℕ
 unfolding head_of words_of
 line_of n s at found = head_of n found.kind ++ (words_of s at found ++ (10 ∷ []))
+
+-- the last line: 'After the last record `hallroots` prints `T`, the number of record lines, the number of roots listed and the sum of their multiplicities'
+unfoldable pub total_text : Total → List ℕ
+total_text t = 84 ∷ 32 ∷ decimal t.records ++ (32 ∷ decimal t.roots ++ (32 ∷ decimal t.multiplicities ++ (10 ∷ [])))

@@ -1,15 +1,19 @@
-// The line of a record, as text.
+// The line of a record, and the last line of a listing, as text.
 ghost use Rattle.std.specs.Prelude.{◌≡◌, ◌^◌, ◌<◌, ◌≤◌, length};
 ghost use Rattle.text.specs.Digits.{decimal};
 ghost use Rattle.refusals.specs.Refusals.{number_of};
+ghost use Rattle.roots.specs.Roots.{no_roots};
 ghost use Rattle.poly.specs.RealRoots.{roots_in};
+ghost use Rattle.crank.specs.Crank.{crank_roots_in};
 ghost use Rattle.text.specs.Written.{Written};
 ghost use Rattle.records.specs.Records.{Whole, Sound};
 ghost use Rattle.listing.specs.Words.{letter_of};
 ghost use Rattle.listing.specs.Lines.{place_text, kind_text, root_text, roots_text, refused_text, polynomial_text, solution_text, quadratic_text, crank_text};
-ghost use Rattle.listing.specs.Lines.{answer_text, words_of, head_of, line_of};
+ghost use Rattle.listing.specs.Lines.{answer_text, words_of, head_of, line_of, total_text};
+ghost use Rattle.listing.specs.Totals.{line_total, listed_at, record_total};
 ghost use Rattle.listing.specs.Printable.{Printable, CrankPrintable};
 
+use crate::total::Total;
 use crank::CrankAnswer;
 use records::{Kind, Record};
 use refusals::Refusal;
@@ -74,23 +78,27 @@ fn put_roots(out: &mut Text, roots: Roots)
 }
 
 #[tactic(auto, using(text::proofs::Laws::written_then, crate::proofs::Texts::number_length), unfolding(crate::specs::Lines::refused_text))]
-fn put_refused(out: &mut Text, refusal: Refusal)
+fn put_refused(out: &mut Text, refusal: Refusal) -> Total
     requires { out.old.at < 2 ^ 32 }
-    ensures { Written out.old (refused_text (number_of refusal)) out.new }
+    ensures text { Written out.old (refused_text (number_of refusal)) out.new }
+    ensures total { result ≡ line_total no_roots }
 {
     out.bytes(b"refused ");
     out.decimal(u32::from(refusal) as u64);
+    Total::LINE
 }
 
 #[tactic(auto, using(text::proofs::Laws::written_then), unfolding(crate::specs::Lines::polynomial_text))]
-fn put_polynomial(out: &mut Text, a: Result<Roots, Refusal>)
+fn put_polynomial(out: &mut Text, a: Result<Roots, Refusal>) -> Total
     requires { (out.old.at < 2 ^ 31) × Printable (roots_in a) }
-    ensures { Written out.old (polynomial_text a) out.new }
+    ensures text { Written out.old (polynomial_text a) out.new }
+    ensures total { result ≡ line_total (roots_in a) }
 {
     match a {
         Ok(roots) => {
             out.bytes(b"ok ");
             put_roots(out, roots);
+            Total::line(&roots)
         }
         Err(refusal) => put_refused(out, refusal),
     }
@@ -121,20 +129,25 @@ fn put_solution(out: &mut Text, solution: QuadraticSolution)
 }
 
 #[tactic(auto, unfolding(crate::specs::Lines::quadratic_text))]
-fn put_quadratic(out: &mut Text, a: Result<QuadraticSolution, Refusal>)
+fn put_quadratic(out: &mut Text, a: Result<QuadraticSolution, Refusal>) -> Total
     requires { out.old.at < 2 ^ 31 }
-    ensures { Written out.old (quadratic_text a) out.new }
+    ensures text { Written out.old (quadratic_text a) out.new }
+    ensures total { result ≡ line_total no_roots }
 {
     match a {
-        Ok(solution) => put_solution(out, solution),
+        Ok(solution) => {
+            put_solution(out, solution);
+            Total::LINE
+        }
         Err(refusal) => put_refused(out, refusal),
     }
 }
 
 #[tactic(auto, using(text::proofs::Laws::written_then, crate::proofs::Texts::digit_length), unfolding(crate::specs::Lines::crank_text))]
-fn put_crank(out: &mut Text, a: Result<CrankAnswer, Refusal>)
+fn put_crank(out: &mut Text, a: Result<CrankAnswer, Refusal>) -> Total
     requires { (out.old.at < 2 ^ 31) × CrankPrintable a }
-    ensures { Written out.old (crank_text a) out.new }
+    ensures text { Written out.old (crank_text a) out.new }
+    ensures total { result ≡ line_total (crank_roots_in a) }
 {
     match a {
         Ok(answer) => {
@@ -143,16 +156,18 @@ fn put_crank(out: &mut Text, a: Result<CrankAnswer, Refusal>)
             out.byte(b' ');
             let roots = answer.roots;
             put_roots(out, roots);
+            Total::line(&roots)
         }
         Err(refusal) => put_refused(out, refusal),
     }
 }
 
-// What the solver answers to the record at `at`, which stands whole.
-#[tactic(auto, using(crate::proofs::Asked::prints), unfolding(crate::specs::Lines::answer_text))]
-fn put_answer(out: &mut Text, s: &[u8], at: usize, kind: Kind)
+// What the solver answers to the record at `at`, which stands whole; its line's total.
+#[tactic(auto, using(crate::proofs::Asked::prints), unfolding(crate::specs::Lines::answer_text, crate::specs::Totals::listed_at))]
+fn put_answer(out: &mut Text, s: &[u8], at: usize, kind: Kind) -> Total
     requires { (out.old.at < 2 ^ 31) × Whole kind s.now at }
-    ensures { Written out.old (answer_text kind s.now at) out.new }
+    ensures text { Written out.old (answer_text kind s.now at) out.new }
+    ensures total { result ≡ line_total (listed_at kind s.now at) }
 {
     match kind {
         Kind::Polynomial => put_polynomial(out, crate::numbers::polynomial_at(s, at)),
@@ -160,7 +175,7 @@ fn put_answer(out: &mut Text, s: &[u8], at: usize, kind: Kind)
         Kind::Crank => put_crank(out, crate::numbers::crank_at(s, at)),
         Kind::Contact => put_polynomial(out, crate::numbers::contact_at(s, at)),
         Kind::Formula => put_polynomial(out, crate::numbers::formula_at(s, at)),
-        Kind::Unknown => {}
+        Kind::Unknown => Total::LINE,
     }
 }
 
@@ -176,10 +191,11 @@ fn put_head(out: &mut Text, n: u64, kind: Kind)
 }
 
 // What stands behind the mark.
-#[tactic(auto, unfolding(crate::specs::Lines::words_of))]
-fn put_words(out: &mut Text, s: &[u8], at: usize, found: Record)
+#[tactic(auto, unfolding(crate::specs::Lines::words_of, crate::specs::Totals::record_total))]
+fn put_words(out: &mut Text, s: &[u8], at: usize, found: Record) -> Total
     requires { (out.old.at < 2 ^ 31) × Sound found s.now at }
-    ensures { Written out.old (words_of s.now at found) out.new }
+    ensures text { Written out.old (words_of s.now at found) out.new }
+    ensures total { result ≡ record_total s.now at found }
 {
     let kind = found.kind;
     match found.refused {
@@ -188,14 +204,31 @@ fn put_words(out: &mut Text, s: &[u8], at: usize, found: Record)
     }
 }
 
-// The n-th line, that of the record at `at`.
+// The n-th line, that of the record at `at`; its total.
 #[tactic(auto, using(crate::proofs::Texts::head_length, crate::proofs::Texts::five_digits, crate::proofs::Asked::words_length))]
-pub fn put_line(out: &mut Text, n: u64, s: &[u8], at: usize, found: Record)
+pub fn put_line(out: &mut Text, n: u64, s: &[u8], at: usize, found: Record) -> Total
     requires { (out.old.at < 2 ^ 30) × ((n < 100000) × Sound found s.now at) }
-    ensures { Written out.old (line_of n s.now at found) out.new }
+    ensures text { Written out.old (line_of n s.now at found) out.new }
+    ensures total { result ≡ record_total s.now at found }
 {
     let kind = found.kind;
     put_head(out, n, kind);
-    put_words(out, s, at, found);
+    let total = put_words(out, s, at, found);
+    out.byte(b'\n');
+    total
+}
+
+// The last line.
+#[tactic(auto, using(crate::proofs::Texts::word_length))]
+pub fn put_total(out: &mut Text, total: Total)
+    requires { out.old.at < 2 ^ 31 }
+    ensures { Written out.old (total_text total) out.new }
+{
+    out.bytes(b"T ");
+    out.decimal(total.records);
+    out.byte(b' ');
+    out.decimal(total.roots);
+    out.byte(b' ');
+    out.decimal(total.multiplicities);
     out.byte(b'\n');
 }

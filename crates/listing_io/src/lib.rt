@@ -13,10 +13,10 @@ use std::io;
 use std::io::Read;
 
 // Room for every listing (`listing_fits`). (An array and a function, as input::buffer.)
-pub fn output_buffer() -> [u8; 524308]
-    ensures { 524308 ≡ length result }
+pub fn output_buffer() -> [u8; 524328]
+    ensures { 524328 ≡ length result }
 {
-    [0; 524308]
+    [0; 524328]
 }
 
 // How many bytes were read, and how many their listing has. (Numbers and no slices: a lent buffer from which the answer borrows has no `.new`, by which the
@@ -28,7 +28,7 @@ pub struct Listed {
 }
 
 // Reads to the end of what `from` gives, or until file is full, and stores the listing of what was read from the start of out on; where a read fails, nothing.
-pub fn list_fd<R: Read>(from: &mut R, file: &mut [u8], out: &mut [u8; 524308]) -> io::Result<Listed>
+pub fn list_fd<R: Read>(from: &mut R, file: &mut [u8], out: &mut [u8; 524328]) -> io::Result<Listed>
     ensures read_in_bounds { IfOk result (λ l. l.read ≤ length file.new) }
     ensures read_bytes { IfOk result (λ l. Consumes (R.remaining from.old) (R.remaining from.new) (take l.read file.new)) }
     ensures read_end { IfOk result (λ l. l.read < length file.new → IsAtEnd (R.remaining from.new)) }

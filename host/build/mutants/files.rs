@@ -421,11 +421,6 @@ pub const ALL: &[Variant] = &[
     (
         "lines end with two bytes",
         "a carriage return too",
-        &[(
-            N,
-            "format!(\"{}\\n\", line(&item, solver))",
-            "format!(\"{}\\r\\n\", line(&item, solver))",
-            1,
-        )],
+        &[(N, "format!(\"{line}\\n\")", "format!(\"{line}\\r\\n\")", 1)],
     ),
 ];

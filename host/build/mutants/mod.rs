@@ -21,6 +21,7 @@ mod scales;
 mod scaling;
 mod solutions;
 mod systems;
+mod totals;
 
 use crate::patches::Variant;
 
@@ -48,6 +49,7 @@ pub fn all() -> Vec<Variant> {
         formula_parts::ALL,
         formula_records::ALL,
         kinds::ALL,
+        totals::ALL,
     ]
     .concat()
 }

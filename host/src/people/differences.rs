@@ -2,11 +2,12 @@
 use crate::compare::bits;
 use crate::people::number::shortest;
 use crate::people::progress::Progress;
-use crate::people::show::{ListFile, answered};
+use crate::people::show::{ListFile, of_records, whole_listing};
 use crate::people::table::{quoted, wrapped};
 use crate::people::{As, marked, question, text};
 use crate::truth::hall_file::{Item, Kind};
-use crate::truth::lister::{Answer, Listed, Reference, Untouched, line};
+use crate::truth::lister::{Answer, Line, Listed, Reference, Total, Untouched, line};
+use crate::truth::listing::lines_and_total;
 
 /// A record and its three answers.
 pub struct Compared {
@@ -16,17 +17,28 @@ pub struct Compared {
     pub untouched: Answer,
 }
 
-/// All records of a file; an error where the port's listing is none of it.
-pub fn compared(bytes: &[u8], list_file: ListFile) -> Result<Vec<Compared>, String> {
-    let records = answered(bytes, list_file)?;
+/// The total at the end of the three listings; that of the port as it is printed.
+pub struct Totals {
+    pub port: Total,
+    pub reference: Total,
+    pub untouched: Total,
+}
+
+/// All records of a file, and the totals; an error where the port's listing is not that of the file.
+pub fn compared(bytes: &[u8], list_file: ListFile) -> Result<(Vec<Compared>, Totals), String> {
+    let (lines, port) = lines_and_total(&whole_listing(bytes, list_file))?;
+    let records = of_records(bytes, lines)?;
     let mut progress = Progress::new("records", records.len());
-    let by_all = |(item, port): (Item, crate::truth::lister::Line)| {
+    let by_all = |(item, port): (Item, Line)| {
         progress.step();
         let reference = line(&item, &Reference).answer;
         let untouched = line(&item, &Untouched).answer;
         Compared { item, port: port.answer, reference, untouched }
     };
-    Ok(records.into_iter().map(by_all).collect())
+    let all: Vec<Compared> = records.into_iter().map(by_all).collect();
+    let reference = Total::of(all.iter().map(|c| &c.reference));
+    let untouched = Total::of(all.iter().map(|c| &c.untouched));
+    Ok((all, Totals { port, reference, untouched }))
 }
 
 /// How many doubles further on y lies; -0 and +0 are neighbours.
@@ -153,16 +165,39 @@ const HEAD: &str = "| departs in | input | untouched Rust | reference build |\n|
 
 const NAMES: &str = "record,byte,input,reference,port,untouched,port departs,untouched departs\n";
 
+impl Totals {
+    /// All three, and which are as that of the reference build.
+    fn text(&self) -> String {
+        let Totals { port, reference, untouched } = self;
+        let told = |total: &Total| match total == reference {
+            true => "the same".to_string(),
+            false => total.to_string(),
+        };
+        let (port, untouched) = (told(port), told(untouched));
+        wrapped(&format!(
+            "total: reference build {reference}, port {port}, untouched Rust {untouched}"
+        ))
+    }
+}
+
 /// What a comparison found, for people.
 pub struct Report {
     pub text: String,
-    pub port_differs: usize,
+    /// In how many records the port differs from the reference build, and whether in the total.
+    pub records_differ: usize,
+    pub total_differs: bool,
     pub summary: String,
+}
+
+impl Report {
+    pub fn equal(&self) -> bool {
+        self.records_differ == 0 && !self.total_differs
+    }
 }
 
 /// The records that differ; as rows the untouched Rust's departures, as CSV all records.
 pub fn report(bytes: &[u8], list_file: ListFile, how: As) -> Result<Report, String> {
-    let all = compared(bytes, list_file)?;
+    let (all, totals) = compared(bytes, list_file)?;
     let count = |is: fn(&Compared) -> bool| all.iter().filter(|c| is(c)).count();
     let text = match how {
         As::Rows => HEAD.to_string() + &all.iter().filter_map(Compared::row).collect::<String>(),
@@ -179,12 +214,14 @@ pub fn report(bytes: &[u8], list_file: ListFile, how: As) -> Result<Report, Stri
         format!("{name}: {} equal to the reference build, {differ} not", n - differ)
     };
     let summary = format!(
-        "{n} records: {} answered, {refused} refused\n{}\n{}",
+        "{n} records: {} answered, {refused} refused\n{}\n{}\n{}",
         n - refused,
         line("port", port_differs),
-        line("untouched Rust", departures)
+        line("untouched Rust", departures),
+        totals.text().trim_end()
     );
-    Ok(Report { text, port_differs, summary })
+    let total_differs = totals.port != totals.reference;
+    Ok(Report { text, records_differ: port_differs, total_differs, summary })
 }
 
 #[cfg(test)]
@@ -221,6 +258,15 @@ mod tests {
         len as u64
     }
 
+    /// The same with another count of the roots in the total alone.
+    fn miscounting(bytes: &[u8], out: &mut [u8]) -> u64 {
+        let len = honest(bytes, out);
+        let text =
+            String::from_utf8_lossy(&out[..len as usize]).replace("\nT 3 4 5\n", "\nT 3 5 5\n");
+        out[..text.len()].copy_from_slice(text.as_bytes());
+        len
+    }
+
     const TEXT: &str = "list 2^-30 2 -3 1\nlist 2^-30 -18 21 -8 1\nquad 2^-30 2^-30 1 -3 2\n";
 
     fn sample() -> Vec<u8> {
@@ -230,7 +276,7 @@ mod tests {
     #[test]
     fn only_what_differs_is_shown() {
         let found = report(&sample(), honest, As::Text).unwrap();
-        assert_eq!(found.port_differs, 0);
+        assert!(found.equal() && found.records_differ == 0);
         let text = "\
 record 2 at byte 35: list 2^-30 -18 21 -8 1
   x^3 - 8 x^2 + 21 x - 18 = 0
@@ -245,7 +291,8 @@ record 2 at byte 35: list 2^-30 -18 21 -8 1
         assert_eq!(found.text, text);
         let summary = "3 records: 3 answered, 0 refused\n\
                        port: 3 equal to the reference build, 0 not\n\
-                       untouched Rust: 2 equal to the reference build, 1 not";
+                       untouched Rust: 2 equal to the reference build, 1 not\n\
+                       total: reference build T 3 4 5, port the same, untouched Rust the same";
         assert_eq!(found.summary, summary);
         let rows = report(&sample(), honest, As::Rows).unwrap().text;
         let (untouched, reference) = ("4007FFFFFFFFFFFE 2 f", "4008000000000002 2 f");
@@ -269,9 +316,35 @@ record 2 at byte 35: list 2^-30 -18 21 -8 1
     #[test]
     fn a_wrong_port_is_found() {
         let found = report(&sample(), lying, As::Text).unwrap();
-        assert_eq!(found.port_differs, 1);
+        assert!((found.records_differ, found.total_differs) == (1, false) && !found.equal());
         assert!(found.text.contains("  port       ok  [bits, steps 0 3]\n"), "{}", found.text);
         assert!(found.summary.contains("port: 2 equal to the reference build, 1 not"));
+    }
+
+    #[test]
+    fn a_wrong_total_is_found() {
+        for how in [As::Text, As::Csv, As::Rows] {
+            let found = report(&sample(), miscounting, how).unwrap();
+            assert!((found.records_differ, found.total_differs) == (0, true) && !found.equal());
+            assert_eq!(found.text, report(&sample(), honest, how).unwrap().text);
+            let line = "\ntotal: reference build T 3 4 5, port T 3 5 5, untouched Rust the same";
+            assert!(found.summary.ends_with(line), "{}", found.summary);
+        }
+    }
+
+    /// Also where the total is not that of the port's own lines.
+    #[test]
+    fn a_wrong_multiplicity_is_found() {
+        let three: ListFile = |bytes, out| {
+            let len = honest(bytes, out);
+            let at = out.windows(6).position(|part| part == b"2 2 f\n").expect("a double root");
+            out[at + 2] = b'3';
+            len
+        };
+        let found = report(&sample(), three, As::Text).unwrap();
+        assert_eq!((found.records_differ, found.total_differs), (1, false));
+        assert!(found.text.starts_with("record 2 at byte 35: "), "{}", found.text);
+        assert!(found.text.contains("  port       ok  [multiplicity]\n"), "{}", found.text);
     }
 
     #[test]

@@ -6,15 +6,19 @@ hall make < TEXT > FILE   write a hall file from lines of text, one record each.
                           and word, of a formula with a mark under the character, and then nothing
                           is written
 hall list [FILE]          the listing of a hall file, or of standard input, by the proved lister, as
-                          the program hallroots prints it. Status 1 where the file is not read to
-                          its end, which is a refusal under 6, 7, 8 or 9
+                          the program hallroots prints it: a line for each record, and at the end
+                          `T`, how many lines these are, how many roots they list, and how often the
+                          roots count together. Status 1 where the file is not read to its end,
+                          which is a refusal under 6, 7, 8 or 9
 hall show [FILE] [--csv]  the same for people: each record's equation, a formula multiplied out or
                           with marks under what is wrong in it, places as decimals and bits, how
                           often each counts and its kind, a crank's roots by their angle t from
                           0 to 360 degrees, and in radians (t is k * 45 degrees + 2 atan u), at a
                           contact the ball's place and its distance from the circle, refusals in
                           words with the byte of their record, and places at which exact arithmetic
-                          finds no root marked `doubtful`; with --csv as comma-separated values
+                          finds no root marked `doubtful`; at the end how many records and roots
+                          there are in all, and how often the roots count together; with --csv as
+                          comma-separated values, which have no total
 hall explain FILE         why roots are doubtful, with the numbers, and what to do about it: the
                           records that have such, or that there are none. FILE may be `-`
 hall explain FILE RECORD  the same of one record, whatever it is
@@ -27,9 +31,9 @@ hall draw FILE RECORD     a picture of one record and its answer, in SVG, on sta
 hall text [FILE]          write a hall file back as lines of text, of which `hall make` makes the
                           same file. Status 1 where the file is not read to its end
 hall compare FILE [--csv] each record by port, reference build and untouched Rust; prints those that
-                          differ, places with their distance in doubles, and how many were answered,
-                          refused and equal; with --csv all records. Status 1 where port and
-                          reference build differ, 2 where nothing was compared
+                          differ, places with their distance in doubles, how many were answered,
+                          refused and equal, and the three totals; with --csv all records. Status 1
+                          where port and reference build differ, 2 where nothing was compared
 hall compare FILE --differences
                           the untouched Rust's departures as rows of a table
 hall random N SEED        a hall file of N made records on standard output; the same SEED makes the

@@ -143,8 +143,9 @@ fn make() -> Outcome {
 
 fn show(file: &str, csv: bool) -> Outcome {
     let bytes = bytes_of(file)?;
-    let all = shown(&bytes, port::list_file).or_else(|e| failed(format!("{file}: {e}")))?;
-    let text = if csv { table::csv(&all) } else { table::table(&all) };
+    let (all, total) =
+        shown(&bytes, port::list_file).or_else(|e| failed(format!("{file}: {e}")))?;
+    let text = if csv { table::csv(&all) } else { table::table(&all, total) };
     emit(text.as_bytes()).map(|()| ExitCode::SUCCESS)
 }
 
@@ -159,7 +160,7 @@ fn of_number<'a>(file: &str, all: &'a [Shown], number: u64) -> Result<&'a Shown,
 fn explain(file: &str, record: Option<&str>) -> Outcome {
     let number = record.map(whole).transpose()?;
     let bytes = bytes_of(file)?;
-    let all = shown(&bytes, port::list_file).or_else(|e| failed(format!("{file}: {e}")))?;
+    let (all, _) = shown(&bytes, port::list_file).or_else(|e| failed(format!("{file}: {e}")))?;
     let text = match number {
         None => explain::doubtful(&all),
         Some(n) => explain::named(of_number(file, &all, n)?),
@@ -170,7 +171,7 @@ fn explain(file: &str, record: Option<&str>) -> Outcome {
 fn draw(file: &str, record: &str) -> Outcome {
     let number = whole(record)?;
     let bytes = bytes_of(file)?;
-    let all = shown(&bytes, port::list_file).or_else(|e| failed(format!("{file}: {e}")))?;
+    let (all, _) = shown(&bytes, port::list_file).or_else(|e| failed(format!("{file}: {e}")))?;
     let picture = draw::drawn(of_number(file, &all, number)?)
         .or_else(|why| failed(format!("{}: record {number} is not drawn: {why}", name(file))))?;
     emit(picture.as_bytes()).map(|()| ExitCode::SUCCESS)
@@ -244,7 +245,7 @@ fn compare(file: &str, how: As) -> Outcome {
             emit(found.text.as_bytes())?;
         }
     }
-    Ok(if found.port_differs == 0 { ExitCode::SUCCESS } else { ExitCode::FAILURE })
+    Ok(if found.equal() { ExitCode::SUCCESS } else { ExitCode::FAILURE })
 }
 
 /// Why a file has no whole record.

@@ -4,7 +4,8 @@ use crate::people::{mistyped, question};
 use crate::truth::formula::{self, Fault};
 use crate::truth::hall_file::{Item, Kind, MOST_LISTED, Record, items};
 use crate::truth::kind;
-use crate::truth::lister::{Answer, Line, Listed, Solution, lines};
+use crate::truth::lister::{Answer, Line, Listed, Solution, Total};
+use crate::truth::listing::lines;
 use crate::truth::refusals::in_words;
 use std::cmp::Ordering;
 
@@ -24,9 +25,15 @@ pub fn whole_listing(bytes: &[u8], list_file: ListFile) -> Vec<u8> {
     out
 }
 
-/// What a file holds, and the lister's lines; an error where these are not a line for each record.
+/// What a file holds, and the lister's lines; an error where these are not a line for each record
+/// and their total.
 pub fn answered(bytes: &[u8], list_file: ListFile) -> Result<Vec<(Item, Line)>, String> {
-    let (items, lines) = (items(bytes), lines(&whole_listing(bytes, list_file))?);
+    of_records(bytes, lines(&whole_listing(bytes, list_file))?)
+}
+
+/// What a file holds, each with its line.
+pub fn of_records(bytes: &[u8], lines: Vec<Line>) -> Result<Vec<(Item, Line)>, String> {
+    let items = items(bytes);
     let same = |(item, line): (&Item, &Line)| item.number == line.number && item.kind == line.kind;
     if items.len() != lines.len() || !items.iter().zip(&lines).all(same) {
         let (n, m) = (lines.len(), items.len());
@@ -85,10 +92,12 @@ pub struct Ball {
     pub beyond: f64,
 }
 
-/// All records of a file; an error where the lister's lines are not those of its records.
-pub fn shown(bytes: &[u8], list_file: ListFile) -> Result<Vec<Shown>, String> {
+/// All records of a file, and the total; an error where the listing is not that of the file.
+pub fn shown(bytes: &[u8], list_file: ListFile) -> Result<(Vec<Shown>, Total), String> {
     let all = answered(bytes, list_file)?;
-    Ok(all.into_iter().map(|(item, line)| shown_record(bytes, item, &line)).collect())
+    let total = Total::of(all.iter().map(|(_, line)| &line.answer));
+    let shown = all.into_iter().map(|(item, line)| shown_record(bytes, item, &line));
+    Ok((shown.collect(), total))
 }
 
 fn shown_record(bytes: &[u8], item: Item, line: &Line) -> Shown {
@@ -231,13 +240,17 @@ mod tests {
     #[test]
     fn listings_that_do_not_fit_the_file() {
         fn lie(_: &[u8], out: &mut [u8]) -> u64 {
-            let line = b"1 PL ok 0\n";
-            out[..line.len()].copy_from_slice(line);
-            line.len() as u64
+            let listing = b"1 PL ok 0\nT 1 0 0\n";
+            out[..listing.len()].copy_from_slice(listing);
+            listing.len() as u64
+        }
+        fn lie_of_nothing(_: &[u8], _: &mut [u8]) -> u64 {
+            0
         }
         assert!(answered(b"PL\0\0\0\0\0\0\0\0\0", lie).is_ok());
         assert!(answered(b"", lie).is_err());
         assert!(answered(b"XX", lie).is_err());
+        assert!(answered(b"", lie_of_nothing).is_err());
     }
 
     #[cfg(geomcore)]

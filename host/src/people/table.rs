@@ -4,6 +4,7 @@ use crate::people::number::shortest;
 use crate::people::show::{Ball, Place, Shown, nine_decimals};
 use crate::people::{marked, mistyped, question};
 use crate::truth::hall_file::Record;
+use crate::truth::lister::Total;
 
 /// No line is longer, but for a word that is.
 pub const COLUMNS: usize = 100;
@@ -27,16 +28,34 @@ enum Row {
     Lines(String),
 }
 
-/// For each record its question, and then a row for each root, or one that says why there is none.
-pub fn table(all: &[Shown]) -> String {
-    if all.is_empty() {
-        return EMPTY.to_string();
-    }
-    let mut text = laid_out(&all.iter().flat_map(rows).collect::<Vec<_>>());
+/// For each record its question, and then a row for each root, or one that says why there is none;
+/// at the end the total.
+pub fn table(all: &[Shown], total: Total) -> String {
+    let mut text = match all {
+        [] => EMPTY.to_string(),
+        _ => laid_out(&all.iter().flat_map(rows).collect::<Vec<_>>()),
+    };
+    text += &wrapped(&in_all(all, total));
     if all.iter().any(Shown::doubtful) {
         text += &wrapped(DOUBTS);
     }
     text
+}
+
+/// The total in words.
+fn in_all(all: &[Shown], total: Total) -> String {
+    let count = |n: usize, word: &str| format!("{n} {word}{}", if n == 1 { "" } else { "s" });
+    let [records, roots] =
+        [(total.records, "record"), (total.roots, "root")].map(|(n, w)| count(n, w));
+    let times = match (total.roots, total.multiplicities) {
+        (0, _) => String::new(),
+        (1, 1) => ", which counts once".to_string(),
+        (1, n) => format!(", which counts {n} times"),
+        (_, n) => format!(", which together count {n} times"),
+    };
+    let unlisted = all.iter().flat_map(|shown| &shown.roots).any(|root| !root.listed);
+    let beside = if unlisted { ", not counting the places of quads" } else { "" };
+    format!("in all: {records}, {roots}{times}{beside}")
 }
 
 /// The record's number and kind, its tolerances and its question, in lines; marks stand under what
@@ -210,6 +229,17 @@ mod tests {
         let one = "w".repeat(150);
         assert_eq!(wrapped(&one), format!("{one}\n"));
         assert_eq!(wrapped(&format!("a {one} b")), format!("a\n    {one}\n    b\n"));
+    }
+
+    #[test]
+    fn totals_in_words() {
+        let told =
+            |records, roots, multiplicities| in_all(&[], Total { records, roots, multiplicities });
+        assert_eq!(told(0, 0, 0), "in all: 0 records, 0 roots");
+        assert_eq!(told(1, 0, 0), "in all: 1 record, 0 roots");
+        assert_eq!(told(1, 1, 1), "in all: 1 record, 1 root, which counts once");
+        assert_eq!(told(2, 1, 4), "in all: 2 records, 1 root, which counts 4 times");
+        assert_eq!(told(1, 2, 2), "in all: 1 record, 2 roots, which together count 2 times");
     }
 
     #[test]

@@ -9,7 +9,7 @@ use crate::people::text;
 use crate::port;
 use crate::runs::parts;
 use crate::truth::hall_file::{Item, Kind, MOST_BYTES, MOST_LISTED, file, items};
-use crate::truth::lister::{Answer, Line, Reference, line};
+use crate::truth::lister::{Answer, Line, Reference, Total, line};
 use std::fmt::Write;
 
 /// Of the records of all files.
@@ -71,7 +71,7 @@ impl Files {
     /// that this one went.
     pub(super) fn add(&mut self, bytes: &[u8], mut each: impl FnMut(&Item, &Line, &Counts)) {
         let items = items(bytes);
-        let mut wanted = String::new();
+        let (mut wanted, mut answers) = (String::new(), Vec::with_capacity(items.len()));
         for item in &items {
             let before = ways::counts();
             let line = line(item, &Reference);
@@ -80,7 +80,9 @@ impl Files {
             let listed = line.answer.roots().into_iter().filter_map(|(_, listed)| listed);
             self.outcome.add_roots(listed.map(|(_, kind)| kind));
             each(item, &line, &ways::since(&before));
+            answers.push(line.answer);
         }
+        writeln!(wanted, "{}", Total::of(answers.iter())).expect("a line");
         let len = wanted.len();
         self.out[..len + UNTOUCHED.len()].fill(UNTOUCHED[0]);
         let given = (self.port)(bytes, &mut self.out);
@@ -97,7 +99,7 @@ impl Files {
     }
 }
 
-/// The first line that differs, and its record; else the lengths.
+/// The first line that differs, and its record or that it is the total; else the lengths.
 fn difference(bytes: &[u8], items: &[Item], wanted: &[u8], out: &[u8], given: u64) -> String {
     let lines = |text: &[u8]| -> Vec<String> {
         text.split(|b| *b == b'\n').map(|l| String::from_utf8_lossy(l).into_owned()).collect()
@@ -107,11 +109,12 @@ fn difference(bytes: &[u8], items: &[Item], wanted: &[u8], out: &[u8], given: u6
     let Some(n) = port.iter().zip(&reference).position(|(a, b)| a != b) else {
         return format!("{len} bytes: {given} by the port, {} by the reference", wanted.len());
     };
-    let record = match items.get(n).map(|item| &item.record) {
+    let what = match items.get(n).map(|item| &item.record) {
         Some(Ok(record)) => text::line(record),
-        _ => "no whole record".to_string(),
+        Some(Err(_)) => "no whole record".to_string(),
+        None => "the total".to_string(),
     };
-    format!("{len} bytes, line {}: {record}: port {}, reference {}", n + 1, port[n], reference[n])
+    format!("{len} bytes, line {}: {what}: port {}, reference {}", n + 1, port[n], reference[n])
 }
 
 /// The kinds of files.
@@ -212,6 +215,13 @@ mod tests {
         assert!(
             said(another_kind)[0].starts_with("138 bytes, line 1: list 2^-30 2 -3 1: port 1 PL")
         );
+        let another_total: ListFile = |bytes, out| {
+            let len = port::list_file(bytes, out);
+            out[len as usize - 2] += 1;
+            len
+        };
+        let wanted = "138 bytes, line 5: the total: port T 4 4 5, reference T 4 4 4";
+        assert_eq!(said(another_total), [wanted]);
         let shorter: ListFile = |bytes, out| port::list_file(bytes, out) - 1;
         assert_eq!(said(shorter).len(), 1);
         let a_byte_more: ListFile = |bytes, out| {

@@ -5,7 +5,7 @@ use crate::inputs::quadratics::TOL;
 use crate::inputs::random::Random;
 use crate::people::progress::Progress;
 use crate::people::text;
-use crate::stored::telling;
+use crate::stored::{telling, totals};
 use crate::truth::hall_file::{MOST_BYTES, Record, file};
 use crate::truth::lister::{Reference, listing};
 use std::fs;
@@ -33,6 +33,7 @@ pub const DOCUMENT_LISTING: &str = "\
 3 QD two 3FF0000000000000 4000000000000000
 4 TG ok 4 2 BFF0000000000000 1 c 3FF0000000000000 1 c
 5 -- refused 6
+T 5 4 4
 ";
 
 /// Document 01, 'Entries'.
@@ -223,7 +224,7 @@ fn contacts() -> Vec<u8> {
     [of_text(CONTACTS), file(&telling.collect::<Vec<_>>())].concat()
 }
 
-fn formula(text: impl Into<Vec<u8>>) -> Record {
+pub(super) fn formula(text: impl Into<Vec<u8>>) -> Record {
     Record::Formula { tolerance: TOL, text: text.into() }
 }
 
@@ -257,7 +258,7 @@ fn deep_brackets() -> Vec<u8> {
 }
 
 /// The bytes of a text's records.
-fn of_text(lines: &str) -> Vec<u8> {
+pub(super) fn of_text(lines: &str) -> Vec<u8> {
     let records = text::read(lines.as_bytes()).unwrap_or_else(|e| panic!("{e}"));
     file(&records)
 }
@@ -314,9 +315,9 @@ fn long_lists() -> Vec<u8> {
     file(&all)
 }
 
-type Named = (String, Vec<u8>);
+pub(super) type Named = (String, Vec<u8>);
 
-fn named(name: &str, bytes: impl Into<Vec<u8>>) -> Named {
+pub(super) fn named(name: &str, bytes: impl Into<Vec<u8>>) -> Named {
     (name.to_string(), bytes.into())
 }
 
@@ -412,6 +413,7 @@ pub fn files() -> Vec<Named> {
     all.extend(ends());
     all.extend(cuts());
     all.extend(made());
+    all.extend(totals::files());
     all
 }
 

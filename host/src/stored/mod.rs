@@ -3,3 +3,5 @@
 pub mod files;
 pub mod leaves;
 pub mod telling;
+#[cfg(geomcore)]
+pub mod totals;

@@ -7,8 +7,8 @@ use crate::truth::refusals;
 /// A longer file is refused whole.
 pub const MOST_BYTES: usize = 65_536;
 
-/// No listing has more bytes.
-pub const MOST_LISTED: usize = 8 * MOST_BYTES + 20;
+/// No listing has more bytes: so many for its lines, and 20 for the total.
+pub const MOST_LISTED: usize = 8 * MOST_BYTES + 20 + 20;
 
 /// A record with a higher count ends the reading.
 pub const MOST_COEFFICIENTS: usize = 32;

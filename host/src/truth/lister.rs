@@ -1,5 +1,5 @@
-//! The host's own lister: the bytes of a hall file to the bytes of its listing, as document 01 says,
-//! over any solver. Nothing here calls the port.
+//! The host's own lister: the bytes of a hall file to the bytes of its listing, as documents 01 and 02
+//! say, over any solver. Nothing here calls the port.
 use crate::compare::bits;
 use crate::truth::formula;
 use crate::truth::hall_file::{Item, Kind, Record, items};
@@ -118,10 +118,42 @@ impl fmt::Display for Line {
     }
 }
 
-/// The listing of a file.
+/// What the last line of a listing counts: its other lines, the roots that these list, and how often
+/// the roots count. The places of a quadratic are no roots.
+#[derive(Clone, Copy, Debug, Default, PartialEq)]
+pub struct Total {
+    pub records: usize,
+    pub roots: usize,
+    pub multiplicities: u64,
+}
+
+impl Total {
+    /// That of the lines with these answers.
+    pub fn of<'a>(answers: impl Iterator<Item = &'a Answer>) -> Total {
+        let mut total = Total::default();
+        for answer in answers {
+            let listed = answer.roots().into_iter().filter_map(|(_, listed)| listed);
+            let times: Vec<u64> = listed.map(|(times, _)| times.into()).collect();
+            total.records += 1;
+            total.roots += times.len();
+            total.multiplicities += times.iter().sum::<u64>();
+        }
+        total
+    }
+}
+
+impl fmt::Display for Total {
+    fn fmt(&self, f: &mut fmt::Formatter) -> fmt::Result {
+        write!(f, "T {} {} {}", self.records, self.roots, self.multiplicities)
+    }
+}
+
+/// The listing of a file: a line for each record, and their total.
 pub fn listing(bytes: &[u8], solver: &impl Solver) -> Vec<u8> {
-    let lines = items(bytes).into_iter().map(|item| format!("{}\n", line(&item, solver)));
-    lines.collect::<String>().into_bytes()
+    let lines: Vec<Line> = items(bytes).iter().map(|item| line(item, solver)).collect();
+    let text: String = lines.iter().map(|line| format!("{line}\n")).collect();
+    let total = Total::of(lines.iter().map(|line| &line.answer));
+    format!("{text}{total}\n").into_bytes()
 }
 
 /// The line of what a file holds at one place.
@@ -200,69 +232,6 @@ pub fn refusal(coeffs: &[f64]) -> u8 {
     }
 }
 
-/// The lines of a listing that another lister wrote, or the first that is none.
-pub fn lines(listing: &[u8]) -> Result<Vec<Line>, String> {
-    let text = std::str::from_utf8(listing).map_err(|e| format!("the listing is no text: {e}"))?;
-    if !(text.is_empty() || text.ends_with('\n')) {
-        return Err("the listing's last line has no end".to_string());
-    }
-    let read =
-        |line: &str| read_line(line).ok_or_else(|| format!("no line of a listing: `{line}`"));
-    text.lines().map(read).collect()
-}
-
-/// A line that prints as this text.
-fn read_line(text: &str) -> Option<Line> {
-    let words: Vec<&str> = text.split(' ').collect();
-    let [number, mark, ref rest @ ..] = words[..] else {
-        return None;
-    };
-    let kind = Kind::of_mark(mark.as_bytes());
-    let line = Line { number: number.parse().ok()?, kind, answer: read_answer(kind, rest)? };
-    (line.to_string() == text).then_some(line)
-}
-
-fn read_answer(kind: Option<Kind>, words: &[&str]) -> Option<Answer> {
-    match (kind, words) {
-        (_, ["refused", n]) => Some(Answer::Refused(n.parse().ok()?)),
-        (Some(Kind::List | Kind::Contact | Kind::Formula), ["ok", _, roots @ ..]) => {
-            Some(Answer::List(read_roots(roots)?))
-        }
-        (Some(Kind::Crank), ["ok", k, _, roots @ ..]) => {
-            Some(Answer::Crank(k.parse().ok()?, read_roots(roots)?))
-        }
-        (Some(Kind::Quadratic), [word, places @ ..]) => {
-            let places = places.iter().map(|p| read_place(p)).collect::<Option<Vec<f64>>>()?;
-            let solution = match (*word, &places[..]) {
-                ("two", &[x, y]) => Solution::Two(x, y),
-                ("one", &[x]) => Solution::One(x),
-                ("linear", &[x]) => Solution::Linear(x),
-                ("degenerate", []) => Solution::Degenerate,
-                ("empty", []) => Solution::Empty,
-                _ => return None,
-            };
-            Some(Answer::Quadratic(solution))
-        }
-        _ => None,
-    }
-}
-
-fn read_place(word: &str) -> Option<f64> {
-    u64::from_str_radix(word, 16).ok().map(f64::from_bits)
-}
-
-fn read_roots(words: &[&str]) -> Option<Vec<Root>> {
-    let root = |words: &[&str]| match words {
-        [place, times, letter] => Some(Root {
-            value: read_place(place)?,
-            multiplicity: times.parse().ok()?,
-            kind: kind::Kind::of_letter(letter)?,
-        }),
-        _ => None,
-    };
-    words.chunks(3).map(root).collect()
-}
-
 /// The reference build of document 01.
 #[cfg(geomcore)]
 pub struct Reference;
@@ -312,53 +281,6 @@ solver!(Untouched, untouched, touching::untouched::crank, touching::untouched::l
 #[cfg(test)]
 mod tests {
     use super::*;
-
-    #[test]
-    fn lines_read_back() {
-        let text = "1 PL ok 2 3FF0000000000000 1 c 4000000000000000 1 c\n2 PL refused 2\n\
-                    3 QD two 3FF0000000000000 4000000000000000\n4 QD degenerate\n\
-                    5 TG ok 4 2 BFF0000000000000 1 c 3FF0000000000000 1 c\n6 TG ok 7 0\n\
-                    7 PC ok 2 BFF0000000000000 2 b 3FF0000000000000 2 f\n8 PC refused 11\n\
-                    9 TX ok 1 4000000000000000 2 f\n10 TX refused 13\n11 TX ok 0\n\
-                    12 -- refused 6\n";
-        let read = lines(text.as_bytes()).unwrap();
-        assert_eq!(read.iter().map(|line| format!("{line}\n")).collect::<String>(), text);
-        assert_eq!(lines(b""), Ok(vec![]));
-    }
-
-    #[test]
-    fn lines_that_are_none() {
-        let texts = [
-            "1 PL ok 0",
-            "\n",
-            "1\n",
-            "1 PL\n",
-            "01 PL ok 0\n",
-            "1 PL ok 1\n",
-            "1 PL  ok 0\n",
-            "1 PL ok 1 3ff0000000000000 1 c\n",
-            "1 PL ok 1 3FF0000000000000\n",
-            "1 PL ok 1 3FF0000000000000 1\n",
-            "1 PL ok 1 3FF0000000000000 1 C\n",
-            "1 PL ok 1 3FF0000000000000 1 cc\n",
-            "1 PL ok 1 3FF0000000000000 c 1\n",
-            "1 XX ok 0\n",
-            "1 QD two 3FF0000000000000\n",
-            "1 QD ok 0\n",
-            "1 PL refused\n",
-            "1 -- ok 0\n",
-            "1 TG ok 0\n",
-            "1 PC ok 4 0\n",
-            "1 TX ok 4 0\n",
-            "1 TX 13\n",
-            "1 PL refused 300\n",
-            "1 QD three\n",
-        ];
-        for text in texts {
-            assert!(lines(text.as_bytes()).is_err(), "{text:?}");
-        }
-        assert!(lines(b"\xFF\n").is_err());
-    }
 
     #[test]
     fn refusals_of_lists() {
