@@ -45,12 +45,12 @@ fn all_equal(name: &str, outcome: &Outcome) {
 
 #[test]
 fn made_files_first() {
-    all_equal("made files, seed 731", &made(731, 170_000));
+    all_equal("made files, seed 731", &made(731, 480_000));
 }
 
 #[test]
 fn made_files_second() {
-    all_equal("made files, seed 732", &made(732, 170_000));
+    all_equal("made files, seed 732", &made(732, 480_000));
 }
 
 #[test]
