@@ -119,7 +119,7 @@ struct pongewaru_coefficients {
     double c[5];
 };
 
-/* No listing is longer. It has a line for each record, and then the total, `T` and three numbers: of lines, of roots, and the sum of the multiplicities. */
+/* No listing is longer. */
 #define PONGEWARU_LISTING_MOST 524328
 
 /* ---- First part: libpongewaru.a */
@@ -166,7 +166,8 @@ uint64_t pongewaru_shifted(uint32_t n, double x, double y, double t0, void *out,
 /* The same solution, but one place, `vertex`, where it is two or empty, `vertex` is finite and `touches` is not 0. Stores pongewaru_solution. */
 uint64_t pongewaru_touching_at(uint32_t n, double x, double y, double vertex, uint32_t touches, void *out, size_t out_len);
 
-/* Stores the listing of a hall file, as far as `out` reaches, and returns the whole listing's size: lend PONGEWARU_LISTING_MOST bytes. */
+/* Stores the listing of a hall file: a line for each record, and last `T`, the number of these lines, that of their roots and the sum of the multiplicities; as
+ * far as `out` reaches. Returns the whole listing's size: lend PONGEWARU_LISTING_MOST bytes. */
 uint64_t pongewaru_list_file(const void *file, size_t file_len, void *out, size_t out_len);
 
 /* ---- Second part: the layers below, each in an archive of its own, for comparing them with other implementations; a controller needs none of them.

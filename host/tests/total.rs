@@ -7,6 +7,7 @@ use host::inputs::random::Random;
 use host::people::show::whole_listing;
 use host::people::text::read;
 use host::port;
+use host::stored::files::files;
 use host::stored::totals::{self, COUNTED};
 use host::truth::hall_file::{MOST_BYTES, MOST_LISTED, Record, file};
 use host::truth::lister::{Reference, listing};
@@ -125,9 +126,11 @@ fn cut_short() {
         assert_eq!(listed(end), format!("1 {line}\nT 1 0 0\n"));
         let both = listed(&[&before[..], end].concat());
         assert!(both.ends_with(&format!("\n4 {line}\nT 4 3 5\n")), "{both}");
-        // what comes behind is not read
-        let after = listed(&[&before[..], b"XX", &before].concat());
-        assert!(after.ends_with("\n4 -- refused 6\nT 4 3 5\n"), "{after}");
+    }
+    // what comes behind is not read
+    for (end, line) in [(&b"XX"[..], "-- refused 6"), (b"PL\x21", "PL refused 8")] {
+        let after = listed(&[&before[..], end, &before].concat());
+        assert!(after.ends_with(&format!("\n4 {line}\nT 4 3 5\n")), "{after}");
     }
 }
 
@@ -178,6 +181,10 @@ fn made_files() {
     for _ in 0..20_000 {
         let listing = listed(&any_file(&mut r));
         assert!(listing.ends_with(&format!("{}\n", by_hand(&listing))), "{listing}");
+    }
+    for (name, bytes) in files() {
+        let listing = listed(&bytes);
+        assert!(listing.ends_with(&format!("{}\n", by_hand(&listing))), "{name}");
     }
     let listing = listed(&of_text(COUNTED));
     assert_eq!(by_hand(&listing), "T 40 30 45");

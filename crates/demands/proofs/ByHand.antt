@@ -19,10 +19,11 @@ use Rattle.listing.specs.Totals.{no_total, line_total, plus, record_total, total
 use Rattle.listing.specs.File.{lines_from, record_lines, listing}
 use Rattle.listing.proofs.Totals.{same_total, total_fits}
 use Rattle.demands.specs.Example.{ascii}
-use Rattle.demands.specs.ByHand.{parted, lines, words, word, before_last, same, like_list, like_crank, root_words, roots_said, multiplicities_said}
+use Rattle.demands.specs.ByHand.{cut_at, lines, words, word, before_last, same, like_list, like_crank, root_words, roots_said, multiplicities_said}
 use Rattle.demands.specs.ByHand.{line_roots, line_multiplicities, roots_on, multiplicities_on, closing_line}
 use Rattle.demands.proofs.Parted.{part_then, above_append}
-use Rattle.demands.proofs.Said.{body, body_told, line_parted, digits_plain}
+use Rattle.demands.specs.Demands.{record_line}
+use Rattle.demands.proofs.Said.{line_told, line_parted, digits_plain}
 
 -- ---- the lines of all records
 -- these lines have this total, and none of them is one
@@ -30,27 +31,27 @@ record Tells (ls : List (List ℕ)) (t : Total) : Type 0 where
   count : length ls ≡ t.records
   roots : roots_on ls ≡ t.roots
   sum : multiplicities_on ls ≡ t.multiplicities
-  no_total : AllOf (λ (l : List ℕ). same (word 0 l) (ascii "T") ≡ false) ls
+  not_a_total : AllOf (λ (l : List ℕ). same (word 0 l) (ascii "T") ≡ false) ls
 
 tells_none : Tells [] no_total
-tells_none = record { count = refl; roots = refl; sum = refl; no_total = tt }
+tells_none = record { count = refl; roots = refl; sum = refl; not_a_total = tt }
 
 tells_line : (n : ℕ) (s : List ℕ) (at : ℕ) (found : Record) (ls : List (List ℕ)) (t : Total) → Tells ls t
-    → Tells (body n s at found ∷ ls) (plus (record_total s at found) t)
+    → Tells (record_line n s at found ∷ ls) (plus (record_total s at found) t)
 unfolding record_total
 tells_line n s at found ls t h =
-    let told = body_told n s at found in record {
+    let told = line_told n s at found in record {
       count = omega (arith, h.count);
       roots = omega (arith, told.roots_are, h.roots);
       sum = omega (arith, told.sum_is, h.sum);
-      no_total = (told.no_total, h.no_total);
+      not_a_total = (told.not_a_total, h.not_a_total);
     }
 
 bodies : ℕ → List ℕ → ℕ → ℕ → List (List ℕ)
 bodies zero s at n = []
 bodies (suc f) s at n =
     let found = record_at s at in
-    cond (ltb at (length s)) (body n s at found ∷ bodies f s found.next (n + 1)) []
+    cond (ltb at (length s)) (record_line n s at found ∷ bodies f s found.next (n + 1)) []
 
 bodies_parted : (f : ℕ) (s : List ℕ) (at n : ℕ) (t : List ℕ) → lines (lines_from f s at n ++ t) ≡ bodies f s at n ++ lines t
 unfolding lines_from bodies
@@ -64,10 +65,10 @@ bodies_parted (suc f) s at n t = go (ltb at (length s)) (bodies_parted f s (reco
     more = lines_from f s found.next (n + 1)
 
     go : (b : Bool) → lines (more ++ t) ≡ bodies f s found.next (n + 1) ++ lines t
-        → lines (cond b (line_of n s at found ++ more) [] ++ t) ≡ cond b (body n s at found ∷ bodies f s found.next (n + 1)) [] ++ lines t
+        → lines (cond b (line_of n s at found ++ more) [] ++ t) ≡ cond b (record_line n s at found ∷ bodies f s found.next (n + 1)) [] ++ lines t
     go true e =
         ap lines (append_assoc (line_of n s at found) more t) ∙ line_parted n s at found (more ++ t)
-        ∙ ap (λ (ls : List (List ℕ)). body n s at found ∷ ls) e
+        ∙ ap (λ (ls : List (List ℕ)). record_line n s at found ∷ ls) e
     go false e = refl
 
 bodies_tell : (f : ℕ) (s : List ℕ) (at n : ℕ) → Tells (bodies f s at n) (total_from f s at)
@@ -79,7 +80,8 @@ bodies_tell (suc f) s at n = go (ltb at (length s)) (bodies_tell f s (record_at 
     found = record_at s at
 
     go : (b : Bool) → Tells (bodies f s found.next (n + 1)) (total_from f s found.next)
-        → Tells (cond b (body n s at found ∷ bodies f s found.next (n + 1)) []) (cond b (plus (record_total s at found) (total_from f s found.next)) no_total)
+        → Tells (cond b (record_line n s at found ∷ bodies f s found.next (n + 1)) [])
+        (cond b (plus (record_total s at found) (total_from f s found.next)) no_total)
     go true h = tells_line n s at found (bodies f s found.next (n + 1)) (total_from f s found.next) h
     go false h = tells_none
 
@@ -124,7 +126,7 @@ closing_ended t =
     ∙ ap (λ (u : List ℕ). a ++ (32 ∷ u)) (append_assoc b (32 ∷ c) (10 ∷ []))))
 
 closing_parted : (t : Total) → lines (total_text t) ≡ closing_of t ∷ []
-unfolding closing_line ascii parted
+unfolding closing_line ascii cut_at
 closing_parted t =
     let a = decimal t.records in
     let b = decimal t.roots in
@@ -144,14 +146,14 @@ module _ (s : List ℕ) where
   too_long = ended_of Unknown FileTooLong s
 
   record_bodies : List (List ℕ)
-  record_bodies = cond (ltb 65536 (length s)) (body 0 s 0 too_long ∷ []) (bodies (length s) s 0 1)
+  record_bodies = cond (ltb 65536 (length s)) (record_line 0 s 0 too_long ∷ []) (bodies (length s) s 0 1)
 
   all_parted : (t : List ℕ) → lines (record_lines s ++ t) ≡ record_bodies ++ lines t
   unfolding record_lines record_bodies
   all_parted t = go (ltb 65536 (length s))
     where
       go : (b : Bool) → lines (cond b (line_of 0 s 0 too_long) (lines_from (length s) s 0 1) ++ t)
-          ≡ cond b (body 0 s 0 too_long ∷ []) (bodies (length s) s 0 1) ++ lines t
+          ≡ cond b (record_line 0 s 0 too_long ∷ []) (bodies (length s) s 0 1) ++ lines t
       go true = line_parted 0 s 0 too_long t
       go false = bodies_parted (length s) s 0 1 t
 
@@ -159,7 +161,7 @@ module _ (s : List ℕ) where
   unfolding record_bodies total_of record_total
   all_tell = go (ltb 65536 (length s))
     where
-      go : (b : Bool) → Tells (cond b (body 0 s 0 too_long ∷ []) (bodies (length s) s 0 1)) (cond b (line_total no_roots) (total_from (length s) s 0))
+      go : (b : Bool) → Tells (cond b (record_line 0 s 0 too_long ∷ []) (bodies (length s) s 0 1)) (cond b (line_total no_roots) (total_from (length s) s 0))
       go true = tells_line 0 s 0 too_long [] no_total tells_none
       go false = bodies_tell (length s) s 0 1
 
@@ -186,7 +188,7 @@ module _ (s : List ℕ) where
 
   pub no_other : (k : ℕ) → k < length before → same (word 0 (get_or before k [])) (ascii "T") ≡ false
   no_other k h =
-      all_at (λ (l : List ℕ). same (word 0 l) (ascii "T") ≡ false) before [] k (λ out. absurd (omega (arith, h, out))) before_tells.no_total
+      all_at (λ (l : List ℕ). same (word 0 l) (ascii "T") ≡ false) before [] k (λ out. absurd (omega (arith, h, out))) before_tells.not_a_total
 
   pub fit : (length before ≤ 65536) × (roots_on before ≤ 65536) × (multiplicities_on before ≤ 65536)
   fit =
@@ -206,6 +208,16 @@ module _ (s : List ℕ) where
 pub refused_says : (line : List ℕ) → word 2 line ≡ ascii "refused" → (line_roots line ≡ 0) × (line_multiplicities line ≡ 0)
 unfolding roots_said multiplicities_said
 refused_says line e = let none = refused_words (words line) e in (ap roots_said none, ap multiplicities_said none)
+
+-- a record's line says what its answer adds
+module _ (n : ℕ) (s : List ℕ) (at : ℕ) (found : Record) where
+  pub each : let line = record_line n s at found in let t = record_total s at found in
+      (t.records ≡ 1) × (line_roots line ≡ t.roots) × (line_multiplicities line ≡ t.multiplicities)
+  unfolding record_total
+  each = let told = line_told n s at found in (refl, told.roots_are, told.sum_is)
+
+  pub alone : word 2 (record_line n s at found) ≡ ascii "refused" → record_total s at found ≡ record { records = 1; roots = 0; multiplicities = 0 }
+  alone e = let none = refused_says (record_line n s at found) e in same_total each.0 (sym each.1 ∙ none.0) (sym each.2 ∙ none.1)
 
 -- a line that says a root has one of the four marks
 pub marked_so : (line : List ℕ) → 0 < line_roots line → let mark = word 1 line in (like_list mark || like_crank mark) ≡ true

@@ -10,7 +10,7 @@ use Rattle.listing.specs.declared.total.Total.{Total}
 use Rattle.listing.specs.Lines.{line_of, total_text}
 use Rattle.listing.specs.Totals.{plus, record_total, total_from, total_of}
 use Rattle.listing.specs.File.{lines_from, record_lines, listing}
-use Rattle.listing.proofs.Totals.{none_plus}
+use Rattle.listing.proofs.Totals.{plus_none}
 use Rattle.listing.proofs.Bound.{lines_end}
 use Rattle.listing.proofs.Reading.{lines_step, total_step, total_end}
 
@@ -32,7 +32,7 @@ module _ (file : List ℕ) (r : Record) (some : 0 < length file) (few : length f
       (total_step (length file) file 0 some some
       ∙ ap (λ (x : Record). plus (record_total file 0 x) (total_from (length file - 1) file x.next)) found
       ∙ ap (plus (record_total file 0 r)) (total_end (length file - 1) file r.next last)
-      ∙ none_plus (record_total file 0 r))
+      ∙ plus_none (record_total file 0 r))
 
   pub one_line : listing file ≡ line_of 1 file 0 r ++ total_text (record_total file 0 r)
   unfolding listing

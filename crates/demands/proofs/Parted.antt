@@ -10,19 +10,19 @@ use lib.Dec.{ltb}
 use Rattle.std.proofs.Common.{true≢false}
 use Rattle.facts.specs.Lists.{AllOf, all_append}
 use Rattle.text.specs.Digits.{hex_digit, hex_digits, decimal_within, decimal}
-use Rattle.demands.specs.ByHand.{begun_by, parted, words, read_on, number}
+use Rattle.demands.specs.ByHand.{begun_by, cut_at, words, read_on, number}
 
 -- ---- parts, of texts whose bytes are above b
 abbrev pub Above : ℕ → List ℕ → Type 0
 Above b w = AllOf (λ (x : ℕ). b < x) w
 
-pub part_then : (b : ℕ) (w t : List ℕ) → Above b w → parted b (w ++ (b ∷ t)) ≡ w ∷ parted b t
-unfolding parted
+pub part_then : (b : ℕ) (w t : List ℕ) → Above b w → cut_at b (w ++ (b ∷ t)) ≡ w ∷ cut_at b t
+unfolding cut_at
 part_then b [] t h = simp (eq-eqb b b refl)
 part_then b (x ∷ w) t h = simp (ne_eqb x b (λ e. omega (arith, e, h.0))) (ap (begun_by x) (part_then b w t h.1))
 
-part_last : (b x : ℕ) (w : List ℕ) → Above b (x ∷ w) → parted b (x ∷ w) ≡ (x ∷ w) ∷ []
-unfolding parted
+part_last : (b x : ℕ) (w : List ℕ) → Above b (x ∷ w) → cut_at b (x ∷ w) ≡ (x ∷ w) ∷ []
+unfolding cut_at
 part_last b x [] h = simp (ne_eqb x b (λ e. omega (arith, e, h.0)))
 part_last b x (y ∷ w) h = simp (ne_eqb x b (λ e. omega (arith, e, h.0))) (ap (begun_by x) (part_last b y w h.1))
 

@@ -63,8 +63,8 @@ use Rattle.demands.proofs.Brushes.{kinds}
 use Rattle.demands.proofs.Loops.{runs, chains}
 use Rattle.demands.proofs.Quadratics.{quadratics}
 use Rattle.listing.proofs.Bound.{listing_fits}
-use Rattle.demands.proofs.Parted.{digits_read}
-use Rattle.demands.proofs.ByHand.{last_line, ends, no_other, marked_so, refused_says, agrees, fit}
+use Rattle.demands.proofs.Parted.{digits_of, digits_read}
+use Rattle.demands.proofs.ByHand.{last_line, ends, no_other, marked_so, refused_says, each, alone, agrees, fit}
 use Rattle.demands.proofs.Example.{example, empty, is_too_long}
 use Rattle.demands.proofs.Contact.{contact_line}
 use Rattle.demands.proofs.Formula.{formula_line, formula_cut}
@@ -195,10 +195,12 @@ closing_total : ClosingTotal
 closing_total = record {
   last = last_line;
   ended = ends;
-  digits = digits_read;
+  digits = λ n. (digits_of n, digits_read n);
   only = no_other;
   marks = marked_so;
   refused = refused_says;
+  each = each;
+  alone = alone;
   agrees = agrees;
   fits = fit;
 }

@@ -35,8 +35,9 @@ use Rattle.listing.specs.Lines.{answer_text, words_of, head_of, line_of}
 use Rattle.listing.specs.Totals.{listed_at, or_none, record_total}
 use Rattle.listing.proofs.Asked.{listed_prints}
 use Rattle.demands.specs.Example.{ascii}
-use Rattle.demands.specs.ByHand.{begun_by, parted, lines, words, same, like_list, like_crank, root_words, roots_said, multiplicities_said}
+use Rattle.demands.specs.ByHand.{begun_by, cut_at, lines, words, same, like_list, like_crank, root_words, roots_said, multiplicities_said}
 use Rattle.demands.specs.ByHand.{word, line_roots, line_multiplicities}
+use Rattle.demands.specs.Demands.{record_line}
 use Rattle.demands.proofs.Parted.{Above, part_then, all_under, above_append, above_so, Digits, digits_read}
 use Rattle.demands.proofs.Parted.{Word, word_last, digits_of, decimal_begun, decimal_word, hex_above}
 
@@ -132,7 +133,7 @@ refused_plain n = above_append 10 refused (decimal n) (above_so 10 refused refl)
 
 -- 'a refused one adding only its line'
 says_refused : (kind : Kind) (n : ℕ) → Says kind (refused_text n) no_roots
-unfolding refused_text parted begun_by root_words like_list like_crank same ascii
+unfolding refused_text cut_at begun_by root_words like_list like_crank same ascii
 says_refused kind n = says_none kind (refused_text n) (refused_plain n) (λ number. refl)
 
 -- how many roots, and each of them
@@ -149,14 +150,14 @@ ok_word = 111 ∷ 107 ∷ []
 
 says_polynomial : (kind : Kind) → ((n : List ℕ) (ws : List (List ℕ)) → root_words (n ∷ mark_of kind ∷ ok_word ∷ ws) ≡ drop 1 ws)
     → (a : Result Roots Refusal) → Fits (roots_in a) → Says kind (polynomial_text a) (roots_in a)
-unfolding polynomial_text parted begun_by
+unfolding polynomial_text cut_at begun_by
 says_polynomial kind e (Ok r) fits =
     says_list kind (ok ++ roots_text r) r (above_append 10 ok (roots_text r) (above_so 10 ok refl) (roots_plain r))
     (λ n. ap (λ (ws : List (List ℕ)). root_words (n ∷ mark_of kind ∷ ok_word ∷ ws)) (roots_words r) ∙ e n (decimal r.len ∷ root_list (list_of r))) fits
 says_polynomial kind e (Err refusal) fits = says_refused kind (number_of refusal)
 
 says_crank : (a : Result CrankAnswer Refusal) → Fits (crank_roots_in a) → Says Crank (crank_text a) (crank_roots_in a)
-unfolding crank_text parted begun_by root_words like_list like_crank same ascii
+unfolding crank_text cut_at begun_by root_words like_list like_crank same ascii
 says_crank (Ok a) fits =
     let t = decimal a.k ++ (32 ∷ roots_text a.roots) in
     says_list Crank (ok ++ t) a.roots
@@ -188,7 +189,7 @@ says_quadratic (Err refusal) = says_refused Quadratic (number_of refusal)
 
 -- ---- a record's line
 says_at : (kind : Kind) (s : List ℕ) (at : ℕ) → Says kind (answer_text kind s at) (listed_at kind s at)
-unfolding answer_text listed_at parted root_words like_list like_crank same ascii
+unfolding answer_text listed_at cut_at root_words like_list like_crank same ascii
 says_at Polynomial s at = says_polynomial Polynomial (λ n ws. refl) (polynomial_at s at) (listed_prints s at Polynomial).fits
 says_at Quadratic s at = says_quadratic (quadratic_at s at)
 says_at Crank s at = says_crank (crank_at s at) (listed_prints s at Crank).fits
@@ -212,15 +213,11 @@ mark_above Contact = above_so 32 (mark_of Contact) refl
 mark_above Formula = above_so 32 (mark_of Formula) refl
 mark_above Unknown = above_so 32 (mark_of Unknown) refl
 
--- the line without its end
-pub body : ℕ → List ℕ → ℕ → Record → List ℕ
-body n s at found = head_of n found.kind ++ words_of s at found
-
 -- a line says these roots, and is no total
 pub record Told (line : List ℕ) (roots sum : ℕ) : Type 0 where
   pub roots_are : line_roots line ≡ roots
   pub sum_is : line_multiplicities line ≡ sum
-  pub no_total : same (word 0 line) (ascii "T") ≡ false
+  pub not_a_total : same (word 0 line) (ascii "T") ≡ false
 
 not_T : (n : ℕ) → same (decimal n) (ascii "T") ≡ false
 unfolding same ascii
@@ -230,37 +227,37 @@ not_T n =
     ap (λ (w : List ℕ). same w (84 ∷ [])) b.2 ∙ simp (ne_eqb b.0 84 (λ e. omega (arith, e, low)))
 
 module _ (n : ℕ) (s : List ℕ) (at : ℕ) (found : Record) where
-  body_words : words (body n s at found) ≡ decimal n ∷ mark_of found.kind ∷ words (words_of s at found)
-  unfolding body head_of
-  body_words =
+  line_words : words (record_line n s at found) ≡ decimal n ∷ mark_of found.kind ∷ words (words_of s at found)
+  unfolding head_of
+  line_words =
       let t = words_of s at found in
       let mark = mark_of found.kind in
       ap words (append_assoc (decimal n) (32 ∷ mark ++ (32 ∷ [])) t ∙ ap (λ (u : List ℕ). decimal n ++ (32 ∷ u)) (append_assoc mark (32 ∷ []) t))
       ∙ part_then 32 (decimal n) (mark ++ (32 ∷ t)) (decimal_word n).above
       ∙ ap (λ (ws : List (List ℕ)). decimal n ∷ ws) (part_then 32 mark t (mark_above found.kind))
 
-  body_plain : Above 10 (body n s at found)
-  unfolding body head_of
-  body_plain =
+  line_plain : Above 10 (record_line n s at found)
+  unfolding head_of
+  line_plain =
       let mark = mark_of found.kind in
       above_append 10 (head_of n found.kind) (words_of s at found)
       (above_append 10 (decimal n) (32 ∷ mark ++ (32 ∷ [])) (digits_plain n)
       (omega arith, above_append 10 mark (32 ∷ []) (all_under (omega arith) mark (mark_above found.kind)) (omega arith, tt)))
       (says_words s at found).plain
 
-  pub body_told : let t = record_total s at found in Told (body n s at found) t.roots t.multiplicities
+  pub line_told : let t = record_total s at found in Told (record_line n s at found) t.roots t.multiplicities
   unfolding record_total
-  body_told =
+  line_told =
       let says = says_words s at found in record {
-        roots_are = ap (λ (ws : List (List ℕ)). roots_said (root_words ws)) body_words ∙ says.roots (decimal n);
-        sum_is = ap (λ (ws : List (List ℕ)). multiplicities_said (root_words ws)) body_words ∙ says.sum (decimal n);
-        no_total = ap (λ (ws : List (List ℕ)). same (get_or ws 0 []) (ascii "T")) body_words ∙ not_T n;
+        roots_are = ap (λ (ws : List (List ℕ)). roots_said (root_words ws)) line_words ∙ says.roots (decimal n);
+        sum_is = ap (λ (ws : List (List ℕ)). multiplicities_said (root_words ws)) line_words ∙ says.sum (decimal n);
+        not_a_total = ap (λ (ws : List (List ℕ)). same (get_or ws 0 []) (ascii "T")) line_words ∙ not_T n;
       }
 
-  pub line_parted : (t : List ℕ) → lines (line_of n s at found ++ t) ≡ body n s at found ∷ lines t
-  unfolding line_of body
+  pub line_parted : (t : List ℕ) → lines (line_of n s at found ++ t) ≡ record_line n s at found ∷ lines t
+  unfolding line_of
   line_parted t =
       let head = head_of n found.kind in
       let w = words_of s at found in
       ap lines (append_assoc head (w ++ (10 ∷ [])) t ∙ ap (λ (u : List ℕ). head ++ u) (append_assoc w (10 ∷ []) t) ∙ sym (append_assoc head w (10 ∷ t)))
-      ∙ part_then 10 (head ++ w) t body_plain
+      ∙ part_then 10 (head ++ w) t line_plain

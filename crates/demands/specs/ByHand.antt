@@ -10,19 +10,19 @@ unfoldable pub begun_by : ℕ → List (List ℕ) → List (List ℕ)
 begun_by x [] = (x ∷ []) ∷ []
 begun_by x (p ∷ ps) = (x ∷ p) ∷ ps
 
--- the parts of a text that b ends, or parts
-unfoldable pub parted : ℕ → List ℕ → List (List ℕ)
+-- the parts of a text: b ends each of them, the last one b or the text's end
+unfoldable pub cut_at : ℕ → List ℕ → List (List ℕ)
 unfolding begun_by
-parted b [] = []
-parted b (x ∷ t) = cond (eqb x b) ([] ∷ parted b t) (begun_by x (parted b t))
+cut_at b [] = []
+cut_at b (x ∷ t) = cond (eqb x b) ([] ∷ cut_at b t) (begun_by x (cut_at b t))
 
 -- by line ends
 abbrev pub lines : List ℕ → List (List ℕ)
-lines = parted 10
+lines = cut_at 10
 
 -- by blanks
 abbrev pub words : List ℕ → List (List ℕ)
-words = parted 32
+words = cut_at 32
 
 -- the k-th word of a line, from 0 on
 abbrev pub word : ℕ → List ℕ → List ℕ
@@ -41,7 +41,7 @@ same [] (b ∷ w) = false
 same (a ∷ v) [] = false
 same (a ∷ v) (b ∷ w) = eqb a b && same v w
 
--- the number that decimal digits say, behind those that say n
+-- the number that decimal digits say, behind those that say n; only read where digits stand
 unfoldable pub read_on : ℕ → List ℕ → ℕ
 read_on n [] = n
 read_on n (d ∷ w) = read_on (n * 10 + (d - 48)) w
@@ -59,10 +59,11 @@ unfoldable pub like_crank : List ℕ → Bool
 unfolding same ascii
 like_crank mark = same mark (ascii "TG")
 
--- the words of a line that say its roots: those behind `ok` and how many there are, on a TG line behind `ok`, k and how many; other lines have none
+-- the words that say a line's roots: on a PL, PC or TX line those behind `ok` and how many there are, on a TG line those behind `ok`, k and how many there are;
+-- other lines have none
 unfoldable pub root_words : List (List ℕ) → List (List ℕ)
 unfolding like_list like_crank
-root_words (first ∷ mark ∷ answer ∷ rest) =
+root_words (n ∷ mark ∷ answer ∷ rest) =
     cond (same answer (ascii "ok")) (cond (like_crank mark) (drop 2 rest) (cond (like_list mark) (drop 1 rest) [])) []
 root_words [] = []
 root_words (w ∷ []) = []

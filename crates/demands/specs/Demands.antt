@@ -8,6 +8,7 @@ use Rattle.std.specs.Float.Ieee.{up, down, lt, fits}
 use Rattle.std.specs.Float.Ieee.Exact.{HasValue}
 use Rattle.std.specs.Float.Ieee.Positive.{positive}
 use Rattle.facts.specs.Sort.{sorted_by}
+use Rattle.facts.specs.Lists.{AllOf}
 use Rattle.float.specs.Literals.{zero64, two64, four64}
 use Rattle.float.specs.Bytes.{f64_at}
 use Rattle.float.specs.Methods.{is_finite_of, is_sign_negative_of, total_le_of}
@@ -63,11 +64,12 @@ use Rattle.formula.specs.Parts.{sum_parts}
 use Rattle.formula.specs.Formula.{formula_of}
 use Rattle.formula_roots.specs.FormulaRoots.{handed_on, formula_roots_of}
 use Rattle.formula_roots.specs.Claims.{Formulas}
+use Rattle.records.specs.declared.Record.{Record}
 use Rattle.listing.specs.Answers.{contact_at}
 use Rattle.text.specs.Digits.{decimal}
 use Rattle.listing.specs.Words.{letter_of}
-use Rattle.listing.specs.Lines.{place_text, root_text, polynomial_text, total_text}
-use Rattle.listing.specs.Totals.{line_total, total_of}
+use Rattle.listing.specs.Lines.{place_text, root_text, polynomial_text, words_of, head_of, total_text}
+use Rattle.listing.specs.Totals.{line_total, record_total, total_of}
 use Rattle.listing.specs.File.{listing}
 use Rattle.demands.specs.Loops.{runs_from, chains_from}
 use Rattle.demands.specs.Formed.{Formed, times_of, unasked, chains_formed, roots_formed, reply_in, SomeYes, unformed}
@@ -454,19 +456,28 @@ pub record TypedFormulas : Type 0 where
 abbrev pub lines_before : List ℕ → List (List ℕ)
 lines_before s = before_last (lines (listing s))
 
+-- a record's line, without its end
+abbrev pub record_line : ℕ → List ℕ → ℕ → Record → List ℕ
+record_line n s at found = head_of n found.kind ++ words_of s at found
+
 -- 'After the last record `hallroots` prints `T`, the number of record lines, the number of roots listed and the sum of their multiplicities. Every record
--- line counts, QD and `--` lines too, but roots come only from PL, TG, PC and TX lines. The three numbers are proved equal to what the printed records hold, a
--- refused one adding only its line.' For every file: `last`, the last line, `ended` by a line end, has the three numbers that a person counts in the lines
--- before it, whose `digits` say them; `only`, no other line is a `T` line; `marks`, a line that says a root has one of the four; `refused`, a refused one says
--- none; `agrees`, the records' answers come to the same; `fits`, no number is above 65,536. An empty file, one that is too long, and the room: `HallFile`.
+-- line counts, QD and `--` lines too, but roots come only from PL, TG, PC and TX lines. The three numbers are proved equal to what the printed records hold,
+-- a refused one adding only its line.' For every file: `last`, the last line, `ended` by a line end, has the three numbers that a person counts in the lines
+-- before it, in decimal `digits`; `only`, no other line is a `T` line; `marks`, a line that says a root has one of the four; `refused`, a refused line says
+-- none. `each`, a record's line says the roots that its answer lists; `alone`, where it is refused, by its bytes or by the operation, it adds only the line;
+-- `agrees`, the records' answers come to the same; `fits`, no number is above 65,536. An empty file, one that is too long, and the room: `HallFile`.
 pub record ClosingTotal : Type 0 where
   pub last : (s : List ℕ) → let before = lines_before s in
       lines (listing s) ≡ before ++ (closing_line (length before) (roots_on before) (multiplicities_on before) ∷ [])
   pub ended : (s : List ℕ) → get_or (listing s) (length (listing s) - 1) 0 ≡ 10
-  pub digits : (n : ℕ) → number (decimal n) ≡ n
+  pub digits : (n : ℕ) → AllOf (λ (d : ℕ). (47 < d) × (d < 58)) (decimal n) × (number (decimal n) ≡ n)
   pub only : (s : List ℕ) (k : ℕ) → k < length (lines_before s) → same (word 0 (get_or (lines_before s) k [])) (ascii "T") ≡ false
   pub marks : (line : List ℕ) → 0 < line_roots line → let mark = word 1 line in (like_list mark || like_crank mark) ≡ true
   pub refused : (line : List ℕ) → word 2 line ≡ ascii "refused" → (line_roots line ≡ 0) × (line_multiplicities line ≡ 0)
+  pub each : (n : ℕ) (s : List ℕ) (at : ℕ) (found : Record) → let line = record_line n s at found in let t = record_total s at found in
+      (t.records ≡ 1) × (line_roots line ≡ t.roots) × (line_multiplicities line ≡ t.multiplicities)
+  pub alone : (n : ℕ) (s : List ℕ) (at : ℕ) (found : Record) → word 2 (record_line n s at found) ≡ ascii "refused"
+      → record_total s at found ≡ record { records = 1; roots = 0; multiplicities = 0 }
   pub agrees : (s : List ℕ) → let before = lines_before s in
       total_of s ≡ record { records = length before; roots = roots_on before; multiplicities = multiplicities_on before }
   pub fits : (s : List ℕ) → let before = lines_before s in

@@ -17,7 +17,7 @@ use Rattle.listing.specs.Lines.{line_of}
 use Rattle.listing.specs.Totals.{no_total, plus, FitsWords, record_total, total_from, total_of}
 use Rattle.listing.specs.File.{lines_from, record_lines}
 use Rattle.records.proofs.Places.{record_forward}
-use Rattle.listing.proofs.Totals.{plus_assoc, plus_none, none_plus, all_at_most}
+use Rattle.listing.proofs.Totals.{plus_assoc, none_plus, plus_none, all_at_most}
 use Rattle.listing.proofs.Bound.{lines_end, all_lines_fit}
 
 pub lines_step : (f : ℕ) (s : List ℕ) (at n : ℕ) → at < length s → 0 < f
@@ -64,7 +64,7 @@ sofar_none a s e =
       enough = omega arith;
       written = written_none a;
       rest = refl;
-      sum = plus_none (total_from (length s) s 0);
+      sum = none_plus (total_from (length s) s 0);
     }
 
 module _ {a b : Text} {s : List ℕ} {at : ℕ} {total : Total} (sofar : Sofar a s b at total) where
@@ -128,7 +128,7 @@ module _ {a b : Text} {s : List ℕ} {at : ℕ} {total : Total} (sofar : Sofar a
   pub sofar_total : length s ≤ 65536 → length s ≤ at → total ≡ total_of s
   unfolding total_of
   sofar_total small done =
-      simp (le-ltb 65536 (length s) small) (sym (none_plus total) ∙ ap (plus total) (sym (total_end sofar.fuel s at done)) ∙ sofar.sum)
+      simp (le-ltb 65536 (length s) small) (sym (plus_none total) ∙ ap (plus total) (sym (total_end sofar.fuel s at done)) ∙ sofar.sum)
 
 pub falls : (s : List ℕ) (at : ℕ) → at < length s → (r : Record) → r ≡ record_at s at → length s - r.next < length s - at
 falls s at inside r e = omega (arith, (record_forward s at inside).past, ap (λ (x : Record). x.next) e)

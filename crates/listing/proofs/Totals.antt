@@ -44,11 +44,11 @@ same_total {t} {u} e f g =
     ∙ ap (λ (n : ℕ). record { records = u.records; roots = n; multiplicities = t.multiplicities }) f
     ∙ ap (λ (n : ℕ). record { records = u.records; roots = u.roots; multiplicities = n }) g
 
-pub plus_none : (t : Total) → plus no_total t ≡ t
-plus_none t = same_total (omega arith) (omega arith) (omega arith)
-
-pub none_plus : (t : Total) → plus t no_total ≡ t
+pub none_plus : (t : Total) → plus no_total t ≡ t
 none_plus t = same_total (omega arith) (omega arith) (omega arith)
+
+pub plus_none : (t : Total) → plus t no_total ≡ t
+plus_none t = same_total (omega arith) (omega arith) (omega arith)
 
 pub plus_assoc : (a b c : Total) → plus (plus a b) c ≡ plus a (plus b c)
 plus_assoc a b c = same_total (omega arith) (omega arith) (omega arith)
@@ -67,7 +67,7 @@ at_most_sum p q g h =
       multiplicities = omega (arith, g.multiplicities, h.multiplicities);
     }
 
--- ---- a record has more bytes than it lists roots, each counted as often as its multiplicity says
+-- ---- a record has at least as many bytes as it lists roots, each counted as often as its multiplicity says
 module _ (s : List ℕ) (at : ℕ) (inside : at < length s) where
   refused_at_most : (kind : Kind) (refusal : Refusal) → AtMost (length s - at) (record_total s at (ended_of kind refusal s))
   unfolding record_total

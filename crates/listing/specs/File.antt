@@ -14,7 +14,7 @@ lines_from (suc f) s at n =
     let found = record_at s at in
     cond (ltb at (length s)) (line_of n s at found ++ lines_from f s found.next (n + 1)) []
 
--- '9, over 65,536 bytes, the only line then being `0 -- refused 9`'
+-- the lines of the records, without the total; '9, over 65,536 bytes, the only line then being `0 -- refused 9`'
 unfoldable pub record_lines : List ℕ → List ℕ
 unfolding lines_from
 record_lines s = cond (ltb 65536 (length s)) (line_of 0 s 0 (ended_of Unknown FileTooLong s)) (lines_from (length s) s 0 1)

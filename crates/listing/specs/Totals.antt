@@ -38,7 +38,7 @@ listed_at Contact s at = roots_in (contact_at s at)
 listed_at Formula s at = roots_in (formula_at s at)
 listed_at Unknown s at = no_roots
 
--- r, or none
+-- r, or none where there is a refusal
 abbrev pub or_none : Option Refusal → Roots → Roots
 or_none None r = r
 or_none (Some refusal) r = no_roots

@@ -31,7 +31,7 @@ pub fn answered(bytes: &[u8], list_file: ListFile) -> Result<Vec<(Item, Line)>, 
     of_records(bytes, lines(&whole_listing(bytes, list_file))?)
 }
 
-/// What a file holds, each with its line.
+/// What a file holds, each with its line; an error where the lines are not those of its records.
 pub fn of_records(bytes: &[u8], lines: Vec<Line>) -> Result<Vec<(Item, Line)>, String> {
     let items = items(bytes);
     let same = |(item, line): (&Item, &Line)| item.number == line.number && item.kind == line.kind;

@@ -7,7 +7,8 @@ use crate::truth::refusals;
 /// A longer file is refused whole.
 pub const MOST_BYTES: usize = 65_536;
 
-/// No listing has more bytes: so many for its lines, and 20 for the total.
+/// No listing has more bytes: eight for each byte of the file, 20 for the record that ends the reading, 20
+/// for the total.
 pub const MOST_LISTED: usize = 8 * MOST_BYTES + 20 + 20;
 
 /// A record with a higher count ends the reading.
