@@ -23,6 +23,11 @@ loop-at-init c =
     let zeros = c.default-total.ensures in
     sofar_none _ c.args.s.now (same_total zeros.0 zeros.1.0 zeros.1.1)
 
+pub loop-at-preserved : goal.loop-at-preserved
+loop-at-preserved c =
+    sofar_next c.loop-at.invariant c.loop-at-test.true c.record_at-found.ensures c.put_line-line.ensures.total c.add_assign.ensures.after
+    c.put_line-line.ensures.text
+
 pub put_line-line-requires : goal.put_line-line-requires
 put_line-line-requires c =
     let few : c.loop-at.total.records < 99999 = omega (arith, c.loop-at.invariant.counted, c.loop-at-test.true, c.if-s-gt65536.false) in
@@ -37,11 +42,6 @@ add_assign-requires c =
 pub loop-at-smaller : goal.loop-at-smaller
 loop-at-smaller c =
     falls c.args.s.now c.loop-at.at c.loop-at-test.true c.record_at-found.result c.record_at-found.ensures
-
-pub loop-at-preserved : goal.loop-at-preserved
-loop-at-preserved c =
-    sofar_next c.loop-at.invariant c.loop-at-test.true c.record_at-found.ensures c.put_line-line.ensures.total c.add_assign.ensures.after
-    c.put_line-line.ensures.text
 
 pub returns-clause-text : goal.returns-clause-text
 returns-clause-text c = sofar_all c.loop-at.invariant c.if-s-gt65536.false c.loop-at-test.false
