@@ -1,6 +1,6 @@
 //! Links the proved archives that .ci/archives names, and writes geomcore's Rust to OUT_DIR:
-//! `untouched`, and `patched`, the reference build of document 01, and of each a copy that tells
-//! kinds. EXPORTS names another folder for the archives, GEOMCORE another one for geomcore.
+//! `untouched`, and `patched`, the reference build of document 01, and `sharp`, the same in the mode
+//! of the exact c (document 02), and of each a copy that tells kinds. EXPORTS names another folder for the archives, GEOMCORE another one for geomcore.
 //! Features write more copies, which tell kinds too: `coverage` the reference build with a counter
 //! at each branch, `mutants` one with every mistake to choose from, `causes` one for each leaf put
 //! back.
@@ -16,8 +16,8 @@ mod mutants;
 mod patches;
 
 use patches::{
-    CHAINS, COUNTED, CUT, FILES, LIST_STARTS, LIST_USES, OPENED, OWN, OWN_OPENED, PUT_IN, Patch,
-    Variant, YES,
+    CHAINS, COUNTED, CUT, FILES, LIST_STARTS, LIST_USES, OF_CHOSEN, OF_EXACT, OF_ROUNDED, OPENED,
+    OWN, OWN_OPENED, PUT_IN, Patch, Variant, YES,
 };
 use std::path::{Path, PathBuf};
 use std::{env, fs};
@@ -79,12 +79,13 @@ fn geomcore(here: &Path) -> Result<PathBuf, String> {
 
 fn write_rust(folder: &Path, here: &Path, out: &Path) {
     let mut modules = String::new();
-    let reference = [OPENED, CUT, PUT_IN, YES];
-    let trees: [(&str, &[&[Patch]]); 4] = [
+    let trees: [(&str, &[&[Patch]]); 6] = [
         ("untouched", &[OPENED, CUT]),
         ("untouched_kinds", &[OPENED, CUT, YES]),
-        ("patched", &[OPENED, CUT, PUT_IN, COUNTED]),
-        ("patched_kinds", &[OPENED, CUT, PUT_IN, YES, CHAINS]),
+        ("patched", &[OPENED, CUT, PUT_IN, OF_ROUNDED, COUNTED]),
+        ("patched_kinds", &[OPENED, CUT, PUT_IN, OF_ROUNDED, YES, CHAINS]),
+        ("sharp", &[OPENED, CUT, PUT_IN, OF_EXACT, COUNTED]),
+        ("sharp_kinds", &[OPENED, CUT, PUT_IN, OF_EXACT, YES, CHAINS]),
     ];
     for (tree, patches) in trees {
         modules += &write_tree(folder, out, tree, |text, copy| patched(text, copy, patches));
@@ -92,7 +93,7 @@ fn write_rust(folder: &Path, here: &Path, out: &Path) {
     if chosen("COVERAGE") {
         let mut all = Vec::new();
         modules += &write_tree(folder, out, "covered", |text, copy| {
-            let text = in_place(text, copy, &reference);
+            let text = in_place(text, copy, &[OPENED, CUT, PUT_IN, OF_ROUNDED, YES]);
             match copy {
                 "solve.rs" => branches::counted(copy, &text, Some("solve_square"), &mut all),
                 "poly.rs" | "equation.rs" => branches::counted(copy, &text, None, &mut all),
@@ -122,7 +123,7 @@ fn write_variants(folder: &Path, out: &Path, name: &str, variants: &[Variant]) -
     for (n, (title, what, patches)) in variants.iter().enumerate() {
         let tree = format!("{name}_{n}");
         modules += &write_tree(folder, out, &tree, |text, copy| {
-            patched(text, copy, &[OPENED, CUT, PUT_IN, YES, patches])
+            patched(text, copy, &[OPENED, CUT, PUT_IN, OF_ROUNDED, YES, patches])
         });
         let file = patches[0].0;
         list +=
@@ -146,7 +147,7 @@ fn write_mutants(folder: &Path, out: &Path, mistakes: &[Variant]) -> String {
     let list = format!("pub const ALL: [(&str, &str, &str); {count}] = [\n{list}];\n");
     fs::write(out.join("mutants.rs"), list).unwrap();
     write_tree(folder, out, "mutants", |text, copy| {
-        mistaken(patched(text, copy, &[OPENED, CUT, PUT_IN, YES]), copy, mistakes)
+        mistaken(patched(text, copy, &[OPENED, CUT, PUT_IN, OF_CHOSEN, YES]), copy, mistakes)
     })
 }
 

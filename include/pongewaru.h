@@ -122,19 +122,29 @@ struct pongewaru_coefficients {
 /* No listing is longer. */
 #define PONGEWARU_LISTING_MOST 524328
 
-/* ---- First part: libpongewaru.a */
+/* ---- The mode, `sine`: three roots of a cubic begin from the sine that belongs to the exact cosine of a third of an angle, as they do where no `sine` is handed
+ * in; or, for every other number, to the rounded cosine */
+#define PONGEWARU_SINE_OF_EXACT 0
+#define PONGEWARU_SINE_OF_ROUNDED 1
+
+/* ---- First part: libpongewaru.a. A function `.._by` is the one before it, by that sine. */
 
 /* The real roots of c0 + c1*x + c2*x^2 + .. for the doubles in `coeffs`, the lowest power first, as many as there are; a NaN or negative `tol` counts as 0.
  * Stores pongewaru_list; refuses 1, 2, 3, 20. */
 uint64_t pongewaru_real_roots(const void *coeffs, size_t coeffs_len, double tol, void *out, size_t out_len);
+uint64_t pongewaru_real_roots_by(uint32_t sine, const void *coeffs, size_t coeffs_len, double tol, void *out, size_t out_len);
 
 /* The same, but asking whether a near contact touches. Call it without replies; while it asks, add a byte to `replies`, 0 for no, and call it again: it is
  * finished after three replies at most. Stores pongewaru_shown; refuses 1, 2, 3, 20. */
 uint64_t pongewaru_inquire(const void *coeffs, size_t coeffs_len, double tol, const void *replies, size_t replies_len, void *out, size_t out_len);
+uint64_t pongewaru_inquire_by(uint32_t sine, const void *coeffs, size_t coeffs_len, double tol, const void *replies, size_t replies_len, void *out,
+    size_t out_len);
 
 /* The same for a2*cos 2t + b2*sin 2t + c1*cos t + d1*sin t + e = 0. Stores pongewaru_crank_shown; refuses 1, 5, 2. */
 uint64_t pongewaru_crank_inquire(double confusion, double a2, double b2, double c1, double d1, double e, const void *replies, size_t replies_len, void *out,
     size_t out_len);
+uint64_t pongewaru_crank_inquire_by(uint32_t sine, double confusion, double a2, double b2, double c1, double d1, double e, const void *replies,
+    size_t replies_len, void *out, size_t out_len);
 
 /* The quartic that is solved for it. Stores pongewaru_quartic; refuses 1, 5. */
 uint64_t pongewaru_crank_front(double a2, double b2, double c1, double d1, double e, void *out, size_t out_len);
@@ -143,10 +153,13 @@ uint64_t pongewaru_crank_front(double a2, double b2, double c1, double d1, doubl
  * `confusion`. Stores pongewaru_list; refuses 10, 11, 12, 2. */
 uint64_t pongewaru_pin_contact(double confusion, double x0, double x1, double x2, double y0, double y1, double y2, double cx, double cy, double r, void *out,
     size_t out_len);
+uint64_t pongewaru_pin_contact_by(uint32_t sine, double confusion, double x0, double x1, double x2, double y0, double y1, double y2, double cx, double cy,
+    double r, void *out, size_t out_len);
 
 /* The real roots of a formula in t such as "(t-2)^2*(t+1)": sums of products of whole numbers, of t and of sums in round brackets, each to a power of one
  * digit. A NaN or negative `tol` counts as 0. Stores pongewaru_list; refuses 21, 13, 14, 15, 2. */
 uint64_t pongewaru_formula_roots(const void *text, size_t text_len, double tol, void *out, size_t out_len);
+uint64_t pongewaru_formula_roots_by(uint32_t sine, const void *text, size_t text_len, double tol, void *out, size_t out_len);
 
 /* The polynomial that is solved for it, exactly. Stores pongewaru_coefficients; refuses 21, 13, 14, 15. */
 uint64_t pongewaru_formula_coefficients(const void *text, size_t text_len, void *out, size_t out_len);
@@ -169,6 +182,7 @@ uint64_t pongewaru_touching_at(uint32_t n, double x, double y, double vertex, ui
 /* Stores the listing of a hall file: a line for each record, and last `T`, the number of these lines, that of their roots and the sum of the multiplicities; as
  * far as `out` reaches. Returns the whole listing's size: lend PONGEWARU_LISTING_MOST bytes. */
 uint64_t pongewaru_list_file(const void *file, size_t file_len, void *out, size_t out_len);
+uint64_t pongewaru_list_file_by(uint32_t sine, const void *file, size_t file_len, void *out, size_t out_len);
 
 /* ---- Second part: the layers below, each in an archive of its own, for comparing them with other implementations; a controller needs none of them.
  * A polynomial is five doubles in 40 bytes, the lowest power first, and its degree d, 0 to 4. Where there are fewer bytes, or the degree is above 4, nothing is
@@ -197,7 +211,7 @@ double pongewaru_leaf_cbrt(double x);
 double pongewaru_leaf_log2(double x);
 
 /* 16 bytes: cosine and sine of a third of acos v. */
-uint64_t pongewaru_leaf_third_angle(double v, void *out, size_t out_len);
+uint64_t pongewaru_leaf_third_angle(uint32_t sine, double v, void *out, size_t out_len);
 
 /* 40 bytes: the logarithms of five doubles. */
 uint64_t pongewaru_leaf_log2_five(const void *a, size_t a_len, void *out, size_t out_len);
@@ -212,16 +226,16 @@ uint64_t pongewaru_taylor(const void *p, size_t p_len, uint64_t d, double y, voi
 
 /* Factors of monic cubics and quartics. 32 bytes: how many roots, and three places; 24: r, e, f; 32: al, be, ga, de; 16: 1 and the root, or 0 and NaN;
  * 32: r, h2, h1, h0. */
-uint64_t pongewaru_cubic_closed_form(double b, double c, double d, void *out, size_t out_len);
-uint64_t pongewaru_cubic_factor(double b, double c, double d, void *out, size_t out_len);
-uint64_t pongewaru_quartic_factor(double b, double c, double d, double e, void *out, size_t out_len);
+uint64_t pongewaru_cubic_closed_form(uint32_t sine, double b, double c, double d, void *out, size_t out_len);
+uint64_t pongewaru_cubic_factor(uint32_t sine, double b, double c, double d, void *out, size_t out_len);
+uint64_t pongewaru_quartic_factor(uint32_t sine, double b, double c, double d, double e, void *out, size_t out_len);
 uint64_t pongewaru_isolated_root(double al, double be, double ga, double de, void *out, size_t out_len);
 uint64_t pongewaru_peel_root(double b, double c, double d, double e, double y, void *out, size_t out_len);
 
 /* Scaling. 144 bytes: f, g, lg, d, e and unit; 24: 1, small and threshold of five logarithms, or zeros; 80: nlin, lin, nquad and the al and be of quad. */
 uint64_t pongewaru_scaled_new(const void *a, size_t a_len, uint64_t d, void *out, size_t out_len);
 uint64_t pongewaru_magnitude_split(const void *lg, size_t lg_len, uint64_t d, void *out, size_t out_len);
-uint64_t pongewaru_factorize(const void *a, size_t a_len, uint64_t d, uint32_t depth, void *out, size_t out_len);
+uint64_t pongewaru_factorize(uint32_t sine, const void *a, size_t a_len, uint64_t d, uint32_t depth, void *out, size_t out_len);
 
 /* Square systems, row by row with the right-hand side behind, in 96 and 160 bytes. 32 and 40 bytes: 1 and the unknowns, or zeros. */
 uint64_t pongewaru_solve_square3(const void *s, size_t s_len, double tol, void *out, size_t out_len);

@@ -15,7 +15,7 @@ pub const CAUSES: &[Variant] = &[
         "`acos`, a third of it, `sin_cos`",
         &[(
             "poly.rs",
-            "let (cos, sin) = crate::truth::exact::third_angle(cos3);",
+            "let (cos, sin) = crate::truth::angle::third_angle(crate::truth::angle::Sine::OfRounded, cos3);",
             "let (sin, cos) = (cos3.acos() / 3.0).sin_cos();",
             1,
         )],

@@ -98,7 +98,8 @@ pub const CUT: &[Patch] = &[
     ),
 ];
 
-/// In the reference build: what document 01 puts in where the Rust leaves a result open.
+/// In the reference build: what document 01 puts in where the Rust leaves a result open, but for c
+/// and s, which `OF_ROUNDED` puts in.
 /// `solve_square` is 002's as it stands, and the host does not compile where there is fma.
 pub const PUT_IN: &[Patch] = &[
     // the nearest cube root
@@ -107,13 +108,6 @@ pub const PUT_IN: &[Patch] = &[
         "poly.rs",
         "-(0.5 * q + disc.max(0.0).sqrt().copysign(q)).cbrt()",
         "-crate::truth::exact::cbrt(0.5 * q + crate::truth::methods::max(disc, 0.0).sqrt().copysign(q))",
-        1,
-    ),
-    // c and s
-    (
-        "poly.rs",
-        "let (sin, cos) = (cos3.acos() / 3.0).sin_cos();",
-        "let (cos, sin) = crate::truth::exact::third_angle(cos3);",
         1,
     ),
     // L
@@ -272,6 +266,23 @@ pub const COUNTED: &[Patch] = &[
         1,
     ),
 ];
+
+/// c and s of the reference build, and of its copy in the mode of the exact c (document 02).
+pub const OF_ROUNDED: &[Patch] = &[pair(
+    "let (cos, sin) = crate::truth::angle::third_angle(crate::truth::angle::Sine::OfRounded, cos3);",
+)];
+pub const OF_EXACT: &[Patch] = &[pair(
+    "let (cos, sin) = crate::truth::angle::third_angle(crate::truth::angle::Sine::OfExact, cos3);",
+)];
+
+/// In the copy that has all mistakes: the mode at hand.
+pub const OF_CHOSEN: &[Patch] = &[pair(
+    "let (cos, sin) = crate::truth::angle::third_angle(crate::runs::mutants::sine(), cos3);",
+)];
+
+const fn pair(new: &'static str) -> Patch<'static> {
+    ("poly.rs", "let (sin, cos) = (cos3.acos() / 3.0).sin_cos();", new, 1)
+}
 
 /// In copies that tell kinds: each root says how many yes replies helped to form it. An item has
 /// them in its third number, 1 for a pair: where a chain takes it in, the reply was yes. Lines keep

@@ -10,6 +10,7 @@ use host::people::text;
 use host::port::contacts::{pin_contact, pin_contact_bytes};
 use host::runs::contacts::{CASES, add, made, reference, yes};
 use host::stored::telling;
+use host::truth::angle::Sine;
 use host::truth::contact::Contact;
 use host::truth::hall_file::Record;
 use host::truth::kind::Kind::{self, Brush, Crossing, Flat};
@@ -29,8 +30,10 @@ fn answers(line: &str, roots: &[(f64, u32, Kind)]) {
     let root = |&(value, multiplicity, kind): &_| Root { value, multiplicity, kind };
     let wanted = Answer::new(0, &roots.iter().map(root).collect::<Vec<_>>());
     let contact = of_line(line);
-    for answer in [pin_contact(contact.numbers()), reference(&contact).list] {
-        assert!(answer.same(&wanted), "{line}: {}", answer.text());
+    for sine in Sine::BOTH {
+        for answer in [pin_contact(sine, contact.numbers()), reference(sine, &contact).list] {
+            assert!(answer.same(&wanted), "{line}: {}", answer.text());
+        }
     }
 }
 
@@ -47,7 +50,8 @@ fn entries() {
     answers("contact 0x3FDFFFFFFFFFFFFF 1 0 0 0 1 0 0 0 0.5", &[]);
     // D = R, and no reply is yes below 0
     answers("contact 0 0.5 -1.2 0 1.2 0.5 0 0 0 1.3", &[(0.0, 2, Brush)]);
-    assert_eq!(pin_contact(of_line("contact -1 0.5 -1.2 0 1.2 0.5 0 0 0 1.3").numbers()).len, 2);
+    let never = of_line("contact -1 0.5 -1.2 0 1.2 0.5 0 0 0 1.3").numbers();
+    assert_eq!(Sine::BOTH.map(|sine| pin_contact(sine, never).len), [2; 2]);
 }
 
 /// The record with these numbers in place of others.
@@ -59,7 +63,11 @@ fn with(changes: &[(usize, f64)]) -> [f64; 10] {
 
 #[test]
 fn refusals() {
-    let refused = |changes: &[(usize, f64)]| pin_contact(with(changes)).refusal;
+    let refused = |changes: &[(usize, f64)]| {
+        let [refusal, same] = Sine::BOTH.map(|sine| pin_contact(sine, with(changes)).refusal);
+        assert_eq!(refusal, same);
+        refusal
+    };
     let not_finite = EDGES.map(f64::from_bits).into_iter().filter(|x| !x.is_finite());
     for x in not_finite.flat_map(|x| [x, -x]) {
         for place in 0..10 {
@@ -91,35 +99,40 @@ fn refusals() {
 /// Every edge, either sign, in each of the ten places of some records.
 #[test]
 fn edges_in_each_place() {
+    Sine::BOTH.into_iter().for_each(edges_in);
+}
+
+fn edges_in(sine: Sine) {
     let lines = [
         ROLLING,
         "contact 0 0.5 -1.2 0 1.2 0.5 0 0 0 1.3",
         "contact 1e-7 0 0.001 0 1.00000005 0 0 3 0 1",
         "contact 2^-30 0 8 -1 0 0.5 0.25 12 1 1",
     ];
-    let mut outcome = Outcome::new("contacts", &CASES);
+    let mut outcome = Outcome::new("contacts", Some(sine), &CASES);
     for numbers in lines.map(|line| of_line(line).numbers()) {
         for (place, x) in (0..10).flat_map(|place| EDGES.map(|bits| (place, f64::from_bits(bits))))
         {
             for x in [x, -x] {
                 let mut numbers = numbers;
                 numbers[place] = x;
-                add(&mut outcome, &Contact::new(numbers));
+                add(&mut outcome, sine, &Contact::new(numbers));
             }
         }
     }
     for (_, contact) in telling::contacts() {
-        add(&mut outcome, &contact);
+        add(&mut outcome, sine, &contact);
     }
-    say(&format!("edges in each place: {} contacts, {}", outcome.inputs, outcome.met.text()));
+    let (mode, all) = (sine.words(), outcome.inputs);
+    say(&format!("edges in each place, {mode}: {all} contacts, {}", outcome.met.text()));
     assert!(outcome.wrong == 0, "{}", outcome.shown.join("\n"));
 }
 
 /// How many yes replies a run has at least.
 const YES: u64 = 10_000;
 
-fn made_contacts(seed: u64) {
-    let outcome = made(seed, 1_000_000);
+fn made_contacts(sine: Sine, seed: u64) {
+    let outcome = made(sine, seed, 1_000_000);
     say(&format!("contacts, seed {seed}: {}", outcome.text()));
     assert!(outcome.wrong == 0, "{}", outcome.shown.join("\n"));
     outcome.met.ask("contacts");
@@ -130,12 +143,12 @@ fn made_contacts(seed: u64) {
 
 #[test]
 fn made_contacts_first() {
-    made_contacts(741);
+    Sine::BOTH.into_iter().for_each(|sine| made_contacts(sine, 741));
 }
 
 #[test]
 fn made_contacts_second() {
-    made_contacts(742);
+    Sine::BOTH.into_iter().for_each(|sine| made_contacts(sine, 742));
 }
 
 /// What each kind of made records is there for.
@@ -146,7 +159,7 @@ fn kinds() {
         let (mut refused, mut asked, mut replied) = ([0; 13], 0, 0);
         for _ in 0..10_000 {
             let contact = contact(&mut r, which);
-            let ran = reference(&contact);
+            let ran = reference(Sine::OfExact, &contact);
             refused[ran.list.refusal as usize] += 1;
             asked += ran.places.len();
             replied += yes(&contact, &ran.places);
@@ -184,11 +197,13 @@ fn buffers() {
     for room in 0..=130 {
         let whole = if room < 104 { 0 } else { 104 };
         for (numbers, wanted) in refused.into_iter().chain([(with(&[]), whole)]) {
-            let mut out = before.clone();
-            let said = pin_contact_bytes(numbers, &mut out[..room]);
-            assert_eq!(said, wanted, "{numbers:?} into {room} bytes");
-            let stored = if said < 104 { 0 } else { said as usize };
-            assert_eq!(out[stored..], before[stored..], "{numbers:?} into {room} bytes");
+            for sine in Sine::BOTH {
+                let mut out = before.clone();
+                let said = pin_contact_bytes(sine, numbers, &mut out[..room]);
+                assert_eq!(said, wanted, "{numbers:?} into {room} bytes");
+                let stored = if said < 104 { 0 } else { said as usize };
+                assert_eq!(out[stored..], before[stored..], "{numbers:?} into {room} bytes");
+            }
         }
     }
 }

@@ -4,22 +4,25 @@ use host::compare::answer::Answer;
 use host::compare::say;
 use host::port::inquiries::{crank_inquire, crank_inquire_bytes};
 use host::runs::cranks::made;
+use host::truth::angle::Sine;
 use host::truth::kind::Root;
 
 const TOL: f64 = 1.0 / (1u64 << 30) as f64;
 
 /// Every question replied no, by feeding one reply after another: k and the list.
 fn answers(terms: [f64; 5], k: u64, roots: &[Root]) {
-    let mut replies = Vec::new();
-    let shown = loop {
-        let shown = crank_inquire(TOL, terms, &replies).unwrap();
-        assert!(shown.k == k && replies.len() < 4, "{terms:?}: k {}", shown.k);
-        if shown.place.is_none() {
-            break shown;
-        }
-        replies.push(0);
-    };
-    assert!(shown.list.same(&Answer::new(0, roots)), "{terms:?}: {}", shown.list.text());
+    for sine in Sine::BOTH {
+        let mut replies = Vec::new();
+        let shown = loop {
+            let shown = crank_inquire(sine, TOL, terms, &replies).unwrap();
+            assert!(shown.k == k && replies.len() < 4, "{terms:?}: k {}", shown.k);
+            if shown.place.is_none() {
+                break shown;
+            }
+            replies.push(0);
+        };
+        assert!(shown.list.same(&Answer::new(0, roots)), "{terms:?}: {}", shown.list.text());
+    }
 }
 
 #[test]
@@ -28,14 +31,20 @@ fn entries() {
     // e alone; on equal sizes the last sample wins
     answers([0.0, 0.0, 0.0, 0.0, 1.0], 7, &[]);
     answers([0.0, 0.0, 0.0, 0.0, -1.0], 7, &[]);
-    let shown = crank_inquire(TOL, [1.0, 0.0, 0.0, 0.0, 0.0], &[]).unwrap();
-    assert_eq!(shown.k, 6, "cos 2t alone");
+    for sine in Sine::BOTH {
+        let shown = crank_inquire(sine, TOL, [1.0, 0.0, 0.0, 0.0, 0.0], &[]).unwrap();
+        assert_eq!(shown.k, 6, "cos 2t alone");
+    }
 }
 
 #[test]
 fn refused_starts() {
     for replies in [&[][..], &[0], &[1, 1]] {
-        let refused = |terms| crank_inquire(TOL, terms, replies).err();
+        let refused = |terms| {
+            let both = Sine::BOTH.map(|sine| crank_inquire(sine, TOL, terms, replies).err());
+            assert_eq!(both[0], both[1]);
+            both[0]
+        };
         for at in 0..5 {
             for x in [f64::NAN, f64::INFINITY, f64::NEG_INFINITY] {
                 let mut terms = [1.0; 5];
@@ -50,11 +59,13 @@ fn refused_starts() {
 }
 
 fn made_cranks(seed: u64) {
-    let outcome = made(seed, 1_000_000);
-    say(&format!("cranks, seed {seed}: {}", outcome.text()));
-    assert!(outcome.wrong == 0, "{}", outcome.shown.join("\n"));
-    outcome.met.ask("cranks");
-    outcome.ask_kinds();
+    for sine in Sine::BOTH {
+        let outcome = made(sine, seed, 1_000_000);
+        say(&format!("cranks, seed {seed}: {}", outcome.text()));
+        assert!(outcome.wrong == 0, "{}", outcome.shown.join("\n"));
+        outcome.met.ask("cranks");
+        outcome.ask_kinds();
+    }
 }
 
 #[test]
@@ -77,11 +88,13 @@ fn buffers() {
         let cosine = ([0.0, 0.0, 1.0, 0.0, 0.0], whole);
         for (terms, wanted) in [cosine, ([f64::NAN; 5], 1), ([0.0; 5], 2), ([f64::MAX; 5], 5)] {
             for replies in [&[][..], &[0], &[1], &[1, 0]] {
-                let mut out = before.clone();
-                let said = crank_inquire_bytes(TOL, terms, replies, &mut out[..room]);
-                assert_eq!(said, wanted, "{terms:?} into {room} bytes");
-                let stored = if said < 8 { 0 } else { said as usize };
-                assert_eq!(out[stored..], before[stored..], "{terms:?} into {room} bytes");
+                for sine in Sine::BOTH {
+                    let mut out = before.clone();
+                    let said = crank_inquire_bytes(sine, TOL, terms, replies, &mut out[..room]);
+                    assert_eq!(said, wanted, "{terms:?} into {room} bytes");
+                    let stored = if said < 8 { 0 } else { said as usize };
+                    assert_eq!(out[stored..], before[stored..], "{terms:?} into {room} bytes");
+                }
             }
         }
     }

@@ -2,7 +2,11 @@
 //! has them as a table.
 #![cfg(geomcore)]
 use host::port;
-use host::runs::lists::{by_untouched, reference};
+use host::runs::lists::{beside, reference};
+use host::truth::angle::Sine;
+
+/// The mode of the reference build.
+const OLD: Sine = Sine::OfRounded;
 
 /// In each paragraph a cause and in what it departs; the tolerance and the list, in bits; the
 /// untouched Rust's answer; the reference build's, which is the port's.
@@ -81,8 +85,13 @@ fn departures() {
         };
         let (tol, list) = input.split_once(": ").expect("a tolerance and a list");
         let (tol, list) = (double(tol), list.split(' ').map(double).collect::<Vec<_>>());
-        assert_eq!(port::real_roots(&list, tol).text(), wanted, "{name}, port");
-        assert_eq!(reference(&list, tol).text(), wanted, "{name}, reference build");
-        assert_eq!(by_untouched(&list, tol).text(), rust, "{name}, untouched Rust");
+        let (port, reference, untouched) = (
+            port::real_roots(OLD, &list, tol),
+            reference(OLD, &list, tol),
+            beside(OLD, &list, tol),
+        );
+        assert_eq!(port.text(), wanted, "{name}, port");
+        assert_eq!(reference.text(), wanted, "{name}, reference build");
+        assert_eq!(untouched.text(), rust, "{name}, untouched Rust");
     }
 }

@@ -3,6 +3,8 @@
 use host::compare::{Kind, compare, kind};
 use host::inputs::leaves;
 use host::inputs::random::Random;
+use host::truth::angle::{self, Sine};
+use host::truth::big::Big;
 use host::truth::exact::{self, digits};
 use host::truth::plain;
 
@@ -50,7 +52,56 @@ fn third_angle() {
         let c = plain::third_cos(v);
         (c, plain::third_sin(c))
     };
-    compare("exact third angle", 203, &kinds, exact::third_angle, plainly);
+    let exactly = |v| angle::third_angle(Sine::OfRounded, v);
+    compare("exact third angle", 203, &kinds, exactly, plainly);
+    let exactly = |v| angle::third_angle(Sine::OfExact, v).1;
+    compare("s of the exact c", 203, &kinds, exactly, plain::third_sin_of_exact);
+    compare("s of the exact c by digits of c", 203, &kinds, exactly, by_digits_of_c);
+}
+
+/// √(1 - c²) from 400 digits of c, the greatest solution of 4c³ - 3c = v, found by halving: from
+/// either end of what c lies in.
+fn by_digits_of_c(v: f64) -> f64 {
+    const DIGITS: usize = 400;
+    // 2^(3 * 1074) * (4c³ - 3c) is at most that of v
+    let one = Big::power_of_two(DIGITS);
+    let size = plain::units(v);
+    let at_most = |c: &Big| {
+        let cube = c.mul(c).mul(c).shl(2);
+        let rest = c.mul(&Big::from(3u64)).shl(2 * DIGITS);
+        let (left, right) = match v < 0.0 {
+            true => (cube.shl(1074).add(&size.shl(3 * DIGITS)), rest.shl(1074)),
+            false => (cube.shl(1074), rest.shl(1074).add(&size.shl(3 * DIGITS))),
+        };
+        left <= right
+    };
+    let (mut low, mut high) = (Big::power_of_two(DIGITS - 1), one.add(&Big::from(1u64)));
+    while high.sub(&low) > Big::from(1u64) {
+        let middle = low.add(&high).shr(1);
+        match at_most(&middle) {
+            true => low = middle,
+            false => high = middle,
+        }
+    }
+    let sine = |c: &Big| {
+        let square = Big::power_of_two(2 * DIGITS).sub(&c.mul(c));
+        let (mut low, mut high) = (Big::from(0u64), Big::power_of_two(DIGITS));
+        while high.sub(&low) > Big::from(1u64) {
+            let middle = low.add(&high).shr(1);
+            match middle.mul(&middle) <= square {
+                true => low = middle,
+                false => high = middle,
+            }
+        }
+        low
+    };
+    // units of 2^-1074, as `nearest` takes them
+    let double = |s: &Big| plain::nearest(&s.shl(1074), DIGITS);
+    let exact = at_most(&low) && v.abs() == 1.0;
+    let least = if exact { sine(&low) } else { sine(&high.min(one)) };
+    let most = sine(&low).add(&Big::from(u64::from(!exact)));
+    assert_eq!(double(&least), double(&most), "{v:e}");
+    double(&least)
 }
 
 #[test]
@@ -134,7 +185,10 @@ fn entries() {
     let tiny = f64::from_bits(1);
     assert_eq!(exact::sqrt(tiny), exact::ldexp(1.0, -537));
     assert_eq!(exact::cbrt(27.0), 3.0);
-    assert_eq!(exact::third_angle(1.0), (1.0, 0.0));
+    for sine in Sine::BOTH {
+        assert_eq!(angle::third_angle(sine, 1.0), (1.0, 0.0));
+        assert_eq!(angle::third_angle(sine, -1.0), (0.5, 0.75f64.sqrt()));
+    }
     assert_eq!(exact::log2(3.0), 405.0 / 256.0);
     assert_eq!(exact::scale_exponent(&[2.0, -3.0, 1.0]), 2);
     assert_eq!(exact::scale_exponent(&[f64::from_bits(0x3FF0_0000_0000_0001), 1.0]), 1);
@@ -142,10 +196,13 @@ fn entries() {
     assert_eq!(exact::exponent(f64::from_bits(0x000F_FFFF_FFFF_FFFF)), -1023);
     let twice = exact::ldexp(f64::from_bits(0x3E1A_6C40_0000_0001), -1031);
     assert_eq!(twice.to_bits(), 0x34D8);
-    let (c, s) = exact::third_angle(-0.0);
-    assert_eq!((c.to_bits(), s.to_bits()), (0x3FEB_B67A_E858_4CAA, 0x3FE0_0000_0000_0001));
-    assert_eq!(exact::third_angle(-1.0).0, 0.5);
-    assert_eq!(exact::third_angle(leaves::step(1.0, -1)), (1.0, 0.0));
+    for zero in [0.0, -0.0] {
+        let both = Sine::BOTH.map(|sine| angle::third_angle(sine, zero));
+        assert_eq!(both.map(|(c, _)| c.to_bits()), [0x3FEB_B67A_E858_4CAA; 2]);
+        assert_eq!(both.map(|(_, s)| s.to_bits()), [0x3FE0_0000_0000_0001, 0x3FE0_0000_0000_0000]);
+    }
+    let below_one = Sine::BOTH.map(|sine| angle::third_angle(sine, leaves::step(1.0, -1)));
+    assert_eq!(below_one, [(1.0, 0.0), (1.0, f64::from_bits(0x3E35_5555_5555_5555))]);
     assert_eq!(exact::thresholds()[0], 1 << 52);
     assert_eq!(exact::thresholds()[255], 8982844293129178);
 }

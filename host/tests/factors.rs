@@ -5,6 +5,8 @@ use host::compare::{compare, say};
 use host::inputs::polynomials::{every_kind, monic, polynomial, quadratics};
 use host::inputs::random::Random;
 use host::port::{self, exported};
+use host::truth::angle::Sine;
+use host::truth::factors;
 use host::truth::reference::patched::poly;
 
 const EACH: usize = 115_000;
@@ -12,26 +14,28 @@ const EACH: usize = 115_000;
 #[test]
 fn cubics() {
     let kinds = every_kind(&mut Random::new(401), EACH, monic::<3>);
-    let rust = |[b, c, d]: [f64; 3]| {
-        let (roots, n) = poly::cubic_closed_form(b, c, d);
-        (roots, n as u64)
-    };
-    compare("cubic_closed_form", 401, &kinds, port::cubic_closed_form, rust);
-    let all = kinds.iter().flat_map(|k| &k.inputs);
-    let three = all.filter(|&&a| port::cubic_closed_form(a).1 == 3).count();
-    say(&format!("cubic_closed_form: {three} with three roots"));
-    let rust = |[b, c, d]: [f64; 3]| poly::cubic_factor(b, c, d).into();
-    compare("cubic_factor", 401, &kinds, port::cubic_factor, rust);
+    for sine in Sine::BOTH {
+        let name = format!("cubic_closed_form, {}", sine.words());
+        let (port, rust) =
+            (|bcd| port::cubic_closed_form(sine, bcd), |bcd| factors::closed_form(sine, bcd));
+        compare(&name, 401, &kinds, port, rust);
+        let all = kinds.iter().flat_map(|k| &k.inputs);
+        let three = all.filter(|&&bcd| port(bcd).1 == 3).count();
+        say(&format!("{name}: {three} with three roots"));
+        let name = format!("cubic_factor, {}", sine.words());
+        let rust = |bcd| factors::of_cubic(sine, bcd);
+        compare(&name, 401, &kinds, |bcd| port::cubic_factor(sine, bcd), rust);
+    }
 }
 
 #[test]
 fn quartics() {
     let kinds = every_kind(&mut Random::new(402), EACH, monic::<4>);
-    let rust = |[b, c, d, e]: [f64; 4]| {
-        let [(al, be), (ga, de)] = poly::quartic_factor(b, c, d, e);
-        [al, be, ga, de]
-    };
-    compare("quartic_factor", 402, &kinds, port::quartic_factor, rust);
+    for sine in Sine::BOTH {
+        let name = format!("quartic_factor, {}", sine.words());
+        let rust = |bcde| factors::of_quartic(sine, bcde);
+        compare(&name, 402, &kinds, |bcde| port::quartic_factor(sine, bcde), rust);
+    }
 }
 
 #[test]
@@ -63,10 +67,12 @@ fn peeled() {
 #[test]
 fn refusals() {
     let [b, c, d, e] = [-10.0, 35.0, -50.0, 24.0];
-    let closed = |_: &[u8], out: &mut [u8]| exported::cubic_closed_form(b, c, d, out);
+    let closed = |_: &[u8], out: &mut [u8]| exported::cubic_closed_form(0, b, c, d, out);
     whole_or_nothing("cubic_closed_form", 0, 32, closed);
-    whole_or_nothing("cubic_factor", 0, 24, |_, out| exported::cubic_factor(b, c, d, out));
-    whole_or_nothing("quartic_factor", 0, 32, |_, out| exported::quartic_factor(b, c, d, e, out));
+    whole_or_nothing("cubic_factor", 0, 24, |_, out| exported::cubic_factor(0, b, c, d, out));
+    whole_or_nothing("quartic_factor", 0, 32, |_, out| {
+        exported::quartic_factor(0, b, c, d, e, out)
+    });
     whole_or_nothing("isolated_root", 0, 16, |_, out| exported::isolated_root(b, c, d, e, out));
     whole_or_nothing("peel_root", 0, 32, |_, out| exported::peel_root(b, c, d, e, 1.0, out));
 }

@@ -180,13 +180,14 @@ mod listings {
     use host::stored::files::{
         DOCUMENT, DOCUMENT_LISTING, ENTRIES, FINE_POINTS, KINDS, MISTAKES, REFUSED, files, of_size,
     };
+    use host::truth::angle::Sine;
     use host::truth::hall_file::Kind;
     use host::truth::kind;
     use host::truth::lister::{Line, Reference, Untouched, listing};
     use host::truth::listing::lines;
 
     fn listed(bytes: &[u8]) -> String {
-        String::from_utf8(listing(bytes, &Reference)).unwrap()
+        String::from_utf8(listing(bytes, &Reference(Sine::OfExact))).unwrap()
     }
 
     /// The lines of a text's records; the total behind them is theirs.
@@ -327,7 +328,7 @@ mod listings {
     fn kinds() {
         let wanted = "1c 1c|2f|2f 2f|1c 2f 1c|3f 1c|2f|2f 2f|4f|4b|2f 2f|4b|2b 2b||4b|1c 1c 1c 1c\
             |1c 3b|1c 1c 2b|1c 1c|2f 2f|2b 2f|2b 2f|1c 1c 1c 1c";
-        let read = lines(&listing(&read(KINDS).unwrap(), &Reference)).unwrap();
+        let read = lines(&listing(&read(KINDS).unwrap(), &Reference(Sine::OfExact))).unwrap();
         let root = |(m, kind): (u32, kind::Kind)| format!("{m}{}", kind.letter());
         let of_line = |line: &Line| {
             let roots = line.answer.roots().into_iter().filter_map(|(_, listed)| listed);
@@ -377,7 +378,7 @@ mod listings {
     fn lengths() {
         let root = "ok 2 3FF0000000000000 1 c 4000000000000000 1 c";
         for size in [65_535, 65_536] {
-            let read = lines(&listing(&of_size(size), &Reference)).unwrap();
+            let read = lines(&listing(&of_size(size), &Reference(Sine::OfExact))).unwrap();
             assert!(read.iter().all(|line| line.to_string().ends_with(root)), "{size}");
             assert!(read.len() > 245);
         }
@@ -386,7 +387,7 @@ mod listings {
             assert_eq!(listed(&vec![b'P'; size]), too_long);
         }
         assert_eq!(listed(&of_size(65_537)), too_long);
-        let cut = lines(&listing(&of_size(65_536)[..65_535], &Reference)).unwrap();
+        let cut = lines(&listing(&of_size(65_536)[..65_535], &Reference(Sine::OfExact))).unwrap();
         assert!(cut.last().unwrap().to_string().ends_with(" PL refused 7"));
         // the most lines that a file can have
         let short = b"PL\0\0\0\0\0\0\0\0\0".repeat(5957);
@@ -401,7 +402,7 @@ mod listings {
         let (mut refused, mut brushes) = ([0u64; 16], 0);
         for _ in 0..20_000 {
             let bytes = any_file(&mut r);
-            let read = lines(&listing(&bytes, &Reference)).unwrap();
+            let read = lines(&listing(&bytes, &Reference(Sine::OfExact))).unwrap();
             for (i, line) in read.iter().enumerate() {
                 assert_eq!(line.number, i + 1);
                 let kinds = line.answer.roots().into_iter().filter_map(|(_, listed)| listed);

@@ -10,6 +10,7 @@ use host::port::formulas::{
 };
 use host::runs::formulas::{add, made, outcome, reference};
 use host::stored::telling;
+use host::truth::angle::Sine;
 use host::truth::formula::MOST_BYTES;
 use std::thread;
 
@@ -29,30 +30,32 @@ fn expands(text: &[u8], coeffs: &[f64]) {
     let mut wanted = [0.0; 6];
     wanted[0] = coeffs.len() as f64;
     wanted[1..=coeffs.len()].copy_from_slice(coeffs);
-    for given in [formula_coefficients(text), reference(text, TOL).0] {
+    for given in [formula_coefficients(text), reference(Sine::OfExact, text, TOL).0] {
         let given = given.unwrap_or_else(|n| panic!("{}: refused {n}", text.escape_ascii()));
         assert_eq!(given.map(f64::to_bits), wanted.map(f64::to_bits), "{}", text.escape_ascii());
     }
-    let (given, wanted) = (formula_roots(text, TOL), reference(text, TOL).1);
-    assert!(given.same(&wanted), "{}: {}", text.escape_ascii(), given.text());
-    assert_eq!(given.refusal, if coeffs.len() < 2 { 2 } else { 0 }, "{}", text.escape_ascii());
+    for sine in Sine::BOTH {
+        let (given, wanted) = (formula_roots(sine, text, TOL), reference(sine, text, TOL).1);
+        assert!(given.same(&wanted), "{}: {}", text.escape_ascii(), given.text());
+        assert_eq!(given.refusal, if coeffs.len() < 2 { 2 } else { 0 }, "{}", text.escape_ascii());
+    }
 }
 
 /// Port and host refuse the text under this number.
 fn refused(text: &[u8], number: u64) {
-    let (coeffs, list) = reference(text, TOL);
-    assert_eq!((coeffs, list.refusal), (Err(number), number), "{}", text.escape_ascii());
-    let given = (formula_coefficients(text), formula_roots(text, TOL).refusal);
-    assert_eq!(given, (Err(number), number), "{}", text.escape_ascii());
+    for sine in Sine::BOTH {
+        let (coeffs, list) = reference(sine, text, TOL);
+        assert_eq!((coeffs, list.refusal), (Err(number), number), "{}", text.escape_ascii());
+        let given = (formula_coefficients(text), formula_roots(sine, text, TOL).refusal);
+        assert_eq!(given, (Err(number), number), "{}", text.escape_ascii());
+    }
 }
 
 #[test]
 fn entries() {
     expands(b"(t-2)^2*(t+1)", &[4.0, 0.0, -3.0, 1.0]);
-    assert_eq!(
-        formula_roots(b"(t-2)^2*(t+1)", TOL).text(),
-        "ok 2 BFF0000000000000 1 c 4000000000000000 2 f"
-    );
+    let listed = Sine::BOTH.map(|sine| formula_roots(sine, b"(t-2)^2*(t+1)", TOL).text());
+    assert_eq!(listed, ["ok 2 BFF0000000000000 1 c 4000000000000000 2 f"; 2]);
     expands(b"t", &[0.0, 1.0]);
     expands(b"7", &[7.0]);
     expands(b"000000007", &[7.0]);
@@ -277,7 +280,7 @@ fn small_stack() {
         vec![b'('; MOST_BYTES],
         [&b"(t*"[..].repeat(63), &b"0"[..], &[b')'; 63]].concat(),
     ];
-    let refusals = || texts.map(|text| formula_roots(&text, TOL).refusal);
+    let refusals = || texts.map(|text| formula_roots(Sine::OfExact, &text, TOL).refusal);
     let thread = thread::Builder::new().stack_size(1 << 18).spawn(refusals);
     assert_eq!(thread.unwrap().join().unwrap(), [0, 14, 13, 2]);
 }
@@ -287,8 +290,8 @@ fn small_stack() {
 fn long_texts() {
     for n in [256, 257, 300, 510, 511, 512, 65_536, 1_000_000] {
         for text in [vec![b't'; n], vec![b'('; n], vec![b'0'; n], b"t+".repeat(n / 2 + 1)] {
-            let given = (formula_coefficients(&text), formula_roots(&text, TOL).refusal);
-            assert_eq!(given, (Err(21), 21), "{n} bytes");
+            let roots = Sine::BOTH.map(|sine| formula_roots(sine, &text, TOL).refusal);
+            assert_eq!((formula_coefficients(&text), roots), (Err(21), [21; 2]), "{n} bytes");
         }
     }
     let sum = [&b"t"[..], &b"+1".repeat(127)].concat();
@@ -305,24 +308,29 @@ const CHANGED: [&[u8]; 4] =
 /// is no part of it.
 #[test]
 fn each_byte_in_each_place() {
-    let outcome = outcome(|all| {
+    Sine::BOTH.into_iter().for_each(each_byte_in);
+}
+
+fn each_byte_in(sine: Sine) {
+    let add = |all: &mut Outcome, text: &[u8]| add(all, sine, text, TOL);
+    let outcome = outcome(sine, |all| {
         for text in CHANGED {
             for at in 0..text.len() {
                 for byte in 0..=255 {
                     let mut changed = text.to_vec();
                     changed[at] = byte;
-                    add(all, &changed, TOL);
+                    add(all, &changed);
                     changed[at] = text[at];
                     changed.insert(at, byte);
-                    add(all, &changed, TOL);
+                    add(all, &changed);
                 }
-                add(all, &[&text[..at], &text[at + 1..]].concat(), TOL);
-                add(all, &text[..at], TOL);
-                add(all, &text[at..], TOL);
+                add(all, &[&text[..at], &text[at + 1..]].concat());
+                add(all, &text[..at]);
+                add(all, &text[at..]);
             }
         }
         for (_, text) in telling::FORMULAS {
-            add(all, text, TOL);
+            add(all, text);
         }
     });
     all_equal("each byte in each place", &outcome);
@@ -330,32 +338,41 @@ fn each_byte_in_each_place() {
 
 #[test]
 fn every_short_text() {
-    let outcome = outcome(|all| short_texts(6).for_each(|text| add(all, &text, TOL)));
-    all_equal("every text of up to 6 characters", &outcome);
-    let met = |name| outcome.met.count(name);
-    assert_eq!(outcome.inputs, 299_593);
-    assert_eq!(met("answered") + met("refused 2"), 383);
-    assert_eq!(met("refused 13"), 299_210);
+    for sine in Sine::BOTH {
+        let outcome =
+            outcome(sine, |all| short_texts(6).for_each(|text| add(all, sine, &text, TOL)));
+        all_equal("every text of up to 6 characters", &outcome);
+        let met = |name| outcome.met.count(name);
+        assert_eq!(outcome.inputs, 299_593);
+        assert_eq!(met("answered") + met("refused 2"), 383);
+        assert_eq!(met("refused 13"), 299_210);
+    }
 }
 
 /// Every edge as the tolerance, which decides where roots are joined.
 #[test]
 fn tolerances() {
-    let outcome = outcome(|all| {
-        for tol in EDGES.map(f64::from_bits).into_iter().flat_map(|x| [x, -x]) {
-            for text in CHANGED.into_iter().chain([&b"t^5"[..], b"7", b"(t-1000)^2-1"]) {
-                add(all, text, tol);
+    for sine in Sine::BOTH {
+        let outcome = outcome(sine, |all| {
+            for tol in EDGES.map(f64::from_bits).into_iter().flat_map(|x| [x, -x]) {
+                for text in CHANGED.into_iter().chain([&b"t^5"[..], b"7", b"(t-1000)^2-1"]) {
+                    add(all, sine, text, tol);
+                }
             }
-        }
-    });
-    all_equal("tolerances", &outcome);
+        });
+        all_equal("tolerances", &outcome);
+    }
 }
 
-/// With every short text, and each byte in each place, 5,000,000.
+/// With every short text, and each byte in each place, 5,000,000 in either mode.
 const EACH: u64 = 1_170_000;
 
 fn made_formulas(seed: u64) {
-    let outcome = made(seed, EACH);
+    Sine::BOTH.into_iter().for_each(|sine| made_formulas_in(sine, seed));
+}
+
+fn made_formulas_in(sine: Sine, seed: u64) {
+    let outcome = made(sine, seed, EACH);
     all_equal(&format!("made formulas, seed {seed}"), &outcome);
     outcome.met.ask("formulas");
     let met = |name| outcome.met.count(name);
@@ -405,9 +422,11 @@ fn buffers() {
     };
     for room in 0..=130 {
         for (text, refusal) in texts {
-            let mut out = before.clone();
-            let said = formula_roots_bytes(text, TOL, &mut out[..room]);
-            unchanged(said, 104, room, &out, refusal);
+            for sine in Sine::BOTH {
+                let mut out = before.clone();
+                let said = formula_roots_bytes(sine, text, TOL, &mut out[..room]);
+                unchanged(said, 104, room, &out, refusal);
+            }
             let mut out = before.clone();
             let said = formula_coefficients_bytes(text, &mut out[..room]);
             // a constant has coefficients, and no roots

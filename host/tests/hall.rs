@@ -3,6 +3,7 @@ mod run;
 
 use host::compare::{bits, say};
 use host::port;
+use host::truth::angle::Sine;
 use run::{hall, said, scratch, text};
 use std::fs;
 
@@ -140,14 +141,16 @@ fn line_by_port(record: &[u8]) -> String {
     let size = u32::from_le_bytes(record[10..14].try_into().unwrap()) as i32;
     let k = if record[9] == b'-' { -size } else { size };
     let hex = |x: f64| format!("{:016X}", bits(x));
+    let pair = |name: &str, sine| {
+        let (c, s) = port::third_angle(sine, x);
+        format!("{name} {} {} {}", hex(x), hex(c), hex(s))
+    };
     match record[0] {
         b's' => format!("sqrt {} {}", hex(x), hex(port::leaf_sqrt(x))),
         b'c' => format!("cbrt {} {}", hex(x), hex(port::leaf_cbrt(x))),
         b'l' => format!("log2 {} {}", hex(x), hex(port::leaf_log2(x))),
-        b'a' => {
-            let (c, s) = port::third_angle(x);
-            format!("third {} {} {}", hex(x), hex(c), hex(s))
-        }
+        b'a' => pair("third", Sine::OfRounded),
+        b'b' => pair("exact", Sine::OfExact),
         b'd' => format!("ldexp {} {k} {}", hex(x), hex(port::leaf_ldexp(x, k))),
         b'e' => format!("exponent {} {}", hex(x), port::leaf_exponent(x)),
         b'p' => format!("pow2 {k} {}", hex(port::leaf_pow2(k))),
@@ -165,7 +168,7 @@ fn stored_leaves() {
     assert_eq!(data.len() % 14, 0);
     let by_port: String = data.chunks(14).map(|r| line_by_port(r) + "\n").collect();
     assert_eq!(lines, by_port);
-    for word in ["sqrt", "cbrt", "third", "log2", "ldexp", "exponent", "pow2"] {
+    for word in ["sqrt", "cbrt", "third", "log2", "ldexp", "exponent", "pow2", "exact"] {
         let n = lines.lines().filter(|l| l.starts_with(word)).count();
         assert!(n >= 70, "{n} records of {word}");
     }
@@ -176,7 +179,7 @@ fn stored_leaves() {
 }
 
 /// Document 01's entries, and inputs that show a mistake.
-const ENTRIES: [&str; 10] = [
+const ENTRIES: [&str; 13] = [
     "sqrt 0000000000000001 1E60000000000000",
     "cbrt 403B000000000000 4008000000000000",
     "third 3FF0000000000000 3FF0000000000000 0000000000000000",
@@ -186,5 +189,8 @@ const ENTRIES: [&str; 10] = [
     "third 8000000000000000 3FEBB67AE8584CAA 3FE0000000000001",
     "third BFF0000000000000 3FE0000000000000 3FEBB67AE8584CAA",
     "third 3FEFFFFFFFFFFFFF 3FF0000000000000 0000000000000000",
+    "exact 8000000000000000 3FEBB67AE8584CAA 3FE0000000000000",
+    "exact BFF0000000000000 3FE0000000000000 3FEBB67AE8584CAA",
+    "exact 3FEFFFFFFFFFFFFF 3FF0000000000000 3E35555555555555",
     "pow2 1024 7FF8000000000000",
 ];

@@ -5,8 +5,9 @@ use host::compare::answer::Answer;
 use host::compare::say;
 use host::inputs::lists::long_lists;
 use host::port;
-use host::port::inquiries::{inquire, inquire_bytes};
+use host::port::inquiries::{Shown, inquire, inquire_bytes};
 use host::runs::inquiries::{each, every_reply, made, made_long};
+use host::truth::angle::Sine;
 use host::truth::kind::Kind::{self, Brush, Crossing, Flat};
 use host::truth::kind::Root;
 use host::truth::touching;
@@ -14,11 +15,17 @@ use std::cell::Cell;
 
 const TOL: f64 = 1.0 / (1u64 << 30) as f64;
 
+/// What the inquiry shows after these replies, in either mode.
+fn both(coeffs: &[f64], replies: &[u8]) -> [Shown; 2] {
+    Sine::BOTH.map(|sine| inquire(sine, coeffs, TOL, replies).unwrap())
+}
+
 /// The inquiry asks about this place after these replies.
 fn asks(coeffs: &[f64], replies: &[u8], place: f64) {
-    let shown = inquire(coeffs, TOL, replies).unwrap();
-    let asked = shown.place.map(f64::to_bits);
-    assert_eq!((shown.number, asked), (0, Some(place.to_bits())), "{coeffs:?}, {replies:?}");
+    for shown in both(coeffs, replies) {
+        let asked = shown.place.map(f64::to_bits);
+        assert_eq!((shown.number, asked), (0, Some(place.to_bits())), "{coeffs:?}, {replies:?}");
+    }
 }
 
 type Listed = (f64, u32, Kind);
@@ -30,16 +37,19 @@ fn answer(roots: &[Listed]) -> Answer {
 
 /// It has ended with this list.
 fn lists(coeffs: &[f64], replies: &[u8], roots: &[Listed]) {
-    let shown = inquire(coeffs, TOL, replies).unwrap();
-    assert!(shown.number == 0 && shown.place.is_none(), "{coeffs:?}, {replies:?}");
-    assert!(shown.list.same(&answer(roots)), "{coeffs:?}: {}", shown.list.text());
+    ended(coeffs, replies, 0, roots);
+}
+
+fn ended(coeffs: &[f64], replies: &[u8], number: u64, roots: &[Listed]) {
+    for shown in both(coeffs, replies) {
+        assert!(shown.number == number && shown.place.is_none(), "{coeffs:?}, {replies:?}");
+        assert!(shown.list.same(&answer(roots)), "{coeffs:?}: {}", shown.list.text());
+    }
 }
 
 /// A further reply is refused, and changes nothing.
 fn refuses(coeffs: &[f64], replies: &[u8], roots: &[Listed]) {
-    let shown = inquire(coeffs, TOL, replies).unwrap();
-    assert!(shown.number == 4 && shown.place.is_none(), "{coeffs:?}, {replies:?}");
-    assert!(shown.list.same(&answer(roots)), "{coeffs:?}: {}", shown.list.text());
+    ended(coeffs, replies, 4, roots);
 }
 
 #[test]
@@ -63,12 +73,13 @@ fn entries() {
 fn kinds() {
     let formed = |coeffs: &[f64], replies: &[u8], roots: &[Listed]| {
         lists(coeffs, replies, roots);
-        let next = Cell::new(0);
-        let in_turn = |_| replies[next.replace(next.get() + 1)] != 0;
-        let list: Vec<Root> =
-            touching::list(coeffs, TOL, &in_turn).into_iter().map(Root::by).collect();
-        let list = Answer::new(0, &list);
-        assert!(list.same(&answer(roots)), "{coeffs:?}, {replies:?}: {}", list.text());
+        for sine in Sine::BOTH {
+            let next = Cell::new(0);
+            let in_turn = |_| replies[next.replace(next.get() + 1)] != 0;
+            let list = touching::list(sine, coeffs, TOL, &in_turn).into_iter().map(Root::by);
+            let list = Answer::new(0, &list.collect::<Vec<_>>());
+            assert!(list.same(&answer(roots)), "{coeffs:?}, {replies:?}: {}", list.text());
+        }
     };
     // a pair alone
     formed(&[1.0, 0.0, 1.0], &[1], &[(-0.0, 2, Brush)]);
@@ -98,8 +109,11 @@ fn kinds() {
 #[test]
 fn refused_starts() {
     let infinite = f64::INFINITY;
-    for replies in [&[][..], &[0], &[1, 1]] {
-        let refused = |coeffs: &[f64]| inquire(coeffs, TOL, replies).err();
+    for (replies, sine) in Sine::BOTH
+        .into_iter()
+        .flat_map(|sine| [&[][..], &[0], &[1, 1]].map(|replies| (replies, sine)))
+    {
+        let refused = |coeffs: &[f64]| inquire(sine, coeffs, TOL, replies).err();
         assert_eq!(refused(&[]), Some(2));
         assert_eq!(refused(&[7.0, 0.0]), Some(2));
         assert_eq!(refused(&[f64::NAN]), Some(1));
@@ -109,11 +123,13 @@ fn refused_starts() {
 }
 
 fn made_lists(seed: u64) {
-    let outcome = made(seed, 1_000_000);
-    say(&format!("inquiries, seed {seed}: {}", outcome.text()));
-    assert!(outcome.wrong == 0, "{}", outcome.shown.join("\n"));
-    outcome.met.ask("inquiries");
-    outcome.ask_kinds();
+    for sine in Sine::BOTH {
+        let outcome = made(sine, seed, 1_000_000);
+        say(&format!("inquiries, seed {seed}: {}", outcome.text()));
+        assert!(outcome.wrong == 0, "{}", outcome.shown.join("\n"));
+        outcome.met.ask("inquiries");
+        outcome.ask_kinds();
+    }
 }
 
 #[test]
@@ -128,19 +144,24 @@ fn made_lists_second() {
 
 #[test]
 fn long() {
-    for outcome in [each(&long_lists(), TOL), made_long(714, 200_000)] {
-        say(&format!("long lists: {}", outcome.text()));
-        assert!(outcome.wrong == 0, "{}", outcome.shown.join("\n"));
+    for sine in Sine::BOTH {
+        for outcome in [each(sine, &long_lists(), TOL), made_long(sine, 714, 200_000)] {
+            say(&format!("long lists: {}", outcome.text()));
+            assert!(outcome.wrong == 0, "{}", outcome.shown.join("\n"));
+        }
     }
 }
 
 #[test]
 fn every_sequence_of_replies() {
-    let (made, ends) = every_reply(713, 100_000);
-    let counts = ends.iter().zip(2..).map(|(n, ends)| format!("{n} with {ends}"));
-    let counts = counts.collect::<Vec<_>>().join(", ");
-    say(&format!("every sequence of replies, seed 713: {made} lists made, {counts}"));
-    assert!(ends.iter().sum::<u64>() == 100_000 && ends[0] * ends[6] > 0, "{ends:?}");
+    for sine in Sine::BOTH {
+        let (made, ends) = every_reply(sine, 713, 100_000);
+        let counts = ends.iter().zip(2..).map(|(n, ends)| format!("{n} with {ends}"));
+        let counts = counts.collect::<Vec<_>>().join(", ");
+        let mode = sine.words();
+        say(&format!("every sequence of replies, seed 713, {mode}: {made} lists made, {counts}"));
+        assert!(ends.iter().sum::<u64>() == 100_000 && ends[0] * ends[6] > 0, "{ends:?}");
+    }
 }
 
 /// On a refused start every byte of the lent buffer is as it was; on an answer, every byte behind
@@ -150,10 +171,13 @@ fn buffers() {
     let before: Vec<u8> = (0..150).map(|i| i as u8 ^ 0x5A).collect();
     let check = |coeffs: &[u8], replies: &[u8], room: usize, wanted: u64| {
         let mut out = before.clone();
-        let said = inquire_bytes(coeffs, TOL, replies, &mut out[..room]);
-        assert_eq!(said, wanted, "{coeffs:?} into {room} bytes");
-        let stored = if said < 24 { 0 } else { said as usize };
-        assert_eq!(out[stored..], before[stored..], "{coeffs:?} into {room} bytes");
+        for sine in Sine::BOTH {
+            out.copy_from_slice(&before);
+            let said = inquire_bytes(sine, coeffs, TOL, replies, &mut out[..room]);
+            assert_eq!(said, wanted, "{coeffs:?} into {room} bytes");
+            let stored = if said < 24 { 0 } else { said as usize };
+            assert_eq!(out[stored..], before[stored..], "{coeffs:?} into {room} bytes");
+        }
     };
     let circle = port::bytes(&[1.0, 0.0, 1.0]);
     for room in 0..=150 {

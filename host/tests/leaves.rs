@@ -4,6 +4,7 @@ use host::compare::{Kind, bits, compare, kind, say};
 use host::inputs::random::Random;
 use host::inputs::{leaves, near_ties};
 use host::port;
+use host::truth::angle::{self, Sine};
 use host::truth::{exact, reference};
 
 #[test]
@@ -56,7 +57,11 @@ fn log2_five(a: [f64; 5]) -> [f64; 5] {
 #[test]
 fn third_angle() {
     let kinds = leaves::third(&mut Random::new(104));
-    compare("third_angle", 104, &kinds, port::third_angle, exact::third_angle);
+    for sine in Sine::BOTH {
+        let name = format!("third_angle, {}", sine.words());
+        let port = |v| port::third_angle(sine, v);
+        compare(&name, 104, &kinds, port, |v| angle::third_angle(sine, v));
+    }
 }
 
 #[test]
@@ -133,12 +138,15 @@ fn stored(n: usize, answer: &[f64]) -> (u64, Vec<u8>) {
 
 #[test]
 fn third_angle_into_short_buffers() {
-    for v in [0.25, -1.0, 1.0, 0.0, f64::NAN, 2.0] {
-        let (c, s) = exact::third_angle(v);
+    for (sine, v) in Sine::BOTH
+        .into_iter()
+        .flat_map(|sine| [0.25, -1.0, 1.0, 0.0, f64::NAN, 2.0].map(|v| (sine, v)))
+    {
+        let (c, s) = angle::third_angle(sine, v);
         for n in 0..=48 {
             let mut out = filled(n);
-            let count = port::leaf_third_angle(v, &mut out);
-            assert_eq!((count, out), stored(n, &[c, s]), "{v} into {n} bytes");
+            let count = port::leaf_third_angle(sine.number(), v, &mut out);
+            assert_eq!((count, out), stored(n, &[c, s]), "{v}, {} into {n} bytes", sine.words());
         }
     }
     say("third_angle into 0 to 48 bytes: 16 stored or none, all others untouched");

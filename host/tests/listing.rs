@@ -13,13 +13,20 @@ use host::port;
 use host::runs::damage::Hunt;
 use host::runs::files::made;
 use host::stored::files::{DOCUMENT_LISTING, files, of_size};
+use host::truth::angle::Sine;
 use host::truth::hall_file::{MOST_BYTES, MOST_LISTED, Record, file};
 use host::truth::lister::{Reference, listing};
 use run::{hallroots, piped};
 use std::process::{Command, Stdio};
 
-fn by_port(bytes: &[u8]) -> Vec<u8> {
-    whole_listing(bytes, port::list_file)
+/// The lines of both, in either mode; those of the mode of the exact c.
+fn by_both(bytes: &[u8]) -> Vec<u8> {
+    let [_, own] = Sine::BOTH.map(|sine| {
+        let own = listing(bytes, &Reference(sine));
+        assert!(whole_listing(bytes, port::lister(sine)) == own, "{} bytes", bytes.len());
+        own
+    });
+    own
 }
 
 /// The stored file with this name.
@@ -30,8 +37,7 @@ fn stored(name: &str) -> Vec<u8> {
 #[test]
 fn the_documents_file() {
     let bytes = stored("document");
-    assert_eq!(by_port(&bytes), DOCUMENT_LISTING.as_bytes());
-    assert_eq!(listing(&bytes, &Reference), DOCUMENT_LISTING.as_bytes());
+    assert_eq!(by_both(&bytes), DOCUMENT_LISTING.as_bytes());
 }
 
 fn all_equal(name: &str, outcome: &Outcome) {
@@ -45,21 +51,27 @@ fn all_equal(name: &str, outcome: &Outcome) {
 
 #[test]
 fn made_files_first() {
-    all_equal("made files, seed 731", &made(731, 480_000));
+    Sine::BOTH
+        .into_iter()
+        .for_each(|sine| all_equal("made files, seed 731", &made(sine, 731, 480_000)));
 }
 
 #[test]
 fn made_files_second() {
-    all_equal("made files, seed 732", &made(732, 480_000));
+    Sine::BOTH
+        .into_iter()
+        .for_each(|sine| all_equal("made files, seed 732", &made(sine, 732, 480_000)));
 }
 
 #[test]
 fn damaged_again() {
-    let mut hunt = Hunt::new(733);
-    (0..50_000).for_each(|_| hunt.turn());
-    let (outcome, new) = hunt.outcome();
-    all_equal("damaged files, seed 733", &outcome);
-    assert!(new > 500, "{new} records met something new");
+    for sine in Sine::BOTH {
+        let mut hunt = Hunt::new(sine, 733);
+        (0..50_000).for_each(|_| hunt.turn());
+        let (outcome, new) = hunt.outcome();
+        all_equal("damaged files, seed 733", &outcome);
+        assert!(new > 500, "{new} records met something new");
+    }
 }
 
 /// Lengths at which something changes, of whole records and of zeros.
@@ -69,9 +81,7 @@ fn lengths() {
         let mut whole = of_size(MOST_BYTES);
         whole.resize(len, b'P');
         for bytes in [whole, vec![0; len], vec![b'P'; len]] {
-            let wanted = listing(&bytes, &Reference);
-            assert_eq!(by_port(&bytes), wanted, "{len} bytes");
-            let too_long = wanted == b"0 -- refused 9\nT 1 0 0\n";
+            let too_long = by_both(&bytes) == b"0 -- refused 9\nT 1 0 0\n";
             assert_eq!(len > MOST_BYTES, too_long, "{len} bytes");
         }
     }
@@ -82,9 +92,8 @@ fn lengths() {
 fn longest_lines() {
     let formula = Record::Formula { tolerance: 0.0, text: b"t^3-t".to_vec() };
     let bytes = file(&vec![formula; 4096]);
-    let lines = by_port(&bytes);
+    let lines = by_both(&bytes);
     assert_eq!(bytes.len(), MOST_BYTES);
-    assert_eq!(lines, listing(&bytes, &Reference));
     assert!(lines.len() > 300_000 && lines.len() <= MOST_LISTED, "{} bytes", lines.len());
 }
 
@@ -101,16 +110,18 @@ fn short_buffers() {
     all.extend(["total", "total_of_9", "total_of_10", "total_of_99", "total_of_100"].map(stored));
     let mut lengths = 0;
     for bytes in all {
-        let wanted = by_port(&bytes);
-        let before: Vec<u8> = (0..wanted.len() + 40).map(|i| i as u8 ^ 0x5A).collect();
-        for room in 0..=before.len() {
-            let mut out = before.clone();
-            let said = port::list_file(&bytes, &mut out[..room]);
-            let stored = room.min(wanted.len());
-            assert_eq!(said, wanted.len() as u64);
-            assert_eq!(out[..stored], wanted[..stored]);
-            assert_eq!(out[stored..], before[stored..]);
-            lengths += 1;
+        for sine in Sine::BOTH {
+            let (list_file, wanted) = (port::lister(sine), listing(&bytes, &Reference(sine)));
+            let before: Vec<u8> = (0..wanted.len() + 40).map(|i| i as u8 ^ 0x5A).collect();
+            for room in 0..=before.len() {
+                let mut out = before.clone();
+                let said = list_file(&bytes, &mut out[..room]);
+                let stored = room.min(wanted.len());
+                assert_eq!(said, wanted.len() as u64);
+                assert_eq!(out[..stored], wanted[..stored]);
+                assert_eq!(out[stored..], before[stored..]);
+                lengths += 1;
+            }
         }
     }
     say(&format!("short buffers: {lengths} lengths"));
@@ -128,7 +139,7 @@ fn the_program_by_pipe() {
     for bytes in &all {
         // of a file that is too long the program does not read the end
         let out = piped(&mut Command::new(program), bytes);
-        assert!(out.stdout == listing(bytes, &Reference), "{bytes:?}");
+        assert!(out.stdout == listing(bytes, &Reference(Sine::OfExact)), "{bytes:?}");
         assert_eq!((out.status.code(), &out.stderr[..]), (Some(0), &b""[..]));
     }
     say(&format!("hallroots by pipe: {} files", all.len()));

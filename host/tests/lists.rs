@@ -7,6 +7,7 @@ use host::compare::ways::{OF_LISTS, WAYS};
 use host::inputs::lists::{TOLERANCES, long_lists};
 use host::port;
 use host::runs::lists::{each, every_short_list, made, made_long, reference};
+use host::truth::angle::Sine;
 use host::truth::exact::ldexp;
 use host::truth::kind::{Kind, Root};
 
@@ -36,8 +37,10 @@ fn roots(coeffs: &[f64], tol: f64, wanted: &[(f64, u32)]) {
 }
 
 fn expect(coeffs: &[f64], tol: f64, wanted: Answer) {
-    for answer in [port::real_roots(coeffs, tol), reference(coeffs, tol)] {
-        assert!(answer.same(&wanted), "{coeffs:?} at {tol:e}: {}", answer.text());
+    for sine in Sine::BOTH {
+        for answer in [port::real_roots(sine, coeffs, tol), reference(sine, coeffs, tol)] {
+            assert!(answer.same(&wanted), "{coeffs:?} at {tol:e}: {}", answer.text());
+        }
     }
 }
 
@@ -83,8 +86,12 @@ fn inputs_that_show_a_mistake() {
 #[test]
 fn inputs_with_a_known_part() {
     let part = |coeffs: &[f64], tol| {
-        let answer = port::real_roots(coeffs, tol);
-        assert!(answer.same(&reference(coeffs, tol)), "{coeffs:?}: {}", answer.text());
+        let [_, answer] = Sine::BOTH.map(|sine| {
+            let answer = port::real_roots(sine, coeffs, tol);
+            let wanted = reference(sine, coeffs, tol);
+            assert!(answer.same(&wanted), "{coeffs:?}: {}", answer.text());
+            answer
+        });
         answer
     };
     // rounded twice on the way back to x
@@ -127,13 +134,15 @@ fn all_equal(name: &str, outcome: &Outcome) {
 
 #[test]
 fn every_list_of_small_numbers() {
-    let outcome = every_short_list(&[-2.0, -1.0, -0.0, 0.0, 1.0, 2.0], [TOL, 0.25]);
-    assert_eq!(outcome.inputs, 2 * (1 + 6 + 36 + 216 + 1296 + 7776));
-    all_equal("lists over -2 to 2 and -0", &outcome);
+    for sine in Sine::BOTH {
+        let outcome = every_short_list(sine, &[-2.0, -1.0, -0.0, 0.0, 1.0, 2.0], [TOL, 0.25]);
+        assert_eq!(outcome.inputs, 2 * (1 + 6 + 36 + 216 + 1296 + 7776));
+        all_equal("lists over -2 to 2 and -0", &outcome);
+    }
 }
 
-fn made_lists(seed: u64) {
-    let outcome = made(seed, 1_500_000);
+fn made_lists(sine: Sine, seed: u64) {
+    let outcome = made(sine, seed, 1_500_000);
     all_equal(&format!("made lists, seed {seed}"), &outcome);
     outcome.met.ask("made lists");
     let [crossing, brush, flat] = outcome.kinds;
@@ -144,18 +153,18 @@ fn made_lists(seed: u64) {
     let departed = outcome.departures();
     assert!(
         (1..outcome.inputs / 50).contains(&departed),
-        "the untouched Rust departs {departed} times"
+        "what is beside departs {departed} times"
     );
 }
 
 #[test]
 fn made_lists_first() {
-    made_lists(701);
+    Sine::BOTH.into_iter().for_each(|sine| made_lists(sine, 701));
 }
 
 #[test]
 fn made_lists_second() {
-    made_lists(702);
+    Sine::BOTH.into_iter().for_each(|sine| made_lists(sine, 702));
 }
 
 /// Any number of coefficients: what stands far behind counts too.
@@ -177,14 +186,16 @@ fn far_behind() {
 
 #[test]
 fn long() {
-    for tol in [TOL, f64::NAN] {
-        let outcome = each(&long_lists(), tol);
-        assert_eq!(outcome.inputs, 7 * 14 * 41);
-        all_equal("long lists", &outcome);
+    for sine in Sine::BOTH {
+        for tol in [TOL, f64::NAN] {
+            let outcome = each(sine, &long_lists(), tol);
+            assert_eq!(outcome.inputs, 7 * 14 * 41);
+            all_equal("long lists", &outcome);
+        }
+        let outcome = made_long(sine, 703, 300_000);
+        all_equal("made long lists, seed 703", &outcome);
+        outcome.met.ask("made long lists");
     }
-    let outcome = made_long(703, 300_000);
-    all_equal("made long lists, seed 703", &outcome);
-    outcome.met.ask("made long lists");
 }
 
 /// On a refusal every byte of the lent buffer is as it was; on an answer every byte behind it.
@@ -195,10 +206,13 @@ fn buffers() {
     let before: Vec<u8> = (0..ROOM).map(|i| i as u8 ^ 0x5A).collect();
     let check = |coeffs: &[u8], tol: f64, room: usize, wanted: u64| {
         let mut out = before.clone();
-        let said = port::real_roots_bytes(coeffs, tol, &mut out[..room]);
-        assert_eq!(said, wanted, "{coeffs:?} into {room} bytes");
-        let stored = if said < 24 { 0 } else { said as usize };
-        assert_eq!(out[stored..], before[stored..], "{coeffs:?} into {room} bytes");
+        for sine in Sine::BOTH {
+            out.copy_from_slice(&before);
+            let said = port::real_roots_bytes(sine, coeffs, tol, &mut out[..room]);
+            assert_eq!(said, wanted, "{coeffs:?} into {room} bytes");
+            let stored = if said < 24 { 0 } else { said as usize };
+            assert_eq!(out[stored..], before[stored..], "{coeffs:?} into {room} bytes");
+        }
     };
     let two = port::bytes(&[2.0, -3.0, 1.0]);
     for room in 0..=ROOM {

@@ -3,6 +3,7 @@
 mod run;
 
 use host::stored::files::DOCUMENT_LISTING;
+use host::truth::angle::Sine;
 use run::{hall, made, said, scratch, text};
 use std::fs;
 
@@ -127,10 +128,13 @@ fn long_runs() {
         assert_eq!(out.status.code(), Some(0), "{out:?}");
         text(&out.stdout)
     };
-    assert!(ran(&["files", "2000", "1"]).contains("2000 files, 0 differ"));
-    // in no time, the stored files alone, on two threads
-    let all = 2 * host::stored::files::files().len();
-    assert!(ran(&["damage", "0", "1"]).contains(&format!("{all} files, 0 differ")));
+    // in no time `damage` compares the stored files alone
+    let (files, damage) = (ran(&["files", "2000", "1"]), ran(&["damage", "0", "1"]));
+    let stored = host::stored::files::files().len();
+    for mode in Sine::BOTH.map(Sine::words) {
+        assert!(files.contains(&format!("2000 files, {mode}, 0 differ")), "{files}");
+        assert!(damage.contains(&format!("{stored} files, {mode}, 0 differ")), "{damage}");
+    }
 }
 
 #[test]

@@ -9,7 +9,8 @@ use host::inputs::lists::{KINDS, handed_in, tolerance};
 use host::inputs::pieces::Pieces;
 use host::inputs::random::Random;
 use host::runs::inquiries::REPLIES;
-use host::runs::trees::REFERENCE;
+use host::runs::trees;
+use host::truth::angle::Sine;
 use host::truth::reference::patched;
 use host::truth::reference::patched::equation::{QuadraticSolution, solve_quadratic, solve_trig};
 use host::truth::reference::{untouched, untouched_kinds};
@@ -96,6 +97,9 @@ fn pieces() {
     for n in 0..50_000 {
         let p = Pieces::made(&mut r, n);
         let by = |all: Vec<f64>| -> Vec<u64> { all.into_iter().map(bits).collect() };
-        assert_eq!(by(p.by_port()), by((REFERENCE.pieces)(&p)), "{n}");
+        for sine in Sine::BOTH {
+            let wanted = by((trees::reference(sine).pieces)(&p));
+            assert_eq!(by(p.by_port(sine)), wanted, "{n}, {}", sine.words());
+        }
     }
 }

@@ -8,6 +8,8 @@ use host::inputs::lists::{KINDS, List, list, steps};
 use host::inputs::random::Random;
 use host::port;
 use host::port::exported;
+use host::truth::angle::Sine;
+use host::truth::factors;
 use host::truth::reference::patched::poly::{self, Scaled};
 use host::truth::reference::untouched;
 use std::cell::Cell;
@@ -214,12 +216,8 @@ fn factor_numbers(s: &Scaled, depth: u32) -> [f64; 10] {
     [&[f.nlin as f64], &lin[..], &[f.nquad as f64], &quad[0], &quad[1]].concat().try_into().unwrap()
 }
 
-fn factors(((a, d), depth): (List, u32)) -> [f64; 10] {
-    factor_numbers(&Scaled::new(&a[..=d as usize]), depth)
-}
-
 /// Compares over `each` lists of every kind, made at a depth, and says which ways the Rust went.
-fn factorizations(seed: u64, each: u64, depth: fn(&mut Random) -> u32) -> ways::Counts {
+fn factorizations(sine: Sine, seed: u64, each: u64, depth: fn(&mut Random) -> u32) -> ways::Counts {
     let before = ways::counts();
     let tally = Tally::new(&[
         "of degree 0",
@@ -236,34 +234,37 @@ fn factorizations(seed: u64, each: u64, depth: fn(&mut Random) -> u32) -> ways::
         (list, depth(r))
     };
     let rust = |x: (List, u32)| {
-        let f = factors(x);
+        let f = factors::of_list(sine, x.0, x.1);
         let shapes = [(0, 0), (1, 0), (0, 1), (1, 1), (3, 0), (0, 2), (2, 1), (4, 0)];
         tally.add(&shapes.map(|(lin, quad)| f[0] == lin as f64 && f[5] == quad as f64));
         assert_eq!(f[0] + 2.0 * f[5], x.0.1 as f64, "the degrees add up");
         f
     };
-    let port = |((a, d), depth)| port::factorize(a, d, depth);
-    compare_made("factorize", seed, (&KINDS, each), make, port, rust);
+    let port = |((a, d), depth)| port::factorize(sine, a, d, depth);
+    let name = format!("factorize, {}", sine.words());
+    compare_made(&name, seed, (&KINDS, each), make, port, rust);
     tally.say("factorize");
     ways::since(&before)
 }
 
 #[test]
 fn factored() {
-    let ways = factorizations(604, EACH, |_| 0);
-    let ways = ways::named(
-        &ways,
-        [
-            "no gap",
-            "degree not reached",
-            "quotient not usable",
-            "second scaling at depth 0",
-            "second scaling at depth 1",
-            "root peeled off",
-        ],
-    );
-    say(&format!("factorize: {ways:?}"));
-    assert!(ways.iter().all(|way| way.1 > 0), "factorize: {ways:?}");
+    for sine in Sine::BOTH {
+        let ways = factorizations(sine, 604, EACH, |_| 0);
+        let ways = ways::named(
+            &ways,
+            [
+                "no gap",
+                "degree not reached",
+                "quotient not usable",
+                "second scaling at depth 0",
+                "second scaling at depth 1",
+                "root peeled off",
+            ],
+        );
+        say(&format!("factorize, {}: {ways:?}", sine.words()));
+        assert!(ways.iter().all(|way| way.1 > 0), "factorize: {ways:?}");
+    }
     let deepest = ways::named(&ways::counts(), ["second scaling at depth 2"]);
     say(&format!("factorize: {deepest:?}, which nothing asks for"));
 }
@@ -272,10 +273,12 @@ fn factored() {
 #[test]
 fn factored_at_depths() {
     let depth = |r: &mut Random| [1, 2, 3, 4, u32::MAX][r.below(5) as usize];
-    let ways = factorizations(605, EACH / 5, depth);
-    let ways = ways::named(&ways, ["second scaling at depth 1", "second scaling at depth 2"]);
-    say(&format!("factorize at depths: {ways:?}"));
-    assert!(ways.iter().all(|way| way.1 > 0), "factorize at depths: {ways:?}");
+    for sine in Sine::BOTH {
+        let ways = factorizations(sine, 605, EACH / 5, depth);
+        let ways = ways::named(&ways, ["second scaling at depth 1", "second scaling at depth 2"]);
+        say(&format!("factorize at depths, {}: {ways:?}", sine.words()));
+        assert!(ways.iter().all(|way| way.1 > 0), "factorize at depths: {ways:?}");
+    }
 }
 
 /// Bytes that are too few, and degrees above 4: nothing is written.
@@ -286,7 +289,7 @@ fn refusals() {
         whole_or_nothing("Scaled::new", 40, size(144), |a, out| exported::scaled_new(a, d, out));
         let split = |lg: &[u8], out: &mut [u8]| exported::magnitude_split(lg, d, out);
         whole_or_nothing("magnitude_split", 40, size(24), split);
-        let factors = |a: &[u8], out: &mut [u8]| exported::factorize(a, d, 0, out);
+        let factors = |a: &[u8], out: &mut [u8]| exported::factorize(0, a, d, 0, out);
         whole_or_nothing("factorize", 40, size(80), factors);
     }
 }

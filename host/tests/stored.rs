@@ -44,12 +44,13 @@ fn the_example() {
 #[test]
 fn stored_files_are_up_to_date() {
     use host::stored::files::{DOCUMENT_LISTING, files};
+    use host::truth::angle::Sine;
     use host::truth::lister::{Reference, listing};
     let (mut made, mut all) = (Vec::new(), Vec::new());
     for (name, file) in files() {
         assert!(file == bytes(&format!("hallcases/data/{name}")), "{name}");
         all.extend(format!("== {name}\n").into_bytes());
-        all.extend(listing(&file, &Reference));
+        all.extend(listing(&file, &Reference(Sine::OfExact)));
         made.push(name);
     }
     assert_eq!(made, names());

@@ -9,24 +9,32 @@ use host::runs::formulas;
 use host::runs::inquiries::{List, add, cases};
 use host::runs::lists::reference;
 use host::stored::telling::{self, LISTS, Telling};
+use host::truth::angle::Sine;
 
 #[test]
 fn stored_lists() {
-    let mut outcome = Outcome::new("stored lists", &cases("refused 3"));
+    Sine::BOTH.into_iter().for_each(stored_lists_in);
+}
+
+fn stored_lists_in(sine: Sine) {
+    let mut outcome = Outcome::new("stored lists", Some(sine), &cases("refused 3"));
     for Telling { name, tol, numbers } in LISTS {
         let a: Vec<f64> = numbers.iter().copied().map(f64::from_bits).collect();
         let tol = f64::from_bits(*tol);
-        let (given, wanted) = (port::real_roots(&a, tol), reference(&a, tol));
+        let (given, wanted) = (port::real_roots(sine, &a, tol), reference(sine, &a, tol));
         assert!(given.same(&wanted), "{name}: port {}, reference {}", given.text(), wanted.text());
-        add(&mut outcome, &List(&a, tol), true);
+        add(&mut outcome, sine, &List(&a, tol), true);
     }
     assert!(outcome.wrong == 0, "{}", outcome.shown.join("\n"));
 }
 
 #[test]
 fn stored_contacts() {
-    for (name, contact) in telling::contacts() {
-        let (given, wanted) = (pin_contact(contact.numbers()), contacts::reference(&contact).list);
+    for ((name, contact), sine) in
+        telling::contacts().flat_map(|one| Sine::BOTH.map(|sine| (one, sine)))
+    {
+        let given = pin_contact(sine, contact.numbers());
+        let wanted = contacts::reference(sine, &contact).list;
         assert!(given.same(&wanted), "{name}: port {}, reference {}", given.text(), wanted.text());
     }
 }
@@ -34,10 +42,12 @@ fn stored_contacts() {
 #[test]
 fn stored_formulas() {
     let tol = 1.0 / (1u64 << 30) as f64;
-    let outcome = formulas::outcome(|all| {
-        for (_, text) in telling::FORMULAS {
-            formulas::add(all, text, tol);
-        }
-    });
-    assert!(outcome.wrong == 0, "{}", outcome.shown.join("\n"));
+    for sine in Sine::BOTH {
+        let outcome = formulas::outcome(sine, |all| {
+            for (_, text) in telling::FORMULAS {
+                formulas::add(all, sine, text, tol);
+            }
+        });
+        assert!(outcome.wrong == 0, "{}", outcome.shown.join("\n"));
+    }
 }

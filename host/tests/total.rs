@@ -9,6 +9,7 @@ use host::people::text::read;
 use host::port;
 use host::stored::files::files;
 use host::stored::totals::{self, COUNTED};
+use host::truth::angle::Sine;
 use host::truth::hall_file::{MOST_BYTES, MOST_LISTED, Record, file};
 use host::truth::lister::{Reference, listing};
 use run::{hall, hallroots, piped, text};
@@ -25,8 +26,11 @@ fn formulas(text: &str, count: usize) -> Vec<u8> {
 
 /// The listing of a file, the same by both.
 fn listed(bytes: &[u8]) -> String {
-    let own = listing(bytes, &Reference);
-    assert!(whole_listing(bytes, port::list_file) == own, "{:?}", own.escape_ascii());
+    let [_, own] = Sine::BOTH.map(|sine| {
+        let own = listing(bytes, &Reference(sine));
+        assert!(whole_listing(bytes, port::lister(sine)) == own, "{:?}", own.escape_ascii());
+        own
+    });
     text(&own)
 }
 
@@ -194,7 +198,7 @@ fn made_files() {
 #[test]
 fn programs() {
     let bytes = of_text(COUNTED);
-    let wanted = listing(&bytes, &Reference);
+    let wanted = listing(&bytes, &Reference(Sine::OfExact));
     assert_eq!(hall(&["list"], &bytes).stdout, wanted);
     if let Some(program) = hallroots() {
         assert_eq!(piped(&mut Command::new(program), &bytes).stdout, wanted);

@@ -2,17 +2,20 @@
 use mathlib.Core.Path.{◌≡◌, refl, sym, ap, ap₂, ◌∙◌, subst}
 use mathlib.Core.Logic.{◌⊎◌, inl, inr, ⊎_elim}
 use mathlib.Core.Bool.{Bool, true, false, cond, false≢true}
-use Prim.Native.Nat.{ℕ, zero, suc, ◌*◌, ◌/◌, ◌^◌, ◌≤◌, ◌<◌}
+use Prim.Native.Nat.{ℕ, zero, suc, ◌+◌, ◌*◌, ◌/◌, ◌^◌, ◌≤◌, ◌<◌}
 use native.Mathlib.Omega.{arith}
 use native.Mathlib.Nat.{le_of_lt, le_of_eq, lt_of_lt_of_le, zero-lt-suc, zero-mul, zero-div}
 use native.Mathlib.Nat.{mul-le-mul, mul-le-mul_left, mul-lt-mul_of_pos_right, lt_of_mul-lt-mul_right, eq_of_mul-eq-mul_right}
 use borrow.Author.Tests.{le-leb, lt-leb, lt-ltb}
-use lib.Dec.{lit<, lit≤}
-use lib.Pow.{pow_pos, pow_mono}
+use lib.Dec.{eqb, lit<, lit≤}
+use lib.Pow.{pow-add, pow_pos, pow_mono}
 use lib.IntN.{ℤ}
 use lib.Ieee.{Float, nan, inf, fin, up, down, round, size, units, odd, eq, lt, binary64, of_bits}
+use lib.Ieee.Exact.{HasValue, odd_sign}
 use lib.Count.{count_trailing_zeros}
+use Rattle.algebra.specs.NatOrder.{le_or_lt}
 use Rattle.float.specs.Literals.{zero64}
+use Rattle.float.specs.Methods.{is_finite_of}
 use Rattle.float.specs.Units.{units_of}
 use Rattle.decode.specs.Exponent.{regular_of}
 use Rattle.decode.specs.Shape.{Normal, Decoded}
@@ -20,9 +23,13 @@ use Rattle.decode.specs.declared.digits.Digits.{Digits}
 use Rattle.decode.proofs.Class.{zero_is, not_zero, negative_view, positive_view, decoded_irregular, decoded_regular, decoded_normal}
 use Rattle.std.specs.Prelude.{Some, None}
 use Rattle.nearest.specs.Greatest.{greatest, nearest_of, NearestHalf}
+use Rattle.nearest.proofs.Search.{greatest_lt}
+use Rattle.nearest.proofs.Best.{nearest_value}
 use Rattle.nearest.proofs.ByTest.{half_bounds}
+use Rattle.angle.specs.declared.Sine.{Sine}
+use Rattle.angle.specs.declared.Sine.TheVariants.{OfRounded, OfExact}
 use Rattle.angle.specs.declared.ThirdAngle.{ThirdAngle}
-use Rattle.angle.specs.Third.{cos_units, cos_of, sin_of, third_angle_of}
+use Rattle.angle.specs.Third.{left, right, at_most_solution, cos_units, cos_of, sin_of, exact_sin_of, sine_of, third_angle_of}
 use Rattle.angle.specs.Parts.{level_of, cos_le, CosineDigits}
 use Rattle.angle.proofs.Levels.{level_lt}
 use Rattle.angle.proofs.Cosine.{monotone, sized, nearest_cos, cos_nearest}
@@ -47,15 +54,21 @@ at : (s : Bool) (m : ℕ) (e : ℤ) → units_of (fin s m e) ≤ 2 ^ 1074 → co
 unfolding cos_of
 at s m e h = ap (λ (b : Bool). cond b (nearest_cos s (units_of (fin s m e))) nan) (le-leb (units_of (fin s m e)) (2 ^ 1074) h)
 
-cos_is : (v : Float) → regular_of v ≡ true → units_of v ≤ 2 ^ 1074 → cos_of v ≡ nearest_cos (lt v zero64) (units_of v)
-cos_is v r h = go (lt v zero64) refl
+-- what holds of each sign and size holds of v
+pub by_sign : (D : Float → Float) (F : Bool → ℕ → Float)
+    → ((s : Bool) (m : ℕ) (e : ℤ) → units_of (fin s m e) ≤ 2 ^ 1074 → D (fin s m e) ≡ F s (units_of (fin s m e)))
+    → (v : Float) → regular_of v ≡ true → units_of v ≤ 2 ^ 1074 → D v ≡ F (lt v zero64) (units_of v)
+by_sign D F at v r h = go (lt v zero64) refl
   where
-    of_view : (b : Bool) (m : ℕ) (e : ℤ) → v ≡ fin b m e → cos_of v ≡ nearest_cos b (units_of v)
-    of_view b m e x = ap cos_of x ∙ at b m e (subst (λ (y : Float). units_of y ≤ 2 ^ 1074) x h) ∙ ap (λ (y : Float). nearest_cos b (units_of y)) (sym x)
+    of_view : (b : Bool) (m : ℕ) (e : ℤ) → v ≡ fin b m e → D v ≡ F b (units_of v)
+    of_view b m e x = ap D x ∙ at b m e (subst (λ (y : Float). units_of y ≤ 2 ^ 1074) x h) ∙ ap (λ (y : Float). F b (units_of y)) (sym x)
 
-    go : (b : Bool) → lt v zero64 ≡ b → cos_of v ≡ nearest_cos b (units_of v)
+    go : (b : Bool) → lt v zero64 ≡ b → D v ≡ F b (units_of v)
     go true e = ⊎_elim (λ i. absurd (false≢true (sym (ap regular_of i) ∙ r))) (λ x. of_view true (suc x.0) x.1 x.2) (negative_view v e)
     go false e = let x = positive_view v e r in of_view false (suc x.0) x.1 x.2
+
+cos_is : (v : Float) → regular_of v ≡ true → units_of v ≤ 2 ^ 1074 → cos_of v ≡ nearest_cos (lt v zero64) (units_of v)
+cos_is = by_sign cos_of nearest_cos at
 
 cos_above : (v : Float) → 2 ^ 1074 < units_of v → cos_of v ≡ nan
 unfolding cos_of
@@ -91,6 +104,13 @@ digits_zero v z =
 
 -- ---- by the digits of v
 
+pub units_lt : (n w k b : ℕ) → Normal n w k → k < b → n < 2 ^ b
+units_lt n w k b d l =
+    lt_of_mul-lt-mul_right (2 ^ 52)
+    (subst (λ (x : ℕ). x < 2 ^ b * 2 ^ 52) d.value (lt_of_lt_of_le (mul-lt-mul_of_pos_right d.short (pow_pos k))
+    (subst (λ (x : ℕ). x ≤ 2 ^ b * 2 ^ 52) (pow-add 2 53 k)
+    (subst (λ (x : ℕ). 2 ^ (53 + k) ≤ x) (pow-add 2 b 52) (pow_mono (let e : 53 + k ≤ b + 52 = omega arith in e))))))
+
 pub digits_none : (v : Float) → Decoded v None → eq v zero64 ≡ false → CosineDigits (cos_of v) None
 digits_none v d e = no_digits _ (cos_irregular v e (decoded_irregular v d))
 
@@ -108,10 +128,7 @@ module _ (v : Float) (d : Digits) (D : Decoded v (Some d)) where
   r = decoded_regular v d D
 
   units_below : k < 1074 → units_of v < 2 ^ 1074
-  units_below l =
-      lt_of_mul-lt-mul_right (2 ^ 52)
-      (subst (λ (x : ℕ). x < 2 ^ 1074 * 2 ^ 52) n.value (lt_of_lt_of_le (mul-lt-mul_of_pos_right n.short (pow_pos k))
-      (mul-le-mul_left (2 ^ 53) (pow_mono (let e : k ≤ 1073 = omega arith in e)))))
+  units_below l = units_lt (units_of v) w k 1074 n l
 
   units_one : 1074 ≤ k → k ≤ 1074 → w ≤ 2 ^ 52 → units_of v ≡ 2 ^ 1074
   units_one a b l =
@@ -167,19 +184,56 @@ module _ (c : Float) (m : ℕ) (d : CosineDigits c (Some m)) where
   pub cos_high : m ≤ 2 ^ 53
   cos_high = (d.some m refl).1
 
-both : (v c s : Float) → c ≡ cos_of v → s ≡ sin_of (cos_of v) → angle c s ≡ third_angle_of v
-unfolding third_angle_of
-both v c s a b = ap₂ angle a b
+numbers : (x : Float) (a : ℕ) → HasValue x false a (2 ^ 1074) → x ≡ nan → ⊥
+numbers x a h e = subst (λ (y : Float). HasValue y false a (2 ^ 1074)) e h
 
-pub both_none : (v : Float) → CosineDigits (cos_of v) None
-    → angle (of_bits binary64 0x7FF8_0000_0000_0000) (of_bits binary64 0x7FF8_0000_0000_0000) ≡ third_angle_of v
-unfolding of_bits sin_of
-both_none v d = let e = d.none refl in both v _ _ (sym e) (sym (ap sin_of e))
+-- there is a c exactly where v is from -1 to 1
+pub inside : (v : Float) (m : ℕ) → CosineDigits (cos_of v) (Some m) → (is_finite_of v ≡ true) × (units_of v ≤ 2 ^ 1074)
+unfolding cos_of is_finite_of
+inside v m d = go v (d.some m refl).2
+  where
+    go : (v : Float) → cos_of v ≡ odd 54 false m 1021 1074 → (is_finite_of v ≡ true) × (units_of v ≤ 2 ^ 1074)
+    go nan e = absurd (numbers _ _ (odd_sign 54 false m 1021 1074) (sym e))
+    go (inf s) e = absurd (numbers _ _ (odd_sign 54 false m 1021 1074) (sym e))
+    go (fin s m e) f = (
+      refl,
+      ⊎_elim (λ h. h) (λ h. absurd (numbers _ _ (odd_sign 54 false _ 1021 1074) (sym f ∙ cos_above (fin s m e) h)))
+          (le_or_lt (units_of (fin s m e)) (2 ^ 1074)),
+    )
 
-pub both_some : (v : Float) (m : ℕ) → CosineDigits (cos_of v) (Some m)
-    → ((third_angle_of v).cos ≡ odd 54 false m 1021 1074) × ((third_angle_of v).sin ≡ sin_of (odd 54 false m 1021 1074))
+cos_lt : (s : Bool) (n : ℕ) → cos_units s n < 2 ^ 2000
+unfolding cos_units
+cos_lt s n = lt_of_lt_of_le (greatest_lt (at_most_solution s n) 1075 0) (lit≤ tt)
+
+outside : (v : Float) → cos_of v ≡ nan → exact_sin_of v ≡ nan
+unfolding cos_of exact_sin_of
+outside nan f = refl
+outside (inf s) f = refl
+outside (fin s m e) f =
+    let n = units_of (fin s m e) in
+    let t = cos_units s n in
+    ⊎_elim (λ h. absurd (numbers _ _ (nearest_value t (eqb (left s n t) (right s n t)) (cos_lt s n)) (sym (at s m e h) ∙ f)))
+    (λ h. rw (lt-leb n (2 ^ 1074) h) refl) (le_or_lt n (2 ^ 1074))
+
+no_sine : (sine : Sine) (v : Float) → cos_of v ≡ nan → nan ≡ sine_of sine v
+unfolding sine_of sin_of
+no_sine OfRounded v e = sym (ap sin_of e)
+no_sine OfExact v e = sym (outside v e)
+
+pub both : (sine : Sine) (v c s : Float) → c ≡ cos_of v → s ≡ sine_of sine v → angle c s ≡ third_angle_of sine v
 unfolding third_angle_of
-both_some v m d = let e = (d.some m refl).2 in (e, ap sin_of e)
+both sine v c s a b = ap₂ angle a b
+
+pub both_none : (sine : Sine) (v : Float) → CosineDigits (cos_of v) None
+    → angle (of_bits binary64 0x7FF8_0000_0000_0000) (of_bits binary64 0x7FF8_0000_0000_0000) ≡ third_angle_of sine v
+unfolding of_bits
+both_none sine v d = let e = d.none refl in both sine v _ _ (sym e) (no_sine sine v e)
+
+pub both_some : (sine : Sine) (v : Float) (m : ℕ) → CosineDigits (cos_of v) (Some m)
+    → ((third_angle_of sine v).cos ≡ odd 54 false m 1021 1074) × ((third_angle_of OfRounded v).sin ≡ sin_of (odd 54 false m 1021 1074))
+    × ((third_angle_of OfExact v).sin ≡ exact_sin_of v)
+unfolding third_angle_of sine_of
+both_some sine v m d = let e = (d.some m refl).2 in (e, ap sin_of e, refl)
 
 -- what `third_digits` rests on
 pub ruleset digits = (digits_zero, digits_none, digits_above, digits_over, digits_up, digits_down)

@@ -24,7 +24,7 @@ leb_same a b c d p q = go (leb a b) refl
     go true e = sym (le-leb c d (p (leb-true a b e)))
     go false e = sym (lt-leb c d (q (leb-false a b e)))
 
-leb_div : (a b c : ℕ) → 0 < c → leb (a * c) b ≡ leb a (b / c)
+pub leb_div : (a b c : ℕ) → 0 < c → leb (a * c) b ≡ leb a (b / c)
 leb_div a b c p = leb_same (a * c) b a (b / c) (λ l. (le-div_iff_mul-le p).1 l) (λ l. (div-lt_iff_lt-mul p).1 l)
 
 -- ---- the rise

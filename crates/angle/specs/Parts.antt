@@ -1,7 +1,8 @@
 -- What the parts of the function say.
-use Rattle.std.specs.Prelude.{◌≡◌, Bool, true, false, ℕ, ◌+◌, ◌-◌, ◌*◌, ◌/◌, ◌%◌, ◌^◌, ◌≤◌, ◌<◌, leb, ltb, Float, Option, Some, None}
+use Rattle.std.specs.Prelude.{◌≡◌, Bool, true, false, cond, ◌||◌, ◌&&◌, ℕ, ◌+◌, ◌-◌, ◌*◌, ◌/◌, ◌%◌, ◌^◌, ◌≤◌, ◌<◌, leb, ltb, Float, Option, Some, None}
 use Rattle.std.specs.Float.{nan}
 use Rattle.std.specs.Float.Ieee.{odd}
+use Rattle.nearest.specs.Greatest.{NearestHalf}
 use Rattle.angle.specs.declared.Triple.{Triple}
 
 -- a number of three words
@@ -55,3 +56,39 @@ pub record SineSquare (m hi lo k : ℕ) : Type 0 where
   pub word : lo < 2 ^ 64
   pub even : lo % 2 ≡ 0
   pub reach : k + 1 < 2045
+
+-- ---- s of the exact c
+
+-- With t / 2h for a sine, t(3h² - t²) / 2h³ is that of three times the angle, and its square is to be 1 - v². Up to a half, for t = h, it grows, and from there
+-- on it falls.
+abbrev pub tripled : ℕ → ℕ → ℕ
+tripled h t = t * (3 * (h * h) - t * t)
+
+-- what v² leaves of 1, times 2 ^ 228, for a v of the size w * 2 ^ k of 2 ^ -1126
+abbrev pub gap_of : ℕ → ℕ → ℕ
+gap_of w k = let x = w * 2 ^ (k - 1012) in 2 ^ 228 - x * x
+
+-- a square x up to a half, at most g; and from there on, for a v below zero, at least g
+abbrev pub within : Bool → ℕ → ℕ → Bool
+within false g x = leb x g
+within true g x = leb g x
+
+-- whether t / 2 ^ k is at most s, by the gap g of v
+abbrev pub sin_le : Bool → ℕ → ℕ → ℕ → Bool
+sin_le s g k t =
+    let h = 2 ^ (k - 1) in
+    let q = tripled h t in
+    let inside = within s (g * 2 ^ (6 * k - 232)) (q * q) in
+    cond s (leb t h || (leb (t * t) (3 * (h * h)) && inside)) (leb t h && inside)
+
+-- 2 ^ k * s has 54 digits before the point
+pub record Binade (s : Bool) (g k : ℕ) : Type 0 where
+  pub least : 54 ≤ k
+  pub most : k ≤ 81
+  pub first : sin_le s g k (2 ^ 53) ≡ true
+  pub beyond : sin_le s g k (2 ^ 54) ≡ false
+
+-- m is the whole number nearest to 2 ^ (k - 1) * s, with 53 digits
+pub record Placed (s : Bool) (g m k : ℕ) : Type 0 where
+  pub binade : Binade s g k
+  pub half : NearestHalf (sin_le s g k) m

@@ -6,6 +6,7 @@ use native.Mathlib.Omega.{arith}
 use lib.ListN.{length}
 use lib.Ieee.{Float, of_int, binary64}
 use Rattle.lent_bytes.specs.Numbers.{number, five}
+use Rattle.angle.specs.declared.Sine.{Sine}
 use Rattle.scaled.specs.declared.Scaled.{Scaled}
 use Rattle.scaled.proofs.Built.{degree_is}
 use Rattle.split.specs.Gap.{Inside, magnitude_split_of}
@@ -20,9 +21,9 @@ use Rattle.c_layers.specs.Numbers.{scaled_numbers}
 pub gap_inside : (lg : List Float) (d : ℕ) → d ≤ 4 → Inside 4 (magnitude_split_of lg d)
 gap_inside lg d h = inside_up d 4 (magnitude_split_of lg d) (split_inside lg d h) h
 
-pub factors_sized : (s : Scaled) (depth : ℕ) → s.d ≤ 4 → Sized (factorize_of s depth)
+pub factors_sized : (sine : Sine) (s : Scaled) (depth : ℕ) → s.d ≤ 4 → Sized (factorize_of sine s depth)
 unfolding factorize_of
-factors_sized s depth h = let e = degrees_add (3 - depth) s h in (omega (arith, e, h), omega (arith, e, h))
+factors_sized sine s depth h = let e = degrees_add sine (3 - depth) s h in (omega (arith, e, h), omega (arith, e, h))
 
 -- what is handed in, and nothing handed out
 pub ruleset handed = (no_bytes, accepted)

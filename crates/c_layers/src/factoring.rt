@@ -1,12 +1,14 @@
 // Factors of cubics and quartics: all numbers of an answer as doubles, one after another, in lent bytes; how many bytes are stored, 0 and nothing where those
 // lent are too few.
 ghost use Rattle.std.specs.Prelude.{◌≡◌};
+ghost use Rattle.angle.specs.Third.{sine_numbered};
 ghost use Rattle.cubic.specs.Cubic.{cubic_closed_form_of, cubic_factor_of};
 ghost use Rattle.quartic.specs.Quartic.{quartic_factor_of};
 ghost use Rattle.isolated.specs.Isolated.{isolated_root_of, peel_root_of};
 ghost use Rattle.lent_bytes.specs.Bytes.{Stored};
 ghost use Rattle.c_layers.specs.Numbers.{roots_numbers, cubic_numbers, quartic_numbers, lone_numbers, peeled_numbers};
 
+use angle::Sine;
 use cubic::CubicRoots;
 use lent_bytes::store;
 use quartic::QuarticFactor;
@@ -22,28 +24,41 @@ fn roots_numbers(roots: CubicRoots) -> [f64; 4]
     }
 }
 
-// How many roots there are, and three places, 0 from the last root on.
+// How many roots there are, and three places, 0 from the last root on. (Which sine: 0 for that of the exact cosine, here and below.)
 #[unsafe(no_mangle)]
-pub extern "C" fn pongewaru_cubic_closed_form(b: f64, c: f64, d: f64, out: &mut [u8]) -> u64
-    ensures { Stored (roots_numbers (cubic_closed_form_of b c d)) out.old result out.new }
+pub extern "C" fn pongewaru_cubic_closed_form(
+    sine: u32,
+    b: f64,
+    c: f64,
+    d: f64,
+    out: &mut [u8],
+) -> u64
+    ensures { Stored (roots_numbers (cubic_closed_form_of (sine_numbered sine) b c d)) out.old result out.new }
 {
-    let roots = cubic::cubic_closed_form(b, c, d);
+    let roots = cubic::cubic_closed_form(Sine::from(sine), b, c, d);
     store(out, &roots_numbers(roots))
 }
 
 #[unsafe(no_mangle)]
-pub extern "C" fn pongewaru_cubic_factor(b: f64, c: f64, d: f64, out: &mut [u8]) -> u64
-    ensures { Stored (cubic_numbers (cubic_factor_of b c d)) out.old result out.new }
+pub extern "C" fn pongewaru_cubic_factor(sine: u32, b: f64, c: f64, d: f64, out: &mut [u8]) -> u64
+    ensures { Stored (cubic_numbers (cubic_factor_of (sine_numbered sine) b c d)) out.old result out.new }
 {
-    let x = cubic::cubic_factor(b, c, d);
+    let x = cubic::cubic_factor(Sine::from(sine), b, c, d);
     store(out, &[x.r, x.e, x.f])
 }
 
 #[unsafe(no_mangle)]
-pub extern "C" fn pongewaru_quartic_factor(b: f64, c: f64, d: f64, e: f64, out: &mut [u8]) -> u64
-    ensures { Stored (quartic_numbers (quartic_factor_of b c d e)) out.old result out.new }
+pub extern "C" fn pongewaru_quartic_factor(
+    sine: u32,
+    b: f64,
+    c: f64,
+    d: f64,
+    e: f64,
+    out: &mut [u8],
+) -> u64
+    ensures { Stored (quartic_numbers (quartic_factor_of (sine_numbered sine) b c d e)) out.old result out.new }
 {
-    let x = quartic::quartic_factor(b, c, d, e);
+    let x = quartic::quartic_factor(Sine::from(sine), b, c, d, e);
     store(out, &[x.al, x.be, x.ga, x.de])
 }
 

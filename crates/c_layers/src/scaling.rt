@@ -1,6 +1,7 @@
 // Scaling, gaps and factors: all numbers of an answer as doubles, one after another, in lent bytes; how many bytes are stored. Nothing is stored where the
 // five doubles have fewer than 40 bytes, where the degree is above 4, or where the bytes lent are too few.
 ghost use Rattle.std.specs.Prelude.{◌≡◌, [], ◌≤◌};
+ghost use Rattle.angle.specs.Third.{sine_numbered};
 ghost use Rattle.scaled.specs.Scaled.{scaled_of};
 ghost use Rattle.split.specs.Gap.{Inside, magnitude_split_of};
 ghost use Rattle.factors.specs.Factors.{Sized};
@@ -9,6 +10,7 @@ ghost use Rattle.lent_bytes.specs.Bytes.{five_at, lacks_five, unless, Stored};
 ghost use Rattle.c_layers.specs.Numbers.{scaled_numbers, split_numbers, factor_numbers};
 
 use crate::evaluation::polynomial_at;
+use angle::Sine;
 use lent_bytes::{doubles_at, lacks_five, store};
 
 // (From the back: of a part written behind another part the proof does not find that it is within the array. No From here nor below, as in `factoring`.)
@@ -81,14 +83,20 @@ fn factor_numbers(f: factors::Factors) -> [f64; 10]
 // nlin, lin, nquad and the al and be of quad for that polynomial, from this depth on.
 #[tactic(auto, using(crate::proofs::Sizes::sized), unfolding(lent_bytes::specs::Bytes::unless, lent_bytes::specs::Bytes::whole))]
 #[unsafe(no_mangle)]
-pub extern "C" fn pongewaru_factorize(a: &[u8], d: u64, depth: u32, out: &mut [u8]) -> u64
+pub extern "C" fn pongewaru_factorize(
+    sine: u32,
+    a: &[u8],
+    d: u64,
+    depth: u32,
+    out: &mut [u8],
+) -> u64
     ensures { Stored (unless [] (lacks_five a.now d)
-        (factor_numbers (factorize_of (scaled_of (five_at a.now) d) depth))) out.old result out.new }
+        (factor_numbers (factorize_of (sine_numbered sine) (scaled_of (five_at a.now) d) depth))) out.old result out.new }
 {
     let Some(p) = polynomial_at(a, d) else {
         return 0;
     };
     let s = scaled::Scaled::new(p);
-    let f = factorize::factorize(s, depth);
+    let f = factorize::factorize(Sine::from(sine), s, depth);
     store(out, &factor_numbers(f))
 }

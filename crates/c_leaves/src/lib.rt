@@ -10,10 +10,11 @@ ghost use Rattle.decode.specs.Exponent.{exponent_of};
 ghost use Rattle.log2.specs.Log.{log2_grid_of, log2_five_of};
 ghost use Rattle.sqrt.specs.Root.{sqrt_of};
 ghost use Rattle.cbrt.specs.Root.{cbrt_of};
-ghost use Rattle.angle.specs.Third.{third_angle_of};
+ghost use Rattle.angle.specs.Third.{sine_numbered, third_angle_of};
 ghost use Rattle.lent_bytes.specs.Bytes.{five_at, unless, Stored};
 ghost use Rattle.c_leaves.specs.Numbers.{angle_numbers};
 
+use angle::Sine;
 use lent_bytes::{doubles_at, store};
 
 pub mod floats;
@@ -60,12 +61,12 @@ pub extern "C" fn pongewaru_leaf_log2(x: f64) -> f64
     log2::log2_grid(x)
 }
 
-// c and s into 16 bytes; how many bytes are stored.
+// c and s, of the exact c for 0 and of the rounded one for every other number, into 16 bytes; how many bytes are stored.
 #[unsafe(no_mangle)]
-pub extern "C" fn pongewaru_leaf_third_angle(v: f64, out: &mut [u8]) -> u64
-    ensures { Stored (angle_numbers (third_angle_of v)) out.old result out.new }
+pub extern "C" fn pongewaru_leaf_third_angle(sine: u32, v: f64, out: &mut [u8]) -> u64
+    ensures { Stored (angle_numbers (third_angle_of (sine_numbered sine) v)) out.old result out.new }
 {
-    let t = angle::third_angle(v);
+    let t = angle::third_angle(Sine::from(sine), v);
     store(out, &[t.cos, t.sin])
 }
 

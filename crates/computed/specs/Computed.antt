@@ -1,5 +1,6 @@
--- What the definitions give at chosen arguments. A comment says what a fact pins, a number alone being a line of poly.rs, and after 'not' the mistake that it
--- rules out (docs/MUTATIONS.md), which would give another value. Statements only; proofs/Proved.antt has the proof of `Computed`, the last of them.
+-- What the definitions give at chosen arguments, those with a mode in the reference build's. A comment says what a fact pins, a number alone being a line of
+-- poly.rs, and after 'not' the mistake that it rules out (docs/MUTATIONS.md), which would give another value. Statements only; proofs/Proved.antt has the
+-- proof of `Computed`, the last of them.
 use Rattle.std.specs.Prelude.{◌≡◌, true, false, List, [], ◌∷◌, ◌+◌, ◌-◌, ◌^◌, negsuc, get_or, replicate, Float, Some, None}
 use Rattle.std.proofs.Math.Option.{some}
 use Rattle.std.specs.Float.{nan}
@@ -7,6 +8,7 @@ use Rattle.std.specs.Float.Ieee.{neg}
 use Rattle.float.specs.Literals.{zero64, epsilon64, half64, one64, two64, three64, inf64}
 use Rattle.float.specs.Methods.{min_of, max_of, powi_of}
 use Rattle.ldexp.specs.Scale.{ldexp_of}
+use Rattle.angle.specs.declared.Sine.TheVariants.{OfRounded}
 use Rattle.square.specs.Square.{scale_of, solve_square_of}
 use Rattle.refine.specs.Refine.{is_settled_of, advanced_of}
 use Rattle.refine.specs.Systems.{cubic_residual_of, cubic_jacobian_of, peel_residual_of}
@@ -75,7 +77,7 @@ pub record Squares : Type 0 where
 
 pub record Quartics : Type 0 where
   -- 890, `0.125 * b2 * b`, rounded once to units of 2^-1074; not b³ as b b² (rounded twice, with the other sign in be and de)
-  pub cube_of_b : quartic_factor_of (335 /2^ 361) zero64 zero64 zero64
+  pub cube_of_b : quartic_factor_of OfRounded (335 /2^ 361) zero64 zero64 zero64
       ≡ record { al = 335 /2^ 361; be = neg (185542587187 /2^ 760); ga = zero64; de = 185542587187 /2^ 760 }
   -- 955, `disc >= 0.0`, where al² underflows and disc is 0: two real places; not: a double root counts as complex (then it is twice -2^-539)
   pub double_root : root_pair_of (1 /2^ 538) zero64 ≡ complex (neg (1 /2^ 539)) zero64 ∷ complex minus_zero zero64 ∷ []
@@ -89,7 +91,7 @@ pub record Quartics : Type 0 where
   -- the same, for the places -1 and 1 and two that are NaN; not the last of equally isolated quartic roots
   pub first_of_equals : isolated_root_of (record { al = zero64; be = neg one64; ga = nan; de = nan }) ≡ Some (neg one64)
   -- 522 and 523, for (y - 1) * y^3; not the cluster's root before the peeled one
-  pub peeled_first : (quads : QuarticFactor) → paired_of (neg one64) zero64 zero64 zero64 quads (Some one64)
+  pub peeled_first : (quads : QuarticFactor) → paired_of OfRounded (neg one64) zero64 zero64 zero64 quads (Some one64)
       ≡ factors (one64 ∷ zero64 ∷ []) (quad_of zero64 zero64 ∷ [])
 
 pub record Scaling : Type 0 where
@@ -141,14 +143,14 @@ pub record FactorValues : Type 0 where
 
 pub record Factorizing : Type 0 where
   -- 506, `-g[0]`; not a line's zero: 0 - g0
-  pub line_of_zero : out_of (zero64 ∷ one64 ∷ replicate 3 zero64) 1 ≡ factors (minus_zero ∷ []) []
+  pub line_of_zero : out_of OfRounded (zero64 ∷ one64 ∷ replicate 3 zero64) 1 ≡ factors (minus_zero ∷ []) []
   -- 576, `!=`: logarithms show a gap below one root, and the largest unit is a pair; not a large group of another degree
   pub another_degree : (second_of (monic (one64 ∷ one64 ∷ two64 ∷ one64 ∷ zero64 ∷ []) (neg (5 *2^ 3) ∷ minus_inf ∷ zero64 ∷ zero64 ∷ minus_inf ∷ []) 3)
       (factors (zero64 ∷ []) (quad_of zero64 one64 ∷ []))).found ≡ false
   -- 536, `depth >= 3`: y^4 - 1, with logarithms that show a gap above one root, is scaled again at depth 2; not depth 2 in place of 3
   pub depth_two : let sc = monic (neg one64 ∷ zero64 ∷ zero64 ∷ zero64 ∷ one64 ∷ []) (neg (5 *2^ 2) ∷ replicate 4 zero64) 4 in
-      (factorize_of sc 2 ≡ factors (neg one64 ∷ one64 ∷ []) (quad_of zero64 one64 ∷ []))
-      × (factorize_of sc 3 ≡ factors [] (quad_of zero64 one64 ∷ quad_of zero64 (neg one64) ∷ []))
+      (factorize_of OfRounded sc 2 ≡ factors (neg one64 ∷ one64 ∷ []) (quad_of zero64 one64 ∷ []))
+      × (factorize_of OfRounded sc 3 ≡ factors [] (quad_of zero64 one64 ∷ quad_of zero64 (neg one64) ∷ []))
 
 pub record Bands : Type 0 where
   -- 295, `half <= base`, for a constant, whose crude bound 1 is above the budget; not strictly within the caller's band

@@ -9,6 +9,7 @@ use Rattle.float.specs.Literals.{zero64}
 use Rattle.float.specs.Methods.{max_of}
 use Rattle.roots.specs.declared.Roots.{Roots}
 use Rattle.roots.specs.Roots.{roots_of}
+use Rattle.angle.specs.declared.Sine.{Sine}
 use Rattle.poly.specs.declared.Solved.{Solved}
 use Rattle.poly.specs.Coefficients.{zeros_of, counted_of, poly_of}
 use Rattle.poly.specs.Solve.{finished_of, solve_of}
@@ -17,21 +18,21 @@ use Rattle.inquiry.specs.Start.{real_roots_touching_of}
 use Rattle.contact.specs.declared.Path.{Path}
 use Rattle.contact.specs.Contact.{touches_of, listed_of}
 
-module _ (confusion : Float) (p : Path) (r : Float) (coeffs : List Float) where
+module _ (sine : Sine) (confusion : Float) (p : Path) (r : Float) (coeffs : List Float) where
   abbrev list : Roots
-  list = roots_of (real_roots_touching_of (touches_of confusion p r) coeffs confusion)
+  list = roots_of (real_roots_touching_of sine (touches_of confusion p r) coeffs confusion)
 
   same : (lg : List Float) (n : Result ℕ Refusal)
-      → and_then (and_then (and_then n (λ n. Ok (finished_of (poly_of coeffs) (zeros_of coeffs) (max_of confusion zero64)))) (λ s. Ok (relogged lg s)))
+      → and_then (and_then (and_then n (λ n. Ok (finished_of sine (poly_of coeffs) (zeros_of coeffs) (max_of confusion zero64)))) (λ s. Ok (relogged lg s)))
       (λ s. Ok list)
       ≡ and_then n (λ n. Ok list)
   same lg (Ok n) = refl
   same lg (Err refusal) = refl
 
-  pub listed_is : (s : Result Solved Refusal) → ButLogs s (solve_of coeffs confusion) → and_then s (λ s. Ok list) ≡ listed_of confusion p r coeffs
+  pub listed_is : (s : Result Solved Refusal) → ButLogs s (solve_of sine coeffs confusion) → and_then s (λ s. Ok list) ≡ listed_of sine confusion p r coeffs
   unfolding listed_of solve_of
   listed_is s (lg, b) = rw b (same lg (counted_of coeffs))
 
-  pub listed_refused : (refusal : Refusal) {answer : Result Roots Refusal} → ButLogs (Err refusal) (solve_of coeffs confusion) → answer ≡ Err refusal
-      → answer ≡ listed_of confusion p r coeffs
+  pub listed_refused : (refusal : Refusal) {answer : Result Roots Refusal} → ButLogs (Err refusal) (solve_of sine coeffs confusion) → answer ≡ Err refusal
+      → answer ≡ listed_of sine confusion p r coeffs
   listed_refused refusal b is = is ∙ listed_is (Err refusal) b

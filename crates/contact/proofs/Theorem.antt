@@ -21,6 +21,7 @@ use Rattle.roots.specs.Roots.{list_of, roots_of, no_roots}
 use Rattle.roots.specs.Listed.{Within, Fits}
 use Rattle.roots.proofs.Laws.{list_roots, roots_fit}
 use Rattle.roots.proofs.Sums.{within_none, within_more}
+use Rattle.angle.specs.declared.Sine.{Sine}
 use Rattle.poly.specs.Coefficients.{trimmed_of, counted_by, counted_of, refusal_of, degree_left}
 use Rattle.poly.specs.RealRoots.{roots_in}
 use Rattle.poly.specs.Conditions.{AllDoubles, Exactly}
@@ -99,7 +100,7 @@ refused_none : (answer : Result Roots Refusal) → 0 < outcome_of answer → roo
 refused_none (Ok l) h = absurd (omega (arith, h))
 refused_none (Err refusal) h = refl
 
-module _ (confusion : Float) (path : Path) (circle : Circle) where
+module _ (sine : Sine) (confusion : Float) (path : Path) (circle : Circle) where
   abbrev coeffs : List Float
   coeffs = made_of path circle
 
@@ -107,7 +108,7 @@ module _ (confusion : Float) (path : Path) (circle : Circle) where
   touches = replies_of confusion path circle
 
   abbrev answer : Result Roots Refusal
-  answer = pin_contact_of confusion path circle
+  answer = pin_contact_of sine confusion path circle
 
   five : trimmed_of coeffs ≤ 5
   unfolding trimmed_of coefficients_of
@@ -127,10 +128,10 @@ module _ (confusion : Float) (path : Path) (circle : Circle) where
   short = leb (trimmed_of coeffs) 1
 
   abbrev roots : Roots
-  roots = roots_of (real_roots_touching_of touches coeffs confusion)
+  roots = roots_of (real_roots_touching_of sine touches coeffs confusion)
 
   abbrev list : Result Roots Refusal
-  list = listed_of confusion (seen_of path circle) circle.r coeffs
+  list = listed_of sine confusion (seen_of path circle) circle.r coeffs
 
   abbrev answer_by : Bool → Bool → Bool → Result Roots Refusal
   answer_by f a b = cond f (cond a (cond b list (Err MadeNotFinite)) (Err NoRadius)) (Err RecordNotFinite)
@@ -200,24 +201,25 @@ module _ (confusion : Float) (path : Path) (circle : Circle) where
   unfolding touches_of
   never h t = none_at_most (sub binary64 (distance_of (seen_of path circle) t) circle.r) confusion h
 
-  pub contacts : Contacts confusion path circle
+  pub contacts : Contacts sine confusion path circle
   contacts =
       record {
         numbers = numbers;
         list = listed;
         refused = refused_none answer;
-        fed = start_fed touches coeffs confusion;
+        fed = start_fed sine touches coeffs confusion;
         negative = never;
         degree = omega (arith, five);
-        most = start_most touches coeffs confusion;
-        questions = start_few touches coeffs confusion;
+        most = start_most sine touches coeffs confusion;
+        questions = start_few sine touches coeffs confusion;
         roots =
             by_tests (λ (l : Roots). Within (degree_left coeffs) (list_of l)) (within_more 0 (degree_left coeffs) [] (omega arith) within_none)
-            (subst (Within (degree_left coeffs)) (sym (list_roots (real_roots_touching_of touches coeffs confusion))) (start_list touches coeffs confusion));
+            (subst (Within (degree_left coeffs)) (sym (list_roots (real_roots_touching_of sine touches coeffs confusion)))
+            (start_list sine touches coeffs confusion));
         array =
             by_tests Fits (refl, omega arith)
-            (roots_fit (real_roots_touching_of touches coeffs confusion) (start_list touches coeffs confusion).four);
-        solved = λ e. solved_number coeffs confusion ∙ counted e;
+            (roots_fit (real_roots_touching_of sine touches coeffs confusion) (start_list sine touches coeffs confusion).four);
+        solved = λ e. solved_number sine coeffs confusion ∙ counted e;
         doubles = made_doubles (seen_of path circle) circle.r;
       }
 
@@ -226,7 +228,7 @@ module _ (confusion : Float) (path : Path) (circle : Circle) where
 
   -- what passes the three tests is answered as its list
   pub listed_so : (p : Path) (made : List Float) {a : Result Roots Refusal} → p ≡ seen_of path circle → made ≡ coefficients_of p circle.r → finite ≡ true
-      → above ≡ true → all_finite_of made ≡ true → a ≡ listed_of confusion p circle.r made → a ≡ answer
+      → above ≡ true → all_finite_of made ≡ true → a ≡ listed_of sine confusion p circle.r made → a ≡ answer
   unfolding pin_contact_of
   listed_so p made is-p is-made h g m is =
       let told : made ≡ coeffs = is-made ∙ ap (λ (q : Path). coefficients_of q circle.r) is-p in

@@ -6,6 +6,7 @@ use Rattle.float.specs.Literals.{zero64}
 use Rattle.float.specs.Methods.{all_finite_of}
 use Rattle.roots.specs.Roots.{list_of, roots_of, no_roots}
 use Rattle.roots.specs.Listed.{Within, Fits}
+use Rattle.angle.specs.declared.Sine.{Sine}
 use Rattle.poly.specs.Coefficients.{trimmed_of, degree_left}
 use Rattle.poly.specs.Solve.{solve_of}
 use Rattle.poly.specs.RealRoots.{roots_in}
@@ -31,23 +32,24 @@ abbrev pub replies_of : Float → Path → Circle → Float → Bool
 replies_of confusion path circle = touches_of confusion (seen_of path circle) circle.r
 
 -- What holds of every record.
-pub record Contacts (confusion : Float) (path : Path) (circle : Circle) : Type 0 where
-  pub numbers : Numbers (outcome_of (pin_contact_of confusion path circle)) (numbers_of confusion path circle) circle.r (made_of path circle)
+pub record Contacts (sine : Sine) (confusion : Float) (path : Path) (circle : Circle) : Type 0 where
+  pub numbers : Numbers (outcome_of (pin_contact_of sine confusion path circle)) (numbers_of confusion path circle) circle.r (made_of path circle)
   -- the list of the Rust for these replies, the tolerance being confusion; no root where it is refused
-  pub list : outcome_of (pin_contact_of confusion path circle) ≡ 0
-      → roots_in (pin_contact_of confusion path circle) ≡ roots_of (real_roots_touching_of (replies_of confusion path circle) (made_of path circle) confusion)
-  pub refused : 0 < outcome_of (pin_contact_of confusion path circle) → roots_in (pin_contact_of confusion path circle) ≡ no_roots
+  pub list : outcome_of (pin_contact_of sine confusion path circle) ≡ 0
+      → roots_in (pin_contact_of sine confusion path circle)
+      ≡ roots_of (real_roots_touching_of sine (replies_of confusion path circle) (made_of path circle) confusion)
+  pub refused : 0 < outcome_of (pin_contact_of sine confusion path circle) → roots_in (pin_contact_of sine confusion path circle) ≡ no_roots
   -- fed these replies, an inquiry about the coefficients asks at the Rust's places in its order, and ends with that list
-  pub fed : Fed (replies_of confusion path circle) (inquiry_in (start_of (made_of path circle) confusion)) (made_of path circle) confusion
+  pub fed : Fed sine (replies_of confusion path circle) (inquiry_in (start_of sine (made_of path circle) confusion)) (made_of path circle) confusion
   -- where the confusion is below 0, every reply is no
   pub negative : lt confusion zero64 ≡ true → (t : Float) → replies_of confusion path circle t ≡ false
   -- at most (degree − 1) questions, 0 where the degree is 1; at most three
   pub degree : degree_left (made_of path circle) ≤ 4
-  pub most : length (places_touching_of (replies_of confusion path circle) (made_of path circle) confusion) ≤ degree_left (made_of path circle) - 1
-  pub questions : length (places_touching_of (replies_of confusion path circle) (made_of path circle) confusion) ≤ 3
+  pub most : length (places_touching_of sine (replies_of confusion path circle) (made_of path circle) confusion) ≤ degree_left (made_of path circle) - 1
+  pub questions : length (places_touching_of sine (replies_of confusion path circle) (made_of path circle) confusion) ≤ 3
   -- demand 1
-  pub roots : Within (degree_left (made_of path circle)) (list_of (roots_in (pin_contact_of confusion path circle)))
-  pub array : Fits (roots_in (pin_contact_of confusion path circle))
+  pub roots : Within (degree_left (made_of path circle)) (list_of (roots_in (pin_contact_of sine confusion path circle)))
+  pub array : Fits (roots_in (pin_contact_of sine confusion path circle))
   -- what is solved is the list of these coefficients, which are doubles whatever the record
-  pub solved : outcome_of (pin_contact_of confusion path circle) ≡ 0 → outcome_of (solve_of (made_of path circle) confusion) ≡ 0
+  pub solved : outcome_of (pin_contact_of sine confusion path circle) ≡ 0 → outcome_of (solve_of sine (made_of path circle) confusion) ≡ 0
   pub doubles : AllDoubles (made_of path circle)

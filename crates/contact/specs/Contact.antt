@@ -10,6 +10,7 @@ use Rattle.float.specs.Rounded.{◌+ᶠ◌, ◌-ᶠ◌, ◌*ᶠ◌}
 use Rattle.sqrt.specs.Root.{sqrt_of}
 use Rattle.roots.specs.declared.Roots.{Roots}
 use Rattle.roots.specs.Roots.{roots_of}
+use Rattle.angle.specs.declared.Sine.{Sine}
 use Rattle.poly.specs.Coefficients.{counted_of}
 use Rattle.inquiry.specs.Start.{real_roots_touching_of}
 use Rattle.contact.specs.declared.Path.{Path}
@@ -54,18 +55,19 @@ unfoldable pub touches_of : Float → Path → Float → Float → Bool
 touches_of confusion p r t = le (abs_of (distance_of p t -ᶠ r)) confusion
 
 -- 'The tolerance of the list is confusion': the Rust's list for these replies; 'then 2 as for a list'
-unfoldable pub listed_of : Float → Path → Float → List Float → Result Roots Refusal
-listed_of confusion p r coeffs = and_then (counted_of coeffs) (λ n. Ok (roots_of (real_roots_touching_of (touches_of confusion p r) coeffs confusion)))
+unfoldable pub listed_of : Sine → Float → Path → Float → List Float → Result Roots Refusal
+listed_of sine confusion p r coeffs =
+    and_then (counted_of coeffs) (λ n. Ok (roots_of (real_roots_touching_of sine (touches_of confusion p r) coeffs confusion)))
 
 -- the coefficients made of a record
 abbrev pub made_of : Path → Circle → List Float
 made_of path circle = coefficients_of (seen_of path circle) circle.r
 
 -- '10, a number of the record is not finite; 11, R is not above 0; 12, a coefficient made is not finite; in that order'
-unfoldable pub pin_contact_of : Float → Path → Circle → Result Roots Refusal
-pin_contact_of confusion path circle =
+unfoldable pub pin_contact_of : Sine → Float → Path → Circle → Result Roots Refusal
+pin_contact_of sine confusion path circle =
     cond (all_finite_of (numbers_of confusion path circle))
     (cond (lt zero64 circle.r)
-    (cond (all_finite_of (made_of path circle)) (listed_of confusion (seen_of path circle) circle.r (made_of path circle)) (Err MadeNotFinite))
+    (cond (all_finite_of (made_of path circle)) (listed_of sine confusion (seen_of path circle) circle.r (made_of path circle)) (Err MadeNotFinite))
     (Err NoRadius))
     (Err RecordNotFinite)

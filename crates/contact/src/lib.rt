@@ -9,6 +9,7 @@ ghost use Rattle.poly.specs.Coefficients.{degree_left};
 ghost use Rattle.contact.specs.Contact.{seen_of, coefficients_of, distance_of, touches_of, listed_of, made_of, pin_contact_of};
 ghost use Rattle.poly.specs.RealRoots.{roots_in};
 
+use angle::Sine;
 use inquiry::Asked;
 use refusals::Refusal;
 use roots::Roots;
@@ -83,10 +84,10 @@ impl Path {
 
 // At most three questions are asked, so the loop ends. Nothing looks at a logarithm, so a level list is solved without.
 // One reply after another, as documents 01 and 02 have them of an inquiry: a walk that calls a closure would be a second one beside that of replies at hand.
-fn listed(confusion: f64, p: Path, r: f64, coeffs: &[f64]) -> Result<Roots, Refusal>
-    ensures { result ≡ listed_of confusion p r coeffs.now }
+fn listed(sine: Sine, confusion: f64, p: Path, r: f64, coeffs: &[f64]) -> Result<Roots, Refusal>
+    ensures { result ≡ listed_of sine confusion p r coeffs.now }
 {
-    let s = poly::solve_brief(coeffs, confusion)?;
+    let s = poly::solve_brief(sine, coeffs, confusion)?;
     let mut replies = touching::Replies::default();
     loop {
         match inquiry::asked_with(s, replies) {
@@ -98,9 +99,10 @@ fn listed(confusion: f64, p: Path, r: f64, coeffs: &[f64]) -> Result<Roots, Refu
 
 // 10, 11 and 12 are refused by the record, in this order; 2 by the list, as for any list.
 // Demand 1 holds of the answer: at most four finite roots, each counting at least once, together at most the degree left.
+// `sine` is the mode: the third angle's sine is that of the rounded cosine, as in the reference build, or of the exact one.
 #[tactic(auto, using(crate::proofs::Theorem::holds), unfolding(crate::specs::Contact::pin_contact_of))]
-pub fn pin_contact(confusion: f64, path: Path, circle: Circle) -> Result<Roots, Refusal>
-    ensures { (result ≡ pin_contact_of confusion path circle) × Within (degree_left (made_of path circle)) (list_of (roots_in result)) }
+pub fn pin_contact(sine: Sine, confusion: f64, path: Path, circle: Circle) -> Result<Roots, Refusal>
+    ensures { (result ≡ pin_contact_of sine confusion path circle) × Within (degree_left (made_of path circle)) (list_of (roots_in result)) }
 {
     let handed = [
         confusion, path.x0, path.x1, path.x2, path.y0, path.y1, path.y2, circle.cx, circle.cy,
@@ -117,5 +119,5 @@ pub fn pin_contact(confusion: f64, path: Path, circle: Circle) -> Result<Roots, 
     if !float::all_finite(&coeffs) {
         return Err(Refusal::MadeNotFinite);
     }
-    listed(confusion, p, circle.r, &coeffs)
+    listed(sine, confusion, p, circle.r, &coeffs)
 }

@@ -10,6 +10,7 @@ use Rattle.refusals.specs.Refusals.{number_of, outcome_of, value_or, and_then}
 use Rattle.refusals.proofs.Numbers.{number_bounds}
 use Rattle.roots.specs.declared.Roots.{Roots}
 use Rattle.roots.specs.Roots.{roots_of}
+use Rattle.angle.specs.declared.Sine.{Sine}
 use Rattle.poly.specs.Coefficients.{degree_left}
 use Rattle.trig_quartic.specs.declared.TrigEquation.{TrigEquation}
 use Rattle.trig_quartic.specs.declared.Crank.{Crank}
@@ -29,7 +30,7 @@ use Rattle.crank.proofs.Front.{quartic_five, started}
 use Rattle.crank.proofs.Feeding.{four_no, all_no, no_listed}
 
 -- ---- what is shown
-module _ (confusion : Float) (rs : Replies) where
+module _ (sine : Sine) (confusion : Float) (rs : Replies) where
   abbrev shown : CrankInquiry → CrankShown
   shown c = record { k = c.k; seen = seen_of (given c.inquiry rs) }
 
@@ -40,30 +41,30 @@ module _ (confusion : Float) (rs : Replies) where
   list_shown k (Err refusal) = refl
 
   front_shown : (f : Result Crank Refusal)
-      → and_then f (λ c. and_then (shown_after_of c.q confusion rs) (λ seen. Ok (record { k = c.k; seen = seen })))
-      ≡ and_then (and_then f (λ c. and_then (start_of c.q confusion) (λ q. Ok (record { k = c.k; inquiry = q })))) (λ c. Ok (shown c))
+      → and_then f (λ c. and_then (shown_after_of sine c.q confusion rs) (λ seen. Ok (record { k = c.k; seen = seen })))
+      ≡ and_then (and_then f (λ c. and_then (start_of sine c.q confusion) (λ q. Ok (record { k = c.k; inquiry = q })))) (λ c. Ok (shown c))
   unfolding shown_after_of
-  front_shown (Ok c) = list_shown c.k (start_of c.q confusion)
+  front_shown (Ok c) = list_shown c.k (start_of sine c.q confusion)
   front_shown (Err refusal) = refl
 
   -- what `inquiry::shown_after` shows of the front's quartic, with its k
   pub shown_is : (trig : TrigEquation)
-      → and_then (crank_front_of trig) (λ c. and_then (shown_after_of c.q confusion rs) (λ seen. Ok (record { k = c.k; seen = seen })))
-      ≡ crank_shown_of confusion trig rs
+      → and_then (crank_front_of trig) (λ c. and_then (shown_after_of sine c.q confusion rs) (λ seen. Ok (record { k = c.k; seen = seen })))
+      ≡ crank_shown_of sine confusion trig rs
   unfolding crank_shown_of crank_start_of
   shown_is trig = front_shown (crank_front_of trig)
 
 -- ---- the answer
-module _ (confusion : Float) (trig : TrigEquation) where
+module _ (sine : Sine) (confusion : Float) (trig : TrigEquation) where
   abbrev start : Result CrankInquiry Refusal
-  start = crank_start_of confusion trig
+  start = crank_start_of sine confusion trig
 
   abbrev pub listed : CrankAnswer
-  listed = let solved = solve_trig_of (λ k u. false) confusion trig in record { k = solved.0; roots = roots_of solved.1 }
+  listed = let solved = solve_trig_of sine (λ k u. false) confusion trig in record { k = solved.0; roots = roots_of solved.1 }
 
   -- the list where the start is not refused, and else its refusal
   pub answer_by : (P : Result CrankAnswer Refusal → Type 0) → (outcome_of start ≡ 0 → P (Ok listed))
-      → ((refusal : Refusal) → start ≡ Err refusal → P (Err refusal)) → P (crank_of confusion trig)
+      → ((refusal : Refusal) → start ≡ Err refusal → P (Err refusal)) → P (crank_of sine confusion trig)
   unfolding crank_of
   answer_by P f g = go start refl
     where
@@ -72,43 +73,44 @@ module _ (confusion : Float) (trig : TrigEquation) where
       go (Err refusal) e = g refusal e
 
   -- the replies no, put in at once
-  module _ (s : CrankShown) (is-s : Ok s ≡ crank_shown_of confusion trig four_no) where
-    shown_no : (outcome_of start ≡ 0) × (s ≡ record { k = sample_of trig; seen = seen_of (all_no (inquiry_in (start_of (trig_quartic_of trig) confusion))) })
+  module _ (s : CrankShown) (is-s : Ok s ≡ crank_shown_of sine confusion trig four_no) where
+    shown_no : (outcome_of start ≡ 0)
+        × (s ≡ record { k = sample_of trig; seen = seen_of (all_no (inquiry_in (start_of sine (trig_quartic_of trig) confusion))) })
     unfolding crank_shown_of
     shown_no = go start refl is-s
       where
-        go : (r : Result CrankInquiry Refusal) → start ≡ r → Ok s ≡ and_then r (λ c. Ok (shown confusion four_no c)) → (outcome_of start ≡ 0)
-            × (s ≡ record { k = sample_of trig; seen = seen_of (all_no (inquiry_in (start_of (trig_quartic_of trig) confusion))) })
+        go : (r : Result CrankInquiry Refusal) → start ≡ r → Ok s ≡ and_then r (λ c. Ok (shown sine confusion four_no c)) → (outcome_of start ≡ 0)
+            × (s ≡ record { k = sample_of trig; seen = seen_of (all_no (inquiry_in (start_of sine (trig_quartic_of trig) confusion))) })
         go (Ok c) e is =
             let z : outcome_of start ≡ 0 = ap outcome_of e in (
               z,
               ap (λ (r : Result CrankShown Refusal). value_or s r) is
-                  ∙ ap (λ (r : Result CrankInquiry Refusal). shown confusion four_no (crank_in r)) (sym e ∙ started trig confusion z),
+                  ∙ ap (λ (r : Result CrankInquiry Refusal). shown sine confusion four_no (crank_in r)) (sym e ∙ started trig sine confusion z),
             )
         go (Err refusal) e is = absurd (let n : 0 ≡ number_of refusal = ap outcome_of is in omega (arith, n, number_bounds refusal))
 
-    asked_no : s.seen.asked ≡ Finished (roots_of (solve_trig_of (λ k u. false) confusion trig).1)
+    asked_no : s.seen.asked ≡ Finished (roots_of (solve_trig_of sine (λ k u. false) confusion trig).1)
     asked_no =
         let q = trig_quartic_of trig in
         let four : degree_left q ≤ 4 = omega (arith, quartic_five trig) in
-        ap (λ (t : CrankShown). t.seen.asked) shown_no.1 ∙ sym (asked_seen (all_no (inquiry_in (start_of q confusion)))) ∙ no_listed q confusion four
+        ap (λ (t : CrankShown). t.seen.asked) shown_no.1 ∙ sym (asked_seen (all_no (inquiry_in (start_of sine q confusion)))) ∙ no_listed sine q confusion four
 
     -- four replies no are enough
     pub never_asks : (x : Float) → s.seen.asked ≡ Question x → ⊥
     never_asks x e = false≢true (ap is_question (sym asked_no ∙ e))
 
-    pub answer_listed : (l : Roots) → s.seen.asked ≡ Finished l → Ok (record { k = s.k; roots = l }) ≡ crank_of confusion trig
+    pub answer_listed : (l : Roots) → s.seen.asked ≡ Finished l → Ok (record { k = s.k; roots = l }) ≡ crank_of sine confusion trig
     answer_listed l e =
         answer_by (λ a. Ok (record { k = s.k; roots = l }) ≡ a)
         (λ z. ap (λ (k : ℕ). Ok (record { k = k; roots = l })) (ap (λ (t : CrankShown). t.k) shown_no.1)
         ∙ ap (λ (a : Asked). Ok (record { k = sample_of trig; roots = list_in a })) (sym e ∙ asked_no))
         (λ refusal e. absurd (let n : number_of refusal ≡ 0 = sym (ap outcome_of e) ∙ shown_no.0 in omega (arith, n, number_bounds refusal)))
 
-  pub answer_refused : (refusal : Refusal) {a : Result CrankAnswer Refusal} → Err refusal ≡ crank_shown_of confusion trig four_no → a ≡ Err refusal
-      → a ≡ crank_of confusion trig
+  pub answer_refused : (refusal : Refusal) {a : Result CrankAnswer Refusal} → Err refusal ≡ crank_shown_of sine confusion trig four_no → a ≡ Err refusal
+      → a ≡ crank_of sine confusion trig
   unfolding crank_of crank_shown_of
   answer_refused refusal is-s is = is ∙ go start is-s
     where
-      go : (r : Result CrankInquiry Refusal) → Err refusal ≡ and_then r (λ c. Ok (shown confusion four_no c)) → Err refusal ≡ and_then r (λ c. Ok listed)
+      go : (r : Result CrankInquiry Refusal) → Err refusal ≡ and_then r (λ c. Ok (shown sine confusion four_no c)) → Err refusal ≡ and_then r (λ c. Ok listed)
       go (Ok c) e = absurd (let n : number_of refusal ≡ 0 = ap outcome_of e in omega (arith, n, number_bounds refusal))
       go (Err other) e = ap (λ (r : Result CrankShown Refusal). and_then r (λ s. Ok listed)) e

@@ -12,6 +12,7 @@ use Rattle.refusals.specs.declared.Refusal.{Refusal}
 use Rattle.refusals.specs.Refusals.{value_or, and_then}
 use Rattle.roots.specs.declared.RealRoot.{RealRoot}
 use Rattle.roots.specs.Roots.{roots_of}
+use Rattle.angle.specs.declared.Sine.{Sine}
 use Rattle.poly.specs.Coefficients.{degree_left}
 use Rattle.asking.specs.Asking.{Asking, places_asked, walked}
 use Rattle.asking.proofs.Feeding.{always}
@@ -44,19 +45,19 @@ fed_is touches (suc n) k q =
     ap (λ (c : CrankInquiry). let a = crank_asked_of c in crank_after c (touches a.k (place_of a.asked))) (fed_is touches n k q)
     ∙ after_is k p (replied_of p (touches k (place_of (asked_of p))))
 
-module _ (touches : ℕ → Float → Bool) (k : ℕ) (coeffs : List Float) (tol : Float) where
+module _ (sine : Sine) (touches : ℕ → Float → Bool) (k : ℕ) (coeffs : List Float) (tol : Float) where
   abbrev q : Inquiry
-  q = inquiry_in (start_of coeffs tol)
+  q = inquiry_in (start_of sine coeffs tol)
 
   asked_is : (n : ℕ) {a : Asked} → asked_of (fed (touches k) n q) ≡ a → crank_asked_of (crank_fed touches n (with k q)) ≡ record { k = k; asked = a }
   unfolding crank_asked_of
   asked_is n e = ap crank_asked_of (fed_is touches n k q) ∙ ap (λ (a : Asked). record { k = k; asked = a }) e
 
-  pub fed_so : CrankFed touches (with k q) (places_touching_of (touches k) coeffs tol) (real_roots_touching_of (touches k) coeffs tol)
+  pub fed_so : CrankFed touches (with k q) (places_touching_of sine (touches k) coeffs tol) (real_roots_touching_of sine (touches k) coeffs tol)
   unfolding crank_replied_of
   fed_so =
-      let f = start_fed (touches k) coeffs tol in
-      let n = length (places_touching_of (touches k) coeffs tol) in
+      let f = start_fed sine (touches k) coeffs tol in
+      let n = length (places_touching_of sine (touches k) coeffs tol) in
       record {
         question = λ m h. asked_is m (f.question m h);
         finished = asked_is n f.finished;
@@ -79,13 +80,13 @@ no_sound q h =
     let s = sound_is q h in
     sound_holds (all_no q) (record { degree = s.degree; replies = omega arith; roots = s.roots; pairs = s.pairs; counted = s.counted; total = s.total })
 
-pub no_listed : (coeffs : List Float) (tol : Float) → degree_left coeffs ≤ 4
-    → asked_of (all_no (inquiry_in (start_of coeffs tol))) ≡ Finished (roots_of (real_roots_touching_of (λ x. false) coeffs tol))
+pub no_listed : (sine : Sine) (coeffs : List Float) (tol : Float) → degree_left coeffs ≤ 4
+    → asked_of (all_no (inquiry_in (start_of sine coeffs tol))) ≡ Finished (roots_of (real_roots_touching_of sine (λ x. false) coeffs tol))
 unfolding asked_of shown
-no_listed coeffs tol h =
-    let t = real_roots_touching coeffs tol in
-    let few : length (places_asked (λ x. false) t) ≤ 4 = omega (arith, start_most (λ x. false) coeffs tol, h) in
-    sym (if_taken (shown (walked (replicate 4 false) (asking (inquiry_in (start_of coeffs tol))))) nothing
-    (no_sound (inquiry_in (start_of coeffs tol)) (start_sound coeffs tol)) refl)
-    ∙ ap (λ (u : Asking (List RealRoot)). shown (walked (replicate 4 false) u)) (start_asks coeffs tol)
+no_listed sine coeffs tol h =
+    let t = real_roots_touching sine coeffs tol in
+    let few : length (places_asked (λ x. false) t) ≤ 4 = omega (arith, start_most sine (λ x. false) coeffs tol, h) in
+    sym (if_taken (shown (walked (replicate 4 false) (asking (inquiry_in (start_of sine coeffs tol))))) nothing
+    (no_sound (inquiry_in (start_of sine coeffs tol)) (start_sound sine coeffs tol)) refl)
+    ∙ ap (λ (u : Asking (List RealRoot)). shown (walked (replicate 4 false) u)) (start_asks sine coeffs tol)
     ∙ ap shown (always false 4 t few).1

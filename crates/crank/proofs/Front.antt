@@ -16,6 +16,7 @@ use Rattle.refusals.specs.declared.Refusal.TheVariants.{NotFinite, TooFew, Answe
 use Rattle.refusals.specs.Refusals.{number_of, outcome_of, and_then}
 use Rattle.refusals.proofs.Numbers.{number_bounds}
 use Rattle.float.specs.Methods.{abs_of, all_finite_of, total_le_of}
+use Rattle.angle.specs.declared.Sine.{Sine}
 use Rattle.poly.specs.Coefficients.{trimmed_of, counted_by, refusal_of}
 use Rattle.poly.specs.Conditions.{Exactly}
 use Rattle.poly.specs.Solve.{no_solved}
@@ -97,26 +98,26 @@ module _ (trig : TrigEquation) where
   unfolding counted_by
   quartic_refused h = rw h refl
 
-  module _ (confusion : Float) where
+  module _ (sine : Sine) (confusion : Float) where
     abbrev start : Result CrankInquiry Refusal
-    start = crank_start_of confusion trig
+    start = crank_start_of sine confusion trig
 
     abbrev number : ℕ
     number = outcome_of start
 
     -- ---- the start
     abbrev by_front : Result Crank Refusal → Result CrankInquiry Refusal
-    by_front f = and_then f (λ c. and_then (start_of c.q confusion) (λ inquiry. Ok (record { k = c.k; inquiry = inquiry })))
+    by_front f = and_then f (λ c. and_then (start_of sine c.q confusion) (λ inquiry. Ok (record { k = c.k; inquiry = inquiry })))
 
     -- k, and what the list starts
     abbrev begun : Result Inquiry Refusal → Result CrankInquiry Refusal
     begun r = and_then r (λ inquiry. Ok (record { k = sample_of trig; inquiry = inquiry }))
 
-    start_made : all_finite_of numbers ≡ true → all_finite_of q ≡ true → start ≡ begun (start_of q confusion)
+    start_made : all_finite_of numbers ≡ true → all_finite_of q ≡ true → start ≡ begun (start_of sine q confusion)
     unfolding crank_start_of
     start_made h g = ap by_front (made h g)
 
-    start_by : {A : Type 0} → (all_finite_of numbers ≡ true → all_finite_of q ≡ true → start ≡ begun (start_of q confusion) → A)
+    start_by : {A : Type 0} → (all_finite_of numbers ≡ true → all_finite_of q ≡ true → start ≡ begun (start_of sine q confusion) → A)
         → (all_finite_of q ≡ false → start ≡ by_front (refused (all_finite_of numbers)) → A) → A
     unfolding crank_start_of
     start_by f g = by_quartic (λ h i. f h i (start_made h i)) (λ h is. g h (ap by_front is))
@@ -126,7 +127,7 @@ module _ (trig : TrigEquation) where
     begun_below (Err refusal) = omega arith
 
     pub front_below : (crank_in start).k < 8
-    front_below = start_by (λ h g e. rw e (begun_below (start_of q confusion))) (λ h e. rw e (omega arith))
+    front_below = start_by (λ h g e. rw e (begun_below (start_of sine q confusion))) (λ h e. rw e (omega arith))
 
     -- ---- what is asked
     begun_about : (r : Result Inquiry Refusal) → (crank_in (begun r)).inquiry ≡ inquiry_in r
@@ -134,24 +135,24 @@ module _ (trig : TrigEquation) where
     begun_about (Err refusal) = refl
 
     -- the inquiry is the quartic's, of a refused start too
-    pub same_inquiry : (crank_in start).inquiry ≡ inquiry_in (start_of q confusion)
+    pub same_inquiry : (crank_in start).inquiry ≡ inquiry_in (start_of sine q confusion)
     same_inquiry =
         let about = λ (r : Result CrankInquiry Refusal). (crank_in r).inquiry in
-        start_by (λ h g e. ap about e ∙ begun_about (start_of q confusion))
-        (λ h e. ap about e ∙ about_nothing (start_of q confusion) (λ z. omega (arith, z, start_number q confusion, quartic_refused h)))
+        start_by (λ h g e. ap about e ∙ begun_about (start_of sine q confusion))
+        (λ h e. ap about e ∙ about_nothing (start_of sine q confusion) (λ z. omega (arith, z, start_number sine q confusion, quartic_refused h)))
 
-    refused_list : 0 < refusal_of q → real_roots_touching q confusion ≡ done []
-    refused_list h = refused_asks q confusion (ne_eqb (refusal_of q) 0 (λ z. omega (arith, h, z)))
+    refused_list : 0 < refusal_of q → real_roots_touching sine q confusion ≡ done []
+    refused_list h = refused_asks sine q confusion (ne_eqb (refusal_of q) 0 (λ z. omega (arith, h, z)))
 
     -- k is the Rust's, or nothing is asked
-    pub same_k : ((crank_in start).k ≡ sample_of trig) ⊎ (real_roots_touching q confusion ≡ done [])
-    same_k = start_by (λ h g e. go e (start_of q confusion) refl) (λ h e. inr (refused_list (omega (arith, quartic_refused h))))
+    pub same_k : ((crank_in start).k ≡ sample_of trig) ⊎ (real_roots_touching sine q confusion ≡ done [])
+    same_k = start_by (λ h g e. go e (start_of sine q confusion) refl) (λ h e. inr (refused_list (omega (arith, quartic_refused h))))
       where
-        go : start ≡ begun (start_of q confusion) → (r : Result Inquiry Refusal) → start_of q confusion ≡ r
-            → ((crank_in start).k ≡ sample_of trig) ⊎ (real_roots_touching q confusion ≡ done [])
+        go : start ≡ begun (start_of sine q confusion) → (r : Result Inquiry Refusal) → start_of sine q confusion ≡ r
+            → ((crank_in start).k ≡ sample_of trig) ⊎ (real_roots_touching sine q confusion ≡ done [])
         go e (Ok inquiry) is = inl (ap (λ (r : Result CrankInquiry Refusal). (crank_in r).k) (e ∙ ap begun is))
         go e (Err refusal) is =
-            let n : number_of refusal ≡ refusal_of q = ap outcome_of (sym is) ∙ start_number q confusion in
+            let n : number_of refusal ≡ refusal_of q = ap outcome_of (sym is) ∙ start_number sine q confusion in
             inr (refused_list (omega (arith, n, number_bounds refusal)))
 
     -- ---- the number
@@ -166,9 +167,9 @@ module _ (trig : TrigEquation) where
         few true = refl
         few false = refl
 
-    begun_number : start ≡ begun (start_of q confusion) → number ≡ refusal_of q
+    begun_number : start ≡ begun (start_of sine q confusion) → number ≡ refusal_of q
     begun_number e =
-        ap outcome_of e ∙ then_number (λ inquiry. record { k = sample_of trig; inquiry = inquiry }) (start_of q confusion) ∙ start_number q confusion
+        ap outcome_of e ∙ then_number (λ inquiry. record { k = sample_of trig; inquiry = inquiry }) (start_of sine q confusion) ∙ start_number sine q confusion
 
     abbrev number_by : Bool → Bool → Bool → ℕ
     number_by a b c = cond a (cond b (cond c 2 0) 5) 1
@@ -214,13 +215,13 @@ module _ (trig : TrigEquation) where
     begun_is (Ok inquiry) z = refl
     begun_is (Err refusal) z = absurd (omega (arith, z, number_bounds refusal))
 
-    pub started : number ≡ 0 → start ≡ Ok (record { k = sample_of trig; inquiry = inquiry_in (start_of q confusion) })
+    pub started : number ≡ 0 → start ≡ Ok (record { k = sample_of trig; inquiry = inquiry_in (start_of sine q confusion) })
     started z =
         let s = start_numbers.zero.only_there z in
         let e = start_made s.0 s.1 in
-        e ∙ begun_is (start_of q confusion) (ap outcome_of (sym e) ∙ z)
+        e ∙ begun_is (start_of sine q confusion) (ap outcome_of (sym e) ∙ z)
 
     -- nothing is asked where anything is refused
-    pub refused_nothing : 0 < number → real_roots_touching q confusion ≡ done []
+    pub refused_nothing : 0 < number → real_roots_touching sine q confusion ≡ done []
     refused_nothing h =
         start_by (λ n g e. refused_list (omega (arith, h, begun_number e))) (λ g e. refused_list (omega (arith, quartic_refused g)))

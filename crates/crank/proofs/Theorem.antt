@@ -14,6 +14,7 @@ use Rattle.roots.specs.Roots.{list_of}
 use Rattle.roots.specs.Listed.{Within}
 use Rattle.roots.proofs.Laws.{list_roots}
 use Rattle.roots.proofs.Sums.{within_none, within_more}
+use Rattle.angle.specs.declared.Sine.{Sine}
 use Rattle.poly.specs.Coefficients.{degree_left}
 use Rattle.asking.specs.Asking.{Asking, done, answered, places_asked}
 use Rattle.trig_quartic.specs.declared.TrigEquation.{TrigEquation}
@@ -29,7 +30,7 @@ use Rattle.crank.proofs.Front.{front_below, quartic_five, same_inquiry, same_k, 
 use Rattle.crank.proofs.Feeding as feeding
 use Rattle.crank.proofs.Answer.{answer_by}
 
-module _ (confusion : Float) (trig : TrigEquation) where
+module _ (sine : Sine) (confusion : Float) (trig : TrigEquation) where
   abbrev k : ℕ
   k = sample_of trig
 
@@ -37,55 +38,56 @@ module _ (confusion : Float) (trig : TrigEquation) where
   q = trig_quartic_of trig
 
   abbrev start : CrankInquiry
-  start = crank_in (crank_start_of confusion trig)
+  start = crank_in (crank_start_of sine confusion trig)
 
   module _ (touches : ℕ → Float → Bool) where
     -- a computation that asks nothing is the same for every function
     same_reading : {X : Type 0} (read : (Float → Bool) → Asking (List RealRoot) → X) → ((f g : Float → Bool) → read f (done []) ≡ read g (done []))
-        → read (touches start.k) (real_roots_touching q confusion) ≡ read (touches k) (real_roots_touching q confusion)
+        → read (touches start.k) (real_roots_touching sine q confusion) ≡ read (touches k) (real_roots_touching sine q confusion)
     same_reading read none =
-        ⊎_elim (λ same. ap (λ (i : ℕ). read (touches i) (real_roots_touching q confusion)) same)
-        (λ stop. ap (read (touches start.k)) stop ∙ none (touches start.k) (touches k) ∙ sym (ap (read (touches k)) stop)) (same_k trig confusion)
+        ⊎_elim (λ same. ap (λ (i : ℕ). read (touches i) (real_roots_touching sine q confusion)) same)
+        (λ stop. ap (read (touches start.k)) stop ∙ none (touches start.k) (touches k) ∙ sym (ap (read (touches k)) stop)) (same_k trig sine confusion)
 
-    fed_so : CrankFed touches start (places_trig_of touches confusion trig) (solve_trig_of touches confusion trig).1
+    fed_so : CrankFed touches start (places_trig_of sine touches confusion trig) (solve_trig_of sine touches confusion trig).1
     unfolding answered places_asked
     fed_so =
         rw (sym (same_reading places_asked (λ f g. refl)), sym (same_reading answered (λ f g. refl)))
-        (subst⁻¹ (λ (i : Inquiry). CrankFed touches (record { k = start.k; inquiry = i }) (places_asked (touches start.k) (real_roots_touching q confusion))
-        (answered (touches start.k) (real_roots_touching q confusion))) (same_inquiry trig confusion) (feeding.fed_so touches start.k q confusion))
+        (subst⁻¹ (λ (i : Inquiry). CrankFed touches (record { k = start.k; inquiry = i }) (places_asked (touches start.k)
+        (real_roots_touching sine q confusion)) (answered (touches start.k) (real_roots_touching sine q confusion))) (same_inquiry trig sine confusion)
+        (feeding.fed_so sine touches start.k q confusion))
 
-    refused : 0 < outcome_of (crank_start_of confusion trig) → (places_trig_of touches confusion trig ≡ [])
-        × ((solve_trig_of touches confusion trig).1 ≡ [])
+    refused : 0 < outcome_of (crank_start_of sine confusion trig) → (places_trig_of sine touches confusion trig ≡ [])
+        × ((solve_trig_of sine touches confusion trig).1 ≡ [])
     unfolding answered places_asked
-    refused h = let none = refused_nothing trig confusion h in (ap (places_asked (touches k)) none, ap (answered (touches k)) none)
+    refused h = let none = refused_nothing trig sine confusion h in (ap (places_asked (touches k)) none, ap (answered (touches k)) none)
 
-    list : Within (degree_left q) (solve_trig_of touches confusion trig).1
-    list = start_list (touches k) q confusion
+    list : Within (degree_left q) (solve_trig_of sine touches confusion trig).1
+    list = start_list sine (touches k) q confusion
 
-  answer : Within (degree_left q) (list_of (crank_roots_in (crank_of confusion trig)))
+  answer : Within (degree_left q) (list_of (crank_roots_in (crank_of sine confusion trig)))
   answer =
-      let l = (solve_trig_of (λ j u. false) confusion trig).1 in
-      answer_by confusion trig (λ a. Within (degree_left q) (list_of (crank_roots_in a)))
+      let l = (solve_trig_of sine (λ j u. false) confusion trig).1 in
+      answer_by sine confusion trig (λ a. Within (degree_left q) (list_of (crank_roots_in a)))
       (λ z. subst (Within (degree_left q)) (sym (list_roots l)) (list (λ j u. false)))
       (λ refusal e. within_more 0 (degree_left q) [] (omega arith) within_none)
 
-  pub cranks : Cranks confusion trig
+  pub cranks : Cranks sine confusion trig
   cranks =
       record {
-        numbers = start_numbers trig confusion;
-        eighths = front_below trig confusion;
-        k_is = λ z touches. ap (λ (r : Result CrankInquiry Refusal). (crank_in r).k) (started trig confusion z);
+        numbers = start_numbers trig sine confusion;
+        eighths = front_below trig sine confusion;
+        k_is = λ z touches. ap (λ (r : Result CrankInquiry Refusal). (crank_in r).k) (started trig sine confusion z);
         fed_so = fed_so;
         refused = λ h touches. refused touches h;
         degree = omega (arith, quartic_five trig);
-        most = λ touches. start_most (touches k) q confusion;
+        most = λ touches. start_most sine (touches k) q confusion;
         list = list;
         answer = answer;
       }
 
 -- what `crank` promises, of its answer
-pub with_demand : (confusion : Float) (trig : TrigEquation) {r : Result CrankAnswer Refusal} → r ≡ crank_of confusion trig
-    → (r ≡ crank_of confusion trig) × Within (degree_left (trig_quartic_of trig)) (list_of (crank_roots_in r))
-with_demand confusion trig {r} is =
+pub with_demand : (sine : Sine) (confusion : Float) (trig : TrigEquation) {r : Result CrankAnswer Refusal} → r ≡ crank_of sine confusion trig
+    → (r ≡ crank_of sine confusion trig) × Within (degree_left (trig_quartic_of trig)) (list_of (crank_roots_in r))
+with_demand sine confusion trig {r} is =
     let within = λ (a : Result CrankAnswer Refusal). Within (degree_left (trig_quartic_of trig)) (list_of (crank_roots_in a)) in
-    (is, subst⁻¹ within is (cranks confusion trig).answer)
+    (is, subst⁻¹ within is (cranks sine confusion trig).answer)

@@ -7,6 +7,7 @@ use Rattle.float.specs.Methods.{all_finite_of}
 use Rattle.roots.specs.declared.RealRoot.{RealRoot}
 use Rattle.roots.specs.Roots.{list_of, roots_of}
 use Rattle.roots.specs.Listed.{Within}
+use Rattle.angle.specs.declared.Sine.{Sine}
 use Rattle.poly.specs.Coefficients.{trimmed_of, degree_left}
 use Rattle.poly.specs.Conditions.{Exactly}
 use Rattle.trig_quartic.specs.declared.TrigEquation.{TrigEquation}
@@ -33,22 +34,22 @@ pub record CrankFed (touches : ℕ → Float → Bool) (c : CrankInquiry) (place
       (crank_replied_of end reply ≡ Err NothingAsked) × (crank_after end reply ≡ end)
 
 -- What holds of every equation and every tolerance.
-pub record Cranks (confusion : Float) (trig : TrigEquation) : Type 0 where
-  pub numbers : Numbers (outcome_of (crank_start_of confusion trig)) (numbers_of trig) (trig_quartic_of trig)
+pub record Cranks (sine : Sine) (confusion : Float) (trig : TrigEquation) : Type 0 where
+  pub numbers : Numbers (outcome_of (crank_start_of sine confusion trig)) (numbers_of trig) (trig_quartic_of trig)
   -- 'k (0 to 7, in eighths of a turn)', the Rust's where it is not refused
-  pub eighths : (crank_in (crank_start_of confusion trig)).k < 8
-  pub k_is : outcome_of (crank_start_of confusion trig) ≡ 0 → (touches : ℕ → Float → Bool)
-      → (crank_in (crank_start_of confusion trig)).k ≡ (solve_trig_of touches confusion trig).0
+  pub eighths : (crank_in (crank_start_of sine confusion trig)).k < 8
+  pub k_is : outcome_of (crank_start_of sine confusion trig) ≡ 0 → (touches : ℕ → Float → Bool)
+      → (crank_in (crank_start_of sine confusion trig)).k ≡ (solve_trig_of sine touches confusion trig).0
   -- for every yes-or-no function of k and u
   pub fed_so : (touches : ℕ → Float → Bool)
-      → CrankFed touches (crank_in (crank_start_of confusion trig)) (places_trig_of touches confusion trig)
-      (solve_trig_of touches confusion trig).1
+      → CrankFed touches (crank_in (crank_start_of sine confusion trig)) (places_trig_of sine touches confusion trig)
+      (solve_trig_of sine touches confusion trig).1
   -- what is refused is not asked about, and the Rust's list is empty
-  pub refused : 0 < outcome_of (crank_start_of confusion trig) → (touches : ℕ → Float → Bool)
-      → (places_trig_of touches confusion trig ≡ []) × ((solve_trig_of touches confusion trig).1 ≡ [])
+  pub refused : 0 < outcome_of (crank_start_of sine confusion trig) → (touches : ℕ → Float → Bool)
+      → (places_trig_of sine touches confusion trig ≡ []) × ((solve_trig_of sine touches confusion trig).1 ≡ [])
   -- at most (degree − 1) questions, 0 where the degree is 1; so at most three
   pub degree : degree_left (trig_quartic_of trig) ≤ 4
-  pub most : (touches : ℕ → Float → Bool) → length (places_trig_of touches confusion trig) ≤ degree_left (trig_quartic_of trig) - 1
+  pub most : (touches : ℕ → Float → Bool) → length (places_trig_of sine touches confusion trig) ≤ degree_left (trig_quartic_of trig) - 1
   -- demand 1, of every list, and of the answer where every question is replied no
-  pub list : (touches : ℕ → Float → Bool) → Within (degree_left (trig_quartic_of trig)) (solve_trig_of touches confusion trig).1
-  pub answer : Within (degree_left (trig_quartic_of trig)) (list_of (crank_roots_in (crank_of confusion trig)))
+  pub list : (touches : ℕ → Float → Bool) → Within (degree_left (trig_quartic_of trig)) (solve_trig_of sine touches confusion trig).1
+  pub answer : Within (degree_left (trig_quartic_of trig)) (list_of (crank_roots_in (crank_of sine confusion trig)))

@@ -5,6 +5,7 @@ use Rattle.refusals.specs.Refusals.{value_or, and_then}
 use Rattle.roots.specs.declared.RealRoot.{RealRoot}
 use Rattle.roots.specs.declared.Roots.{Roots}
 use Rattle.roots.specs.Roots.{roots_of, no_roots}
+use Rattle.angle.specs.declared.Sine.{Sine}
 use Rattle.trig_quartic.specs.declared.TrigEquation.{TrigEquation}
 use Rattle.trig_quartic.specs.Crank.{sample_of, quartic_of, crank_front_of}
 use Rattle.touching.specs.declared.Replies.{Replies}
@@ -22,20 +23,20 @@ module _ (trig : TrigEquation) where
   abbrev pub trig_quartic_of : List Float
   trig_quartic_of = quartic_of trig (sample_of trig)
 
-module _ (touches : ℕ → Float → Bool) (confusion : Float) (trig : TrigEquation) where
+module _ (sine : Sine) (touches : ℕ → Float → Bool) (confusion : Float) (trig : TrigEquation) where
   -- `for r in &roots_with_tangency(&q, tol, |u| touches(to_t(u)))`: k and that list, where touches is told k and u in place of t: 'Questions name k and u'
   abbrev pub solve_trig_of : ℕ × List RealRoot
-  solve_trig_of = let k = sample_of trig in (k, real_roots_touching_of (touches k) (trig_quartic_of trig) confusion)
+  solve_trig_of = let k = sample_of trig in (k, real_roots_touching_of sine (touches k) (trig_quartic_of trig) confusion)
 
   -- the places u at which it calls `touches`, in order
   abbrev pub places_trig_of : List Float
-  places_trig_of = places_touching_of (touches (sample_of trig)) (trig_quartic_of trig) confusion
+  places_trig_of = places_touching_of sine (touches (sample_of trig)) (trig_quartic_of trig) confusion
 
 -- ---- the inquiry: that about the quartic in u, and k
 -- 'Crank start: 1, one of the five not finite; 5, a quartic coefficient not finite; 2, trimmed length 0 or 1'
-unfoldable pub crank_start_of : Float → TrigEquation → Result CrankInquiry Refusal
-crank_start_of confusion trig =
-    and_then (crank_front_of trig) (λ front. and_then (start_of front.q confusion) (λ inquiry. Ok (record { k = front.k; inquiry = inquiry })))
+unfoldable pub crank_start_of : Sine → Float → TrigEquation → Result CrankInquiry Refusal
+crank_start_of sine confusion trig =
+    and_then (crank_front_of trig) (λ front. and_then (start_of sine front.q confusion) (λ inquiry. Ok (record { k = front.k; inquiry = inquiry })))
 
 -- what theorems say of a start that is refused too: that its inquiry is about nothing
 abbrev pub crank_in : Result CrankInquiry Refusal → CrankInquiry
@@ -54,8 +55,8 @@ abbrev pub crank_after : CrankInquiry → Bool → CrankInquiry
 crank_after c reply = value_or c (crank_replied_of c reply)
 
 -- `start`, and `see` with these replies put in at once
-unfoldable pub crank_shown_of : Float → TrigEquation → Replies → Result CrankShown Refusal
-crank_shown_of confusion trig rs = and_then (crank_start_of confusion trig) (λ c. Ok (record { k = c.k; seen = seen_of (given c.inquiry rs) }))
+unfoldable pub crank_shown_of : Sine → Float → TrigEquation → Replies → Result CrankShown Refusal
+crank_shown_of sine confusion trig rs = and_then (crank_start_of sine confusion trig) (λ c. Ok (record { k = c.k; seen = seen_of (given c.inquiry rs) }))
 
 -- n questions, each given the reply of touches
 unfoldable pub crank_fed : (ℕ → Float → Bool) → ℕ → CrankInquiry → CrankInquiry
@@ -66,10 +67,10 @@ crank_fed touches (suc n) c =
     crank_after p (touches a.k (place_of a.asked))
 
 -- ---- TG of the hall file: 'every question replied no'
-unfoldable pub crank_of : Float → TrigEquation → Result CrankAnswer Refusal
-crank_of confusion trig =
-    let solved = solve_trig_of (λ k u. false) confusion trig in
-    and_then (crank_start_of confusion trig) (λ c. Ok (record { k = solved.0; roots = roots_of solved.1 }))
+unfoldable pub crank_of : Sine → Float → TrigEquation → Result CrankAnswer Refusal
+crank_of sine confusion trig =
+    let solved = solve_trig_of sine (λ k u. false) confusion trig in
+    and_then (crank_start_of sine confusion trig) (λ c. Ok (record { k = solved.0; roots = roots_of solved.1 }))
 
 -- the roots of an answer; of a refusal none
 abbrev pub crank_roots_in : Result CrankAnswer Refusal → Roots

@@ -8,6 +8,7 @@ ghost use Rattle.roots.specs.Listed.{Within};
 ghost use Rattle.poly.specs.Coefficients.{degree_left};
 ghost use Rattle.crank.specs.Crank.{trig_quartic_of, crank_start_of, crank_asked_of, crank_replied_of, crank_shown_of, crank_of, crank_roots_in};
 
+use angle::Sine;
 use inquiry::Asked;
 use refusals::Refusal;
 use trig_quartic::{TrigEquation, crank_front};
@@ -42,11 +43,11 @@ pub struct CrankAnswer {
 
 // 1 and 5 are refused by the equation; 2 by the list, as for any list.
 #[tactic(auto, unfolding(crate::specs::Crank::crank_start_of))]
-pub fn start(confusion: f64, trig: TrigEquation) -> Result<CrankInquiry, Refusal>
-    ensures { result ≡ crank_start_of confusion trig }
+pub fn start(sine: Sine, confusion: f64, trig: TrigEquation) -> Result<CrankInquiry, Refusal>
+    ensures { result ≡ crank_start_of sine confusion trig }
 {
     let front = crank_front(trig)?;
-    let inquiry = inquiry::start(&front.q, confusion)?;
+    let inquiry = inquiry::start(sine, &front.q, confusion)?;
     Ok(CrankInquiry {
         k: front.k,
         inquiry,
@@ -78,27 +79,29 @@ impl CrankInquiry {
 // What `start` and `see` show with these replies put in at once.
 #[tactic(auto, unfolding(crate::specs::Crank::crank_shown_of, crate::specs::Crank::crank_start_of, inquiry::specs::Start::shown_after_of))]
 pub fn shown_after(
+    sine: Sine,
     confusion: f64,
     trig: TrigEquation,
     replies: touching::Replies,
 ) -> Result<CrankShown, Refusal>
-    ensures { result ≡ crank_shown_of confusion trig replies }
+    ensures { result ≡ crank_shown_of sine confusion trig replies }
 {
     let made = crank_front(trig)?;
-    let seen = inquiry::shown_after(&made.q, confusion, replies)?;
+    let seen = inquiry::shown_after(sine, &made.q, confusion, replies)?;
     Ok(CrankShown { k: made.k, seen })
 }
 
 // Every question replied no: at most three are asked, so four replies at hand answer them all, and no question is left.
 // Demand 1 holds of the answer: at most four finite roots, each counting at least once, together at most the degree left.
-pub fn crank(confusion: f64, trig: TrigEquation) -> Result<CrankAnswer, Refusal>
-    ensures { (result ≡ crank_of confusion trig) × Within (degree_left (trig_quartic_of trig)) (list_of (crank_roots_in result)) }
+// `sine` is the mode: the third angle's sine is that of the rounded cosine, as in the reference build, or of the exact one.
+pub fn crank(sine: Sine, confusion: f64, trig: TrigEquation) -> Result<CrankAnswer, Refusal>
+    ensures { (result ≡ crank_of sine confusion trig) × Within (degree_left (trig_quartic_of trig)) (list_of (crank_roots_in result)) }
 {
     let replies = touching::Replies {
         reply: [false; 4],
         count: 4,
     };
-    let s = shown_after(confusion, trig, replies)?;
+    let s = shown_after(sine, confusion, trig, replies)?;
     match s.seen.asked {
         Asked::Finished(roots) => Ok(CrankAnswer { k: s.k, roots }),
         Asked::Question(_) => unreachable!(),

@@ -10,6 +10,7 @@ use Rattle.float.specs.Methods.{abs_of, is_finite_of, is_sign_negative_of, with_
 use Rattle.sqrt.specs.Root.{sqrt_of}
 use Rattle.cbrt.specs.Root.{cbrt_of}
 use Rattle.angle.specs.Third.{third_angle_of}
+use Rattle.angle.specs.declared.Sine.TheVariants.{OfRounded}
 use Rattle.horner.proofs.Vectors.{computes as evaluates}
 use Rattle.square.specs.Square.{size_sum_of, scale_of, least_pivot_of, larger_of, pivot_of, swap_pivot_of, lose_of}
 use Rattle.square.specs.Square.{reduce_step, reduce_of, remainder_of, substitute_step, substitute_of, solve_from, solve_square_of}
@@ -33,22 +34,22 @@ bits n = of_bits binary64 n
 
 -- three roots, by the trigonometric form
 
-closed_three : cubic_closed_form_of (bits 0x0000_0000_0000_0000) (bits 0xbff0_0000_0000_0000) (bits 0x3fd0_0000_0000_0000)
+closed_three : cubic_closed_form_of OfRounded (bits 0x0000_0000_0000_0000) (bits 0xbff0_0000_0000_0000) (bits 0x3fd0_0000_0000_0000)
     ≡ Three (bits 0x3fea_cd56_0719_a8f9 ∷ bits 0x3fd1_4109_05e2_e03b ∷ bits 0xbff1_b6ed_4505_8c8b ∷ [])
 unfolding computes
 closed_three = refl
 
-cubic_one_root : cubic_factor_of (bits 0x3fe0_0000_0000_0000) (bits 0xbfd0_0000_0000_0000) (bits 0x3fe8_0000_0000_0000)
+cubic_one_root : cubic_factor_of OfRounded (bits 0x3fe0_0000_0000_0000) (bits 0xbfd0_0000_0000_0000) (bits 0x3fe8_0000_0000_0000)
     ≡ record { r = bits 0xbff3_6e37_f9a8_c67d; e = bits 0xbfe6_dc6f_f351_8cfa; f = bits 0x3fe3_c340_6d12_30e6 }
 unfolding computes
 cubic_one_root = refl
 
-cubic_last_of_equals : cubic_factor_of (bits 0xbff8_0000_0000_0000) (bits 0x3fe6_0000_0000_0000) (bits 0xbfb8_0000_0000_0000)
+cubic_last_of_equals : cubic_factor_of OfRounded (bits 0xbff8_0000_0000_0000) (bits 0x3fe6_0000_0000_0000) (bits 0xbfb8_0000_0000_0000)
     ≡ record { r = bits 0x3fd0_0000_0000_0000; e = bits 0xbff4_0000_0000_0000; f = bits 0x3fd8_0000_0000_0000 }
 unfolding computes
 cubic_last_of_equals = refl
 
-cubic_double_root : cubic_factor_of (bits 0xbff4_0000_0000_0000) (bits 0x3fe0_0000_0000_0000) (bits 0xbfb0_0000_0000_0000)
+cubic_double_root : cubic_factor_of OfRounded (bits 0xbff4_0000_0000_0000) (bits 0x3fe0_0000_0000_0000) (bits 0xbfb0_0000_0000_0000)
     ≡ record { r = bits 0x3fd0_0000_0000_0001; e = bits 0xbff0_0000_0000_0000; f = bits 0x3fcf_ffff_ffff_fffe }
 unfolding computes
 cubic_double_root = refl

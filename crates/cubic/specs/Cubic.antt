@@ -9,6 +9,7 @@ use Rattle.float.specs.Methods.{abs_of, copysign_of, min_of, max_of, clamp_of, t
 use Rattle.sqrt.specs.Root.{sqrt_of}
 use Rattle.cbrt.specs.Root.{cbrt_of}
 use Rattle.angle.specs.Third.{third_angle_of}
+use Rattle.angle.specs.declared.Sine.{Sine}
 use Rattle.refine.specs.Refine.{refine_of}
 use Rattle.refine.specs.Systems.{cubic_system}
 use Rattle.refine.specs.Newton.{newton_cubic_of}
@@ -31,14 +32,14 @@ one_root_of shift p q disc =
 
 -- Three, by the trigonometric form: m * cos(θ), and m * cos(θ ∓ 2π/3) = m * (-cos(θ)/2 ± sin(θ)*√3/2), where θ is a third of the angle whose cosine is cos3.
 -- A cos3 that is a NaN (0 times infinity, for a tiny p) stays one, and so do the roots.
-unfoldable pub three_roots_of : Float → Float → Float → CubicRoots
-three_roots_of shift p q =
+unfoldable pub three_roots_of : Sine → Float → Float → Float → CubicRoots
+three_roots_of sine shift p q =
     -- let m = 2.0 * (-p / 3.0).sqrt();
     let m = two64 *ᶠ sqrt_of (neg p /ᶠ three64) in
     -- let cos3 = (1.5 * q / p * (-3.0 / p).sqrt()).clamp(-1.0, 1.0);
     let cos3 = clamp_of (three_halves64 *ᶠ q /ᶠ p *ᶠ sqrt_of (neg three64 /ᶠ p)) (neg one64) one64 in
-    -- let (sin, cos) = (cos3.acos() / 3.0).sin_cos();
-    let third = third_angle_of cos3 in
+    -- let (sin, cos) = (cos3.acos() / 3.0).sin_cos();, the sine by the mode: the Rust's is OfRounded
+    let third = third_angle_of sine cos3 in
     let sin = third.sin in
     let cos = third.cos in
     -- let (a, b) = (-0.5 * cos, 0.5 * 3f64.sqrt() * sin);
@@ -48,12 +49,12 @@ three_roots_of shift p q =
     Three (m *ᶠ cos +ᶠ shift ∷ m *ᶠ (a +ᶠ b) +ᶠ shift ∷ m *ᶠ (a -ᶠ b) +ᶠ shift ∷ [])
 
 -- `if disc > 0.0 || p >= 0.0`: one root, else three, also where disc is 0. They are what the formulas give for t^3 + p*t + q, moved by shift.
-unfoldable pub depressed_roots_of : Float → Float → Float → Float → CubicRoots
-depressed_roots_of shift p q disc = cond (lt zero64 disc || le zero64 p) (one_root_of shift p q disc) (three_roots_of shift p q)
+unfoldable pub depressed_roots_of : Sine → Float → Float → Float → Float → CubicRoots
+depressed_roots_of sine shift p q disc = cond (lt zero64 disc || le zero64 p) (one_root_of shift p q disc) (three_roots_of sine shift p q)
 
 -- `cubic_closed_form`: with y = t + shift the cubic is t^3 + p*t + q
-unfoldable pub cubic_closed_form_of : Float → Float → Float → CubicRoots
-cubic_closed_form_of b c d =
+unfoldable pub cubic_closed_form_of : Sine → Float → Float → Float → CubicRoots
+cubic_closed_form_of sine b c d =
     -- let shift = -b / 3.0;
     let shift = neg b /ᶠ three64 in
     -- let p = c - b * b / 3.0;
@@ -62,7 +63,7 @@ cubic_closed_form_of b c d =
     let q = d +ᶠ b *ᶠ (two64 *ᶠ b *ᶠ b -ᶠ nine64 *ᶠ c) /ᶠ twenty_seven64 in
     -- let disc = (0.5 * q) * (0.5 * q) + (p / 3.0) * (p / 3.0) * (p / 3.0);
     let disc = (half64 *ᶠ q) *ᶠ (half64 *ᶠ q) +ᶠ (p /ᶠ three64) *ᶠ (p /ᶠ three64) *ᶠ (p /ᶠ three64) in
-    depressed_roots_of shift p q disc
+    depressed_roots_of sine shift p q disc
 
 -- `roots` and n of what it answers: the places up to n, and how many they are
 abbrev pub places_of : CubicRoots → List Float
@@ -96,10 +97,10 @@ abbrev pub over_or : Float → Float → Float → Float
 over_or x z other = cond (ne z zero64) (x /ᶠ z) other
 
 -- `cubic_factor`, which answers `(x[0], x[1], x[2])`
-unfoldable pub cubic_factor_of : Float → Float → Float → CubicFactor
-cubic_factor_of b c d =
+unfoldable pub cubic_factor_of : Sine → Float → Float → Float → CubicFactor
+cubic_factor_of sine b c d =
     -- let (roots, n) = cubic_closed_form(b, c, d);
-    let s = cubic_closed_form_of b c d in
+    let s = cubic_closed_form_of sine b c d in
     -- let r = newton_cubic(&[d, c, b, 1.0, 0.0], roots[best]);
     let r = newton_cubic_of (d ∷ c ∷ b ∷ one64 ∷ zero64 ∷ []) (most_isolated_of (places_of s) (count_of s)) in
     -- let f = if r != 0.0 { -d / r } else { c };

@@ -8,6 +8,8 @@ ghost use Rattle.float.specs.Literals.{zero64};
 ghost use Rattle.cubic.specs.Cubic.{cardano_of, one_root_of, three_roots_of, cubic_closed_form_of, places_of, count_of};
 ghost use Rattle.cubic.specs.Cubic.{isolation_among, most_isolated_of, over_or, cubic_factor_of};
 
+use angle::Sine;
+
 // The real roots of a cubic.
 #[derive(Clone, Copy)]
 pub enum CubicRoots {
@@ -44,12 +46,12 @@ const HALF_ROOT_THREE: f64 = 0.8660254037844386;
 
 // cos(theta -+ 2pi/3) = -cos/2 +- sin*sqrt(3)/2.
 #[tactic(auto, using(crate::proofs::Laws::half_root_three), unfolding(crate::specs::Cubic::three_roots_of))]
-fn three_roots(shift: f64, p: f64, q: f64) -> CubicRoots
-    ensures { result ≡ three_roots_of shift p q }
+fn three_roots(sine: Sine, shift: f64, p: f64, q: f64) -> CubicRoots
+    ensures { result ≡ three_roots_of sine shift p q }
 {
     let m = 2.0 * sqrt::sqrt(-p / 3.0);
     let cos3 = float::clamp(1.5 * q / p * sqrt::sqrt(-3.0 / p), -1.0, 1.0);
-    let third = angle::third_angle(cos3);
+    let third = angle::third_angle(sine, cos3);
     let a = -0.5 * third.cos;
     let b = HALF_ROOT_THREE * third.sin;
     CubicRoots::Three([
@@ -59,10 +61,11 @@ fn three_roots(shift: f64, p: f64, q: f64) -> CubicRoots
     ])
 }
 
+// `sine` is the mode: the third angle's sine is that of the rounded cosine, as in the reference build, or of the exact one.
 // (The coefficients one by one, here and in cubic_factor, as in poly.rs and as C hands them in.)
 #[tactic(auto, unfolding(crate::specs::Cubic::cubic_closed_form_of, crate::specs::Cubic::depressed_roots_of))]
-pub fn cubic_closed_form(b: f64, c: f64, d: f64) -> CubicRoots
-    ensures { result ≡ cubic_closed_form_of b c d }
+pub fn cubic_closed_form(sine: Sine, b: f64, c: f64, d: f64) -> CubicRoots
+    ensures { result ≡ cubic_closed_form_of sine b c d }
 {
     let shift = -b / 3.0;
     let p = c - b * b / 3.0;
@@ -71,7 +74,7 @@ pub fn cubic_closed_form(b: f64, c: f64, d: f64) -> CubicRoots
     if has_one_root(disc, p) {
         one_root(shift, p, q, disc)
     } else {
-        three_roots(shift, p, q)
+        three_roots(sine, shift, p, q)
     }
 }
 
@@ -123,10 +126,10 @@ pub fn over_or(x: f64, z: f64, other: f64) -> f64
 }
 
 #[tactic(auto, unfolding(crate::specs::Cubic::cubic_factor_of))]
-pub fn cubic_factor(b: f64, c: f64, d: f64) -> CubicFactor
-    ensures { result ≡ cubic_factor_of b c d }
+pub fn cubic_factor(sine: Sine, b: f64, c: f64, d: f64) -> CubicFactor
+    ensures { result ≡ cubic_factor_of sine b c d }
 {
-    let start = most_isolated(cubic_closed_form(b, c, d));
+    let start = most_isolated(cubic_closed_form(sine, b, c, d));
     let r = refine::newton_cubic([d, c, b, 1.0, 0.0], start);
     let f = over_or(-d, r, c);
     let [r, e, f] = refine::refine_cubic(b, c, d, [r, b + r, f]);

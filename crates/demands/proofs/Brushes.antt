@@ -13,6 +13,7 @@ use lib.Ieee.{Float}
 use Rattle.std.specs.Prelude.{Result, Ok, Err}
 use Rattle.facts.specs.Cond.{either_way}
 use Rattle.facts.specs.Lists.{AllOf, all_snoc}
+use Rattle.angle.specs.declared.Sine.{Sine}
 use Rattle.refusals.specs.declared.Refusal.{Refusal}
 use Rattle.refusals.specs.Refusals.{number_of, outcome_of, and_then}
 use Rattle.refusals.proofs.Numbers.{number_bounds}
@@ -178,9 +179,9 @@ plain_unscaled e (r ∷ l) = go (is_finite_of (unscaled_of e r.value)) (plain_un
     go true h = (refl, h)
     go false h = h
 
-plain_list : (coeffs : List Float) (tol : Float) → NeverBrush (list_of (roots_in (real_roots_of coeffs tol)))
+plain_list : (sine : Sine) (coeffs : List Float) (tol : Float) → NeverBrush (list_of (roots_in (real_roots_of sine coeffs tol)))
 unfolding real_roots_of answer_of
-plain_list coeffs tol = go (solve_of coeffs tol)
+plain_list sine coeffs tol = go (solve_of sine coeffs tol)
   where
     go : (r : Result Solved Refusal) → NeverBrush (list_of (roots_in (and_then r (λ s. Ok (answer_of s)))))
     go (Ok s) =
@@ -219,16 +220,16 @@ plain_finished poly c tol =
     let polished = polished_of 4 poly (ordered_of c) in
     subst (AllOf Plain) (sym (list_roots (joined_of poly tol polished))) (plain_runs poly tol polished (plain_polished 4 poly (ordered_of c)))
 
-plain_solved : (coeffs : List Float) (tol : Float) → AllOf Plain (list_of (solved_in (solve_of coeffs tol)).roots)
+plain_solved : (sine : Sine) (coeffs : List Float) (tol : Float) → AllOf Plain (list_of (solved_in (solve_of sine coeffs tol)).roots)
 unfolding solve_of finished_of
-plain_solved coeffs tol = go (counted_of coeffs)
+plain_solved sine coeffs tol = go (counted_of coeffs)
   where
     go : (r : Result ℕ Refusal)
-        → AllOf Plain (list_of (solved_in (and_then r (λ n. Ok (finished_of (poly_of coeffs) (zeros_of coeffs) (max_of tol zero64))))).roots)
+        → AllOf Plain (list_of (solved_in (and_then r (λ n. Ok (finished_of sine (poly_of coeffs) (zeros_of coeffs) (max_of tol zero64))))).roots)
     go (Ok n) =
         let poly = poly_of coeffs in
         let least = max_of tol zero64 in
-        plain_finished poly (candidates_of poly (zeros_of coeffs) (factorize_of poly 0) least).0 least
+        plain_finished poly (candidates_of poly (zeros_of coeffs) (factorize_of sine poly 0) least).0 least
     go (Err refusal) = tt
 
 -- ---- replies in a list, read in their order
@@ -247,24 +248,24 @@ numbered_walked reply (r ∷ rs) n (ask x k) a left h e =
     (sym (h 0) ∙ ap reply (omega arith))
     (let rest = numbered_walked reply rs (n + 1) (k r) a left (λ i. ap reply (omega arith) ∙ h (suc i)) e in (rest.0, omega (arith, rest.1)))
 
-module _ (replies : List Bool) (coeffs : List Float) (tol : Float) where
+module _ (sine : Sine) (replies : List Bool) (coeffs : List Float) (tol : Float) where
   abbrev solved : Solved
-  solved = solved_in (solve_of coeffs tol)
+  solved = solved_in (solve_of sine coeffs tol)
 
   abbrev roots : List Formed
   roots = roots_formed (reply_in replies) solved
 
   -- the list is what is formed, with kinds
-  list_formed : (l : List RealRoot) (left : List Bool) → walked replies (real_roots_touching coeffs tol) ≡ ended l left
+  list_formed : (l : List RealRoot) (left : List Bool) → walked replies (real_roots_touching sine coeffs tol) ≡ ended l left
       → (l ≡ map (kinded (reply_in replies)) roots) × ((chains_formed (reply_in replies) solved).0 ≤ length replies)
   list_formed l left e =
       let reply = reply_in replies in
       let t = asking (fresh_by solved) in
-      let so = formed_so reply solved.poly solved.tol (list_of solved.roots) (pair_list_of solved.pairs) (plain_solved coeffs tol) in
-      let run = numbered_walked reply replies 0 t l left (λ i. ap reply (omega arith)) (ap (walked replies) (solved_asks coeffs tol) ∙ e) in
+      let so = formed_so reply solved.poly solved.tol (list_of solved.roots) (pair_list_of solved.pairs) (plain_solved sine coeffs tol) in
+      let run = numbered_walked reply replies 0 t l left (λ i. ap reply (omega arith)) (ap (walked replies) (solved_asks sine coeffs tol) ∙ e) in
       (sym run.0 ∙ ap (λ (u : ℕ × List RealRoot). u.1) so, omega (arith, run.1, ap (λ (u : ℕ × List RealRoot). u.0) so))
 
-  kinds_by : (l : List RealRoot) (left : List Bool) → walked replies (real_roots_touching coeffs tol) ≡ ended l left → KindsBy replies coeffs tol l
+  kinds_by : (l : List RealRoot) (left : List Bool) → walked replies (real_roots_touching sine coeffs tol) ≡ ended l left → KindsBy sine replies coeffs tol l
   kinds_by l left e =
       let formed = list_formed l left e in
       let long : length l ≡ length roots = ap length formed.0 ∙ length-map roots (kinded (reply_in replies)) in
@@ -280,26 +281,28 @@ module _ (replies : List Bool) (coeffs : List Float) (tol : Float) where
       }
 
 -- ---- an inquiry with these replies: where nothing is asked, the list
-seen_kinds : (replies : List Bool) (coeffs : List Float) (tol : Float) (s : Stage (List RealRoot)) → walked replies (real_roots_touching coeffs tol) ≡ s
-    → is_question (seen_at s).asked ≡ false → KindsBy replies coeffs tol (list_of (list_in (seen_at s).asked))
+seen_kinds : (sine : Sine) (replies : List Bool) (coeffs : List Float) (tol : Float) (s : Stage (List RealRoot))
+    → walked replies (real_roots_touching sine coeffs tol) ≡ s → is_question (seen_at s).asked ≡ false
+    → KindsBy sine replies coeffs tol (list_of (list_in (seen_at s).asked))
 unfolding shown
-seen_kinds replies coeffs tol (asks x) e h = unlike cc
-seen_kinds replies coeffs tol (ended l left) e h = rw (list_roots l) (kinds_by replies coeffs tol l left e)
+seen_kinds sine replies coeffs tol (asks x) e h = unlike cc
+seen_kinds sine replies coeffs tol (ended l left) e h = rw (list_roots l) (kinds_by sine replies coeffs tol l left e)
 
 -- where nothing is asked from the start, as where it is refused, no root
-nothing_kinds : (replies : List Bool) (coeffs : List Float) (tol : Float) → real_roots_touching coeffs tol ≡ done [] → KindsBy replies coeffs tol []
+nothing_kinds : (sine : Sine) (replies : List Bool) (coeffs : List Float) (tol : Float) → real_roots_touching sine coeffs tol ≡ done []
+    → KindsBy sine replies coeffs tol []
 unfolding walked
-nothing_kinds replies coeffs tol e = kinds_by replies coeffs tol [] replies (ap (walked replies) e)
+nothing_kinds sine replies coeffs tol e = kinds_by sine replies coeffs tol [] replies (ap (walked replies) e)
 
-module _ (rs : Replies) (fits : RepliesFit rs) (coeffs : List Float) (tol : Float) where
+module _ (sine : Sine) (rs : Replies) (fits : RepliesFit rs) (coeffs : List Float) (tol : Float) where
   abbrev started : Inquiry
-  started = inquiry_in (start_of coeffs tol)
+  started = inquiry_in (start_of sine coeffs tol)
 
-  given_seen : seen_of (given started rs) ≡ seen_at (walked (replies_of rs) (real_roots_touching coeffs tol))
+  given_seen : seen_of (given started rs) ≡ seen_at (walked (replies_of rs) (real_roots_touching sine coeffs tol))
   given_seen =
-      let s = sound_is started (start_sound coeffs tol) in
-      has_seen (real_roots_touching coeffs tol) (given started rs) (replies_of rs) (record {
-        asks_it = start_asks coeffs tol;
+      let s = sound_is started (start_sound sine coeffs tol) in
+      has_seen (real_roots_touching sine coeffs tol) (given started rs) (replies_of rs) (record {
+        asks_it = start_asks sine coeffs tol;
         has = refl;
         array = fits.0;
         count = sym (length-take-le rs.count rs.reply (omega (arith, fits.0, fits.1)));
@@ -309,37 +312,39 @@ module _ (rs : Replies) (fits : RepliesFit rs) (coeffs : List Float) (tol : Floa
       })
 
   abbrev KindsOf : Asked → Type 0
-  KindsOf shown = is_question shown ≡ false → KindsBy (replies_of rs) coeffs tol (list_of (list_in shown))
+  KindsOf shown = is_question shown ≡ false → KindsBy sine (replies_of rs) coeffs tol (list_of (list_in shown))
 
   given_kinds : (q : Inquiry) → q ≡ started → KindsOf (seen_of (given q rs)).asked
   given_kinds q is =
       let seen = ap (λ (p : Inquiry). seen_of (given p rs)) is ∙ given_seen in
-      rw seen (seen_kinds (replies_of rs) coeffs tol (walked (replies_of rs) (real_roots_touching coeffs tol)) refl)
+      rw seen (seen_kinds sine (replies_of rs) coeffs tol (walked (replies_of rs) (real_roots_touching sine coeffs tol)) refl)
 
-  inquiry_kinds : KindsOf (shown_in (shown_after_of coeffs tol rs))
+  inquiry_kinds : KindsOf (shown_in (shown_after_of sine coeffs tol rs))
   unfolding shown_after_of
-  inquiry_kinds = go (start_of coeffs tol) refl
+  inquiry_kinds = go (start_of sine coeffs tol) refl
     where
-      go : (r : Result Inquiry Refusal) → start_of coeffs tol ≡ r → KindsOf (shown_in (and_then r (λ q. Ok (seen_of (given q rs)))))
+      go : (r : Result Inquiry Refusal) → start_of sine coeffs tol ≡ r → KindsOf (shown_in (and_then r (λ q. Ok (seen_of (given q rs)))))
       go (Ok q) e = given_kinds q (ap inquiry_in (sym e))
       go (Err refusal) e =
-          let n : number_of refusal ≡ refusal_of coeffs = ap outcome_of (sym e) ∙ start_number coeffs tol in
+          let n : number_of refusal ≡ refusal_of coeffs = ap outcome_of (sym e) ∙ start_number sine coeffs tol in
           let some = ne_eqb (refusal_of coeffs) 0 (λ z. omega (arith, z, n, number_bounds refusal)) in
-          λ h. nothing_kinds (replies_of rs) coeffs tol (refused_asks coeffs tol some)
+          λ h. nothing_kinds sine (replies_of rs) coeffs tol (refused_asks sine coeffs tol some)
 
-crank_inquiry_kinds : (rs : Replies) (fits : RepliesFit rs) (confusion : Float) (trig : TrigEquation)
-    → KindsOf rs fits (trig_quartic_of trig) confusion (crank_shown_in (crank_shown_of confusion trig rs))
+crank_inquiry_kinds : (sine : Sine) (rs : Replies) (fits : RepliesFit rs) (confusion : Float) (trig : TrigEquation)
+    → KindsOf sine rs fits (trig_quartic_of trig) confusion (crank_shown_in (crank_shown_of sine confusion trig rs))
 unfolding crank_shown_of
-crank_inquiry_kinds rs fits confusion trig = go (crank_start_of confusion trig) refl
+crank_inquiry_kinds sine rs fits confusion trig = go (crank_start_of sine confusion trig) refl
   where
-    go : (r : Result CrankInquiry Refusal) → crank_start_of confusion trig ≡ r
-        → KindsOf rs fits (trig_quartic_of trig) confusion (crank_shown_in (and_then r (λ c. Ok (record { k = c.k; seen = seen_of (given c.inquiry rs) }))))
+    go : (r : Result CrankInquiry Refusal) → crank_start_of sine confusion trig ≡ r
+        → KindsOf sine rs fits (trig_quartic_of trig) confusion
+        (crank_shown_in (and_then r (λ c. Ok (record { k = c.k; seen = seen_of (given c.inquiry rs) }))))
     go (Ok c) e =
-        given_kinds rs fits (trig_quartic_of trig) confusion c.inquiry
-        (ap (λ (r : Result CrankInquiry Refusal). (crank_in r).inquiry) (sym e) ∙ front.same_inquiry trig confusion)
+        given_kinds sine rs fits (trig_quartic_of trig) confusion c.inquiry
+        (ap (λ (r : Result CrankInquiry Refusal). (crank_in r).inquiry) (sym e) ∙ front.same_inquiry trig sine confusion)
     go (Err refusal) e =
-        let n : outcome_of (crank_start_of confusion trig) ≡ number_of refusal = ap outcome_of e in
-        λ h. nothing_kinds (replies_of rs) (trig_quartic_of trig) confusion (front.refused_nothing trig confusion (omega (arith, n, number_bounds refusal)))
+        let n : outcome_of (crank_start_of sine confusion trig) ≡ number_of refusal = ap outcome_of e in
+        let none = front.refused_nothing trig sine confusion (omega (arith, n, number_bounds refusal)) in
+        λ h. nothing_kinds sine (replies_of rs) (trig_quartic_of trig) confusion none
 
 -- ---- every question replied no
 plain_no : (places : List Float) (l : List ℕ) → some_yes (reply_in (map (λ (x : Float). false) places)) l ≡ false
@@ -356,46 +361,46 @@ plain_kinded places [] = tt
 plain_kinded places (f ∷ l) =
     (ap (λ (b : Bool). root_by b f.value f.multiplicity) (plain_no places f.questions), plain_kinded places l)
 
-never_yes : (coeffs : List Float) (tol : Float) → AllOf Plain (real_roots_touching_of (λ x. false) coeffs tol)
-never_yes coeffs tol =
-    let t = real_roots_touching coeffs tol in
+never_yes : (sine : Sine) (coeffs : List Float) (tol : Float) → AllOf Plain (real_roots_touching_of sine (λ x. false) coeffs tol)
+never_yes sine coeffs tol =
+    let t = real_roots_touching sine coeffs tol in
     let places = places_asked (λ x. false) t in
     let replies = map (λ (x : Float). false) places in
-    subst (AllOf Plain) (sym (list_formed replies coeffs tol (answered (λ x. false) t) [] (finish (λ x. false) t)).0)
-    (plain_kinded places (roots_formed (reply_in replies) (solved_in (solve_of coeffs tol))))
+    subst (AllOf Plain) (sym (list_formed sine replies coeffs tol (answered (λ x. false) t) [] (finish (λ x. false) t)).0)
+    (plain_kinded places (roots_formed (reply_in replies) (solved_in (solve_of sine coeffs tol))))
 
-crank_kinds : (confusion : Float) (trig : TrigEquation) → NeverBrush (list_of (crank_roots_in (crank_of confusion trig)))
-crank_kinds confusion trig =
-    let l = (solve_trig_of (λ k u. false) confusion trig).1 in
-    answer_by confusion trig (λ a. NeverBrush (list_of (crank_roots_in a)))
-    (λ z. never_brush (list_of (roots_of l)) (subst (AllOf Plain) (sym (list_roots l)) (never_yes (trig_quartic_of trig) confusion)))
+crank_kinds : (sine : Sine) (confusion : Float) (trig : TrigEquation) → NeverBrush (list_of (crank_roots_in (crank_of sine confusion trig)))
+crank_kinds sine confusion trig =
+    let l = (solve_trig_of sine (λ k u. false) confusion trig).1 in
+    answer_by sine confusion trig (λ a. NeverBrush (list_of (crank_roots_in a)))
+    (λ z. never_brush (list_of (roots_of l)) (subst (AllOf Plain) (sym (list_roots l)) (never_yes sine (trig_quartic_of trig) confusion)))
     (λ refusal e. never_brush [] tt)
 
 -- ---- fed by a function; a contact
-fed_kinds : (touches : Float → Bool) (coeffs : List Float) (tol : Float)
-    → KindsBy (map touches (places_touching_of touches coeffs tol)) coeffs tol (real_roots_touching_of touches coeffs tol)
-fed_kinds touches coeffs tol =
-    let t = real_roots_touching coeffs tol in
-    kinds_by (map touches (places_asked touches t)) coeffs tol (answered touches t) [] (finish touches t)
+fed_kinds : (sine : Sine) (touches : Float → Bool) (coeffs : List Float) (tol : Float)
+    → KindsBy sine (map touches (places_touching_of sine touches coeffs tol)) coeffs tol (real_roots_touching_of sine touches coeffs tol)
+fed_kinds sine touches coeffs tol =
+    let t = real_roots_touching sine coeffs tol in
+    kinds_by sine (map touches (places_asked touches t)) coeffs tol (answered touches t) [] (finish touches t)
 
-contact_kinds : (confusion : Float) (path : Path) (circle : Circle) → outcome_of (pin_contact_of confusion path circle) ≡ 0
+contact_kinds : (sine : Sine) (confusion : Float) (path : Path) (circle : Circle) → outcome_of (pin_contact_of sine confusion path circle) ≡ 0
     → (let touches = contact.replies_of confusion path circle in
-    KindsBy (map touches (places_touching_of touches (made_of path circle) confusion)) (made_of path circle) confusion
-    (list_of (roots_in (pin_contact_of confusion path circle))))
-contact_kinds confusion path circle e =
+    KindsBy sine (map touches (places_touching_of sine touches (made_of path circle) confusion)) (made_of path circle) confusion
+    (list_of (roots_in (pin_contact_of sine confusion path circle))))
+contact_kinds sine confusion path circle e =
     let touches = contact.replies_of confusion path circle in
-    rw ((contacts confusion path circle).list e, list_roots (real_roots_touching_of touches (made_of path circle) confusion))
-    (fed_kinds touches (made_of path circle) confusion)
+    rw ((contacts sine confusion path circle).list e, list_roots (real_roots_touching_of sine touches (made_of path circle) confusion))
+    (fed_kinds sine touches (made_of path circle) confusion)
 
-pub kinds : Kinds
+pub kinds : (sine : Sine) → Kinds sine
 unfolding root_text ascii
-kinds = record {
-  list = plain_list;
-  fed = fed_kinds;
-  inquiry = λ rs coeffs tol fits. inquiry_kinds rs fits coeffs tol;
-  crank_inquiry = λ rs confusion trig fits. crank_inquiry_kinds rs fits confusion trig;
-  crank = crank_kinds;
-  contact = contact_kinds;
+kinds sine = record {
+  list = plain_list sine;
+  fed = fed_kinds sine;
+  inquiry = λ rs coeffs tol fits. inquiry_kinds sine rs fits coeffs tol;
+  crank_inquiry = λ rs confusion trig fits. crank_inquiry_kinds sine rs fits confusion trig;
+  crank = crank_kinds sine;
+  contact = contact_kinds sine;
   line = λ r. sym (append_assoc (place_text r.value) (32 ∷ decimal r.multiplicity) (32 ∷ letter_of r.kind ∷ []));
   letters = refl;
 }

@@ -8,6 +8,7 @@ use lib.Dec.{ltb}
 use lib.ListN.{length, get_or, drop, length-append}
 use Rattle.facts.specs.Lists.{AllOf, all_at}
 use Rattle.text.specs.Digits.{decimal}
+use Rattle.angle.specs.declared.Sine.{Sine}
 use Rattle.refusals.specs.declared.Refusal.TheVariants.{FileTooLong}
 use Rattle.roots.specs.Roots.{no_roots}
 use Rattle.records.specs.declared.Kind.TheVariants.{Unknown}
@@ -36,53 +37,53 @@ record Tells (ls : List (List ℕ)) (t : Total) : Type 0 where
 tells_none : Tells [] no_total
 tells_none = record { count = refl; roots = refl; sum = refl; not_a_total = tt }
 
-tells_line : (n : ℕ) (s : List ℕ) (at : ℕ) (found : Record) (ls : List (List ℕ)) (t : Total) → Tells ls t
-    → Tells (record_line n s at found ∷ ls) (plus (record_total s at found) t)
+tells_line : (sine : Sine) (n : ℕ) (s : List ℕ) (at : ℕ) (found : Record) (ls : List (List ℕ)) (t : Total) → Tells ls t
+    → Tells (record_line sine n s at found ∷ ls) (plus (record_total sine s at found) t)
 unfolding record_total
-tells_line n s at found ls t h =
-    let told = line_told n s at found in record {
+tells_line sine n s at found ls t h =
+    let told = line_told sine n s at found in record {
       count = omega (arith, h.count);
       roots = omega (arith, told.roots_are, h.roots);
       sum = omega (arith, told.sum_is, h.sum);
       not_a_total = (told.not_a_total, h.not_a_total);
     }
 
-bodies : ℕ → List ℕ → ℕ → ℕ → List (List ℕ)
-bodies zero s at n = []
-bodies (suc f) s at n =
+unfoldable pub bodies : Sine → ℕ → List ℕ → ℕ → ℕ → List (List ℕ)
+bodies sine zero s at n = []
+bodies sine (suc f) s at n =
     let found = record_at s at in
-    cond (ltb at (length s)) (record_line n s at found ∷ bodies f s found.next (n + 1)) []
+    cond (ltb at (length s)) (record_line sine n s at found ∷ bodies sine f s found.next (n + 1)) []
 
-bodies_parted : (f : ℕ) (s : List ℕ) (at n : ℕ) (t : List ℕ) → lines (lines_from f s at n ++ t) ≡ bodies f s at n ++ lines t
+bodies_parted : (sine : Sine) (f : ℕ) (s : List ℕ) (at n : ℕ) (t : List ℕ) → lines (lines_from sine f s at n ++ t) ≡ bodies sine f s at n ++ lines t
 unfolding lines_from bodies
-bodies_parted zero s at n t = refl
-bodies_parted (suc f) s at n t = go (ltb at (length s)) (bodies_parted f s (record_at s at).next (n + 1) t)
+bodies_parted sine zero s at n t = refl
+bodies_parted sine (suc f) s at n t = go (ltb at (length s)) (bodies_parted sine f s (record_at s at).next (n + 1) t)
   where
     found : Record
     found = record_at s at
 
     more : List ℕ
-    more = lines_from f s found.next (n + 1)
+    more = lines_from sine f s found.next (n + 1)
 
-    go : (b : Bool) → lines (more ++ t) ≡ bodies f s found.next (n + 1) ++ lines t
-        → lines (cond b (line_of n s at found ++ more) [] ++ t) ≡ cond b (record_line n s at found ∷ bodies f s found.next (n + 1)) [] ++ lines t
+    go : (b : Bool) → lines (more ++ t) ≡ bodies sine f s found.next (n + 1) ++ lines t
+        → lines (cond b (line_of sine n s at found ++ more) [] ++ t) ≡ cond b (record_line sine n s at found ∷ bodies sine f s found.next (n + 1)) [] ++ lines t
     go true e =
-        ap lines (append_assoc (line_of n s at found) more t) ∙ line_parted n s at found (more ++ t)
-        ∙ ap (λ (ls : List (List ℕ)). record_line n s at found ∷ ls) e
+        ap lines (append_assoc (line_of sine n s at found) more t) ∙ line_parted sine n s at found (more ++ t)
+        ∙ ap (λ (ls : List (List ℕ)). record_line sine n s at found ∷ ls) e
     go false e = refl
 
-bodies_tell : (f : ℕ) (s : List ℕ) (at n : ℕ) → Tells (bodies f s at n) (total_from f s at)
+bodies_tell : (sine : Sine) (f : ℕ) (s : List ℕ) (at n : ℕ) → Tells (bodies sine f s at n) (total_from sine f s at)
 unfolding bodies total_from
-bodies_tell zero s at n = tells_none
-bodies_tell (suc f) s at n = go (ltb at (length s)) (bodies_tell f s (record_at s at).next (n + 1))
+bodies_tell sine zero s at n = tells_none
+bodies_tell sine (suc f) s at n = go (ltb at (length s)) (bodies_tell sine f s (record_at s at).next (n + 1))
   where
     found : Record
     found = record_at s at
 
-    go : (b : Bool) → Tells (bodies f s found.next (n + 1)) (total_from f s found.next)
-        → Tells (cond b (record_line n s at found ∷ bodies f s found.next (n + 1)) [])
-        (cond b (plus (record_total s at found) (total_from f s found.next)) no_total)
-    go true h = tells_line n s at found (bodies f s found.next (n + 1)) (total_from f s found.next) h
+    go : (b : Bool) → Tells (bodies sine f s found.next (n + 1)) (total_from sine f s found.next)
+        → Tells (cond b (record_line sine n s at found ∷ bodies sine f s found.next (n + 1)) [])
+        (cond b (plus (record_total sine s at found) (total_from sine f s found.next)) no_total)
+    go true h = tells_line sine n s at found (bodies sine f s found.next (n + 1)) (total_from sine f s found.next) h
     go false h = tells_none
 
 -- ---- a listing
@@ -141,49 +142,50 @@ closing_parted t =
       ),
     )
 
-module _ (s : List ℕ) where
+module _ (sine : Sine) (s : List ℕ) where
   abbrev too_long : Record
   too_long = ended_of Unknown FileTooLong s
 
-  record_bodies : List (List ℕ)
-  record_bodies = cond (ltb 65536 (length s)) (record_line 0 s 0 too_long ∷ []) (bodies (length s) s 0 1)
+  unfoldable pub record_bodies : List (List ℕ)
+  record_bodies = cond (ltb 65536 (length s)) (record_line sine 0 s 0 too_long ∷ []) (bodies sine (length s) s 0 1)
 
-  all_parted : (t : List ℕ) → lines (record_lines s ++ t) ≡ record_bodies ++ lines t
+  all_parted : (t : List ℕ) → lines (record_lines sine s ++ t) ≡ record_bodies ++ lines t
   unfolding record_lines record_bodies
   all_parted t = go (ltb 65536 (length s))
     where
-      go : (b : Bool) → lines (cond b (line_of 0 s 0 too_long) (lines_from (length s) s 0 1) ++ t)
-          ≡ cond b (record_line 0 s 0 too_long ∷ []) (bodies (length s) s 0 1) ++ lines t
-      go true = line_parted 0 s 0 too_long t
-      go false = bodies_parted (length s) s 0 1 t
+      go : (b : Bool) → lines (cond b (line_of sine 0 s 0 too_long) (lines_from sine (length s) s 0 1) ++ t)
+          ≡ cond b (record_line sine 0 s 0 too_long ∷ []) (bodies sine (length s) s 0 1) ++ lines t
+      go true = line_parted sine 0 s 0 too_long t
+      go false = bodies_parted sine (length s) s 0 1 t
 
-  all_tell : Tells record_bodies (total_of s)
+  all_tell : Tells record_bodies (total_of sine s)
   unfolding record_bodies total_of record_total
   all_tell = go (ltb 65536 (length s))
     where
-      go : (b : Bool) → Tells (cond b (record_line 0 s 0 too_long ∷ []) (bodies (length s) s 0 1)) (cond b (line_total no_roots) (total_from (length s) s 0))
-      go true = tells_line 0 s 0 too_long [] no_total tells_none
-      go false = bodies_tell (length s) s 0 1
+      go : (b : Bool) → Tells (cond b (record_line sine 0 s 0 too_long ∷ []) (bodies sine (length s) s 0 1))
+          (cond b (line_total no_roots) (total_from sine (length s) s 0))
+      go true = tells_line sine 0 s 0 too_long [] no_total tells_none
+      go false = bodies_tell sine (length s) s 0 1
 
-  listing_parted : lines (listing s) ≡ record_bodies ++ (closing_of (total_of s) ∷ [])
+  listing_parted : lines (listing sine s) ≡ record_bodies ++ (closing_of (total_of sine s) ∷ [])
   unfolding listing
-  listing_parted = all_parted (total_text (total_of s)) ∙ ap (λ (ls : List (List ℕ)). record_bodies ++ ls) (closing_parted (total_of s))
+  listing_parted = all_parted (total_text (total_of sine s)) ∙ ap (λ (ls : List (List ℕ)). record_bodies ++ ls) (closing_parted (total_of sine s))
 
   abbrev before : List (List ℕ)
-  before = before_last (lines (listing s))
+  before = before_last (lines (listing sine s))
 
-  before_is : before ≡ record_bodies
-  before_is = ap before_last listing_parted ∙ last_left record_bodies (closing_of (total_of s))
+  pub before_is : before ≡ record_bodies
+  before_is = ap before_last listing_parted ∙ last_left record_bodies (closing_of (total_of sine s))
 
-  before_tells : Tells before (total_of s)
-  before_tells = subst (λ (ls : List (List ℕ)). Tells ls (total_of s)) (sym before_is) all_tell
+  before_tells : Tells before (total_of sine s)
+  before_tells = subst (λ (ls : List (List ℕ)). Tells ls (total_of sine s)) (sym before_is) all_tell
 
-  pub agrees : total_of s ≡ record { records = length before; roots = roots_on before; multiplicities = multiplicities_on before }
+  pub agrees : total_of sine s ≡ record { records = length before; roots = roots_on before; multiplicities = multiplicities_on before }
   agrees = let h = before_tells in same_total (sym h.count) (sym h.roots) (sym h.sum)
 
-  pub last_line : lines (listing s) ≡ before ++ (closing_line (length before) (roots_on before) (multiplicities_on before) ∷ [])
+  pub last_line : lines (listing sine s) ≡ before ++ (closing_line (length before) (roots_on before) (multiplicities_on before) ∷ [])
   last_line =
-      listing_parted ∙ ap (λ (ls : List (List ℕ)). ls ++ (closing_of (total_of s) ∷ [])) (sym before_is)
+      listing_parted ∙ ap (λ (ls : List (List ℕ)). ls ++ (closing_of (total_of sine s) ∷ [])) (sym before_is)
       ∙ ap (λ (t : Total). before ++ (closing_of t ∷ [])) agrees
 
   pub no_other : (k : ℕ) → k < length before → same (word 0 (get_or before k [])) (ascii "T") ≡ false
@@ -193,16 +195,16 @@ module _ (s : List ℕ) where
   pub fit : (length before ≤ 65536) × (roots_on before ≤ 65536) × (multiplicities_on before ≤ 65536)
   fit =
       let h = before_tells in
-      let most = total_fits s in
+      let most = total_fits sine s in
       (omega (arith, h.count, most.records), omega (arith, h.roots, most.roots), omega (arith, h.sum, most.multiplicities))
 
-  pub ends : get_or (listing s) (length (listing s) - 1) 0 ≡ 10
+  pub ends : get_or (listing sine s) (length (listing sine s) - 1) 0 ≡ 10
   unfolding listing
   ends =
-      let line = closing_of (total_of s) in
+      let line = closing_of (total_of sine s) in
       ap (λ (t : List ℕ). get_or t (length t - 1) 0)
-      (ap (λ (t : List ℕ). record_lines s ++ t) (closing_ended (total_of s)) ∙ sym (append_assoc (record_lines s) line (10 ∷ [])))
-      ∙ last_is (record_lines s ++ line) 10
+      (ap (λ (t : List ℕ). record_lines sine s ++ t) (closing_ended (total_of sine s)) ∙ sym (append_assoc (record_lines sine s) line (10 ∷ [])))
+      ∙ last_is (record_lines sine s ++ line) 10
 
 -- a refused line says no root
 pub refused_says : (line : List ℕ) → word 2 line ≡ ascii "refused" → (line_roots line ≡ 0) × (line_multiplicities line ≡ 0)
@@ -210,14 +212,14 @@ unfolding roots_said multiplicities_said
 refused_says line e = let none = refused_words (words line) e in (ap roots_said none, ap multiplicities_said none)
 
 -- a record's line says what its answer adds
-module _ (n : ℕ) (s : List ℕ) (at : ℕ) (found : Record) where
-  pub each : let line = record_line n s at found in let t = record_total s at found in
+module _ (sine : Sine) (n : ℕ) (s : List ℕ) (at : ℕ) (found : Record) where
+  pub each : let line = record_line sine n s at found in let t = record_total sine s at found in
       (t.records ≡ 1) × (line_roots line ≡ t.roots) × (line_multiplicities line ≡ t.multiplicities)
   unfolding record_total
-  each = let told = line_told n s at found in (refl, told.roots_are, told.sum_is)
+  each = let told = line_told sine n s at found in (refl, told.roots_are, told.sum_is)
 
-  pub alone : word 2 (record_line n s at found) ≡ ascii "refused" → record_total s at found ≡ record { records = 1; roots = 0; multiplicities = 0 }
-  alone e = let none = refused_says (record_line n s at found) e in same_total each.0 (sym each.1 ∙ none.0) (sym each.2 ∙ none.1)
+  pub alone : word 2 (record_line sine n s at found) ≡ ascii "refused" → record_total sine s at found ≡ record { records = 1; roots = 0; multiplicities = 0 }
+  alone e = let none = refused_says (record_line sine n s at found) e in same_total each.0 (sym each.1 ∙ none.0) (sym each.2 ∙ none.1)
 
 -- a line that says a root has one of the four marks
 pub marked_so : (line : List ℕ) → 0 < line_roots line → let mark = word 1 line in (like_list mark || like_crank mark) ≡ true

@@ -4,6 +4,7 @@ use mathlib.Core.List.{List, ◌∷◌, ◌++◌}
 use Prim.Native.Nat.{ℕ}
 use native.Mathlib.Omega.{arith}
 use lib.ListN.{length}
+use Rattle.angle.specs.declared.Sine.{Sine}
 use Rattle.text.specs.Digits.{decimal}
 use Rattle.records.specs.declared.Kind.TheVariants.{Contact}
 use Rattle.records.specs.Marks.{kind_at}
@@ -17,7 +18,7 @@ use Rattle.listing.specs.File.{listing}
 use Rattle.demands.specs.Example.{ascii}
 use Rattle.demands.proofs.Line.{one_line}
 
-module _ (s : List ℕ) (eighty : length s ≡ 80) where
+module _ (sine : Sine) (s : List ℕ) (eighty : length s ≡ 80) where
   abbrev file : List ℕ
   file = 80 ∷ 67 ∷ s
 
@@ -25,13 +26,14 @@ module _ (s : List ℕ) (eighty : length s ≡ 80) where
   unfolding record_at record_of held_of kind_at
   found = rw eighty
 
-  only_line : line_of 1 file 0 (whole_of Contact 82) ++ total_text (record_total file 0 (whole_of Contact 82))
-      ≡ ascii "1 PC " ++ (polynomial_text (contact_at file 0) ++ ascii "\n") ++ total_text (line_total (roots_in (contact_at file 0)))
+  only_line : line_of sine 1 file 0 (whole_of Contact 82) ++ total_text (record_total sine file 0 (whole_of Contact 82))
+      ≡ ascii "1 PC " ++ (polynomial_text (contact_at sine file 0) ++ ascii "\n") ++ total_text (line_total (roots_in (contact_at sine file 0)))
   unfolding line_of head_of words_of answer_text record_total listed_at decimal ascii
   only_line = refl
 
   pub contact_line : let file = ascii "PC" ++ s in
-      listing file ≡ ascii "1 PC " ++ (polynomial_text (contact_at file 0) ++ ascii "\n") ++ total_text (line_total (roots_in (contact_at file 0)))
+      let a = contact_at sine file 0 in
+      listing sine file ≡ ascii "1 PC " ++ (polynomial_text a ++ ascii "\n") ++ total_text (line_total (roots_in a))
   unfolding ascii
   contact_line =
-      one_line file (whole_of Contact 82) (omega (arith, eighty)) (omega (arith, eighty)) found (omega (arith, eighty)) ∙ only_line
+      one_line sine file (whole_of Contact 82) (omega (arith, eighty)) (omega (arith, eighty)) found (omega (arith, eighty)) ∙ only_line

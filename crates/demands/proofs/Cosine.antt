@@ -17,6 +17,7 @@ use Rattle.nearest.specs.Greatest.{nearest_of}
 use Rattle.nearest.proofs.Search.{found}
 use Rattle.sqrt.specs.Root.{nearest_sqrt}
 use Rattle.angle.specs.Third.{left, right, at_most_solution, cos_units, cos_of, sin_of}
+use Rattle.angle.proofs.Turning.{either}
 use Rattle.demands.specs.Demands.{Nearest, cube_side, line_side, AtMostSolution, AtLeastSolution}
 use Rattle.demands.proofs.Nearest.{nearest_is}
 
@@ -66,11 +67,7 @@ lines_twice true n t = go t (2 ^ 2148)
     go : (t W : ℕ) → 3 * (2 * t) * W + 0 ≡ 2 * (3 * t * W)
     go t W = omega arith
 
-either : (a b : Bool) → T (a || b) → T a ⊎ T b
-either true b t = inl tt
-either false b t = inr t
-
-neither : (a b : Bool) → T (not (a || b)) → T (not a) × T (not b)
+pub neither : (a b : Bool) → T (not (a || b)) → T (not a) × T (not b)
 neither false b t = (tt, t)
 neither true b t = absurd t
 
@@ -139,7 +136,7 @@ half_finite : Finite (fin false 1 (negsuc 0))
 unfolding fits is_finite_of
 half_finite = record { held = refl; finite = refl }
 
-one_finite : Finite (fin false 1 (pos 0))
+pub one_finite : Finite (fin false 1 (pos 0))
 unfolding fits is_finite_of
 one_finite = record { held = refl; finite = refl }
 

@@ -4,6 +4,7 @@ use mathlib.Core.List.{List, [], ◌++◌}
 use Prim.Native.Nat.{ℕ, ◌<◌}
 use lib.ListN.{length}
 use borrow.Author.Tests.{lt-ltb}
+use Rattle.angle.specs.declared.Sine.{Sine}
 use Rattle.refusals.specs.declared.Refusal.TheVariants.{FileTooLong}
 use Rattle.roots.specs.Roots.{kind_of, no_roots}
 use Rattle.text.specs.Digits.{decimal}
@@ -15,19 +16,20 @@ use Rattle.listing.specs.File.{listing}
 use Rattle.demands.specs.Example.{ascii, example_file, example_listing}
 use Rattle.demands.proofs.Unfolded.{arithmetic, leaves, evaluation, factoring, scaling, solving, asking, printing}
 
-pub example : listing example_file ≡ example_listing
+pub example : (sine : Sine) → listing sine example_file ≡ example_listing
 unfolding example_file example_listing arithmetic leaves evaluation factoring scaling solving kind_of asking printing
-example = refl
+example sine = refl
 
-pub empty : listing [] ≡ ascii "T 0 0 0\n"
+pub empty : (sine : Sine) → listing sine [] ≡ ascii "T 0 0 0\n"
 unfolding listing decimal ascii
-empty = refl
+empty sine = refl
 
 -- the line, and its total, depend on nothing in the file
-only_line : (s : List ℕ) → line_of 0 s 0 (ended_of Unknown FileTooLong s) ++ total_text (line_total no_roots) ≡ ascii "0 -- refused 9\nT 1 0 0\n"
+only_line : (sine : Sine) (s : List ℕ)
+    → line_of sine 0 s 0 (ended_of Unknown FileTooLong s) ++ total_text (line_total no_roots) ≡ ascii "0 -- refused 9\nT 1 0 0\n"
 unfolding line_of total_text decimal ascii
-only_line s = refl
+only_line sine s = refl
 
-pub is_too_long : (s : List ℕ) → 65536 < length s → listing s ≡ ascii "0 -- refused 9\nT 1 0 0\n"
+pub is_too_long : (sine : Sine) (s : List ℕ) → 65536 < length s → listing sine s ≡ ascii "0 -- refused 9\nT 1 0 0\n"
 unfolding listing
-is_too_long s h = simp (lt-ltb 65536 (length s) h) (only_line s)
+is_too_long sine s h = simp (lt-ltb 65536 (length s) h) (only_line sine s)

@@ -8,6 +8,7 @@ use lib.Dec.{ltb}
 use lib.ListN.{length, get_or, take, drop, length-append}
 use lib.Seq.{take_all, drop-append_seam}
 use Rattle.facts.specs.Cond.{either_way}
+use Rattle.angle.specs.declared.Sine.{Sine}
 use Rattle.refusals.specs.declared.Refusal.TheVariants.{Cut}
 use Rattle.float.specs.Bytes.{f64_at}
 use Rattle.text.specs.Digits.{decimal}
@@ -45,7 +46,7 @@ module _ (s : List ℕ) (marked : kind_at s 0 ≡ Formula) (two : 2 ≤ length s
   cut_off h = sym read ∙ either_way (λ (r : Record). r ≡ ended_of Formula Cut s) (ltb (length s - 0) 3) refl (simp (lt-ltb (length s - 0) size (omega arith)))
 
 -- ---- a whole record
-module _ (tolerance text : List ℕ) (eight : length tolerance ≡ 8) (short : length text ≤ 255) where
+module _ (sine : Sine) (tolerance text : List ℕ) (eight : length tolerance ≡ 8) (short : length text ≤ 255) where
   abbrev file : List ℕ
   file = 84 ∷ 88 ∷ length text ∷ tolerance ++ text
 
@@ -64,22 +65,22 @@ module _ (tolerance text : List ℕ) (eight : length tolerance ≡ 8) (short : l
   -- the line, and its total, of a text's answer
   shown : List ℕ → List ℕ
   shown t =
-      let a = formula_roots_of t (f64_at file 3) in
+      let a = formula_roots_of sine t (f64_at file 3) in
       ascii "1 TX " ++ (polynomial_text a ++ ascii "\n") ++ total_text (line_total (roots_in a))
 
-  only_line : let r = whole_of Formula (11 + length text) in line_of 1 file 0 r ++ total_text (record_total file 0 r) ≡ shown text
+  only_line : let r = whole_of Formula (11 + length text) in line_of sine 1 file 0 r ++ total_text (record_total sine file 0 r) ≡ shown text
   unfolding shown line_of head_of words_of answer_text formula_at record_total listed_at decimal ascii
   only_line = ap shown text_is
 
   pub formula_line : let file = ascii "TX" ++ (length text ∷ tolerance ++ text) in
-      let a = formula_roots_of text (f64_at file 3) in
-      listing file ≡ ascii "1 TX " ++ (polynomial_text a ++ ascii "\n") ++ total_text (line_total (roots_in a))
+      let a = formula_roots_of sine text (f64_at file 3) in
+      listing sine file ≡ ascii "1 TX " ++ (polynomial_text a ++ ascii "\n") ++ total_text (line_total (roots_in a))
   unfolding shown ascii
   formula_line =
-      one_line file (whole_of Formula (11 + length text)) (omega arith) (omega (arith, long)) found (omega (arith, long)) ∙ only_line
+      one_line sine file (whole_of Formula (11 + length text)) (omega arith) (omega (arith, long)) found (omega (arith, long)) ∙ only_line
 
 -- ---- a cut one
-module _ (s : List ℕ) (byte : get_or s 0 0 ≤ 255) (cut : length s < 9 + get_or s 0 0) where
+module _ (sine : Sine) (s : List ℕ) (byte : get_or s 0 0 ≤ 255) (cut : length s < 9 + get_or s 0 0) where
   abbrev cut_file : List ℕ
   cut_file = 84 ∷ 88 ∷ s
 
@@ -88,10 +89,10 @@ module _ (s : List ℕ) (byte : get_or s 0 0 ≤ 255) (cut : length s < 9 + get_
   cut_found = cut_off cut_file refl (omega arith) (omega arith)
 
   cut_line : let r = ended_of Formula Cut cut_file in
-      line_of 1 cut_file 0 r ++ total_text (record_total cut_file 0 r) ≡ ascii "1 TX refused 7\nT 1 0 0\n"
+      line_of sine 1 cut_file 0 r ++ total_text (record_total sine cut_file 0 r) ≡ ascii "1 TX refused 7\nT 1 0 0\n"
   unfolding line_of head_of words_of total_text record_total decimal ascii
   cut_line = refl
 
-  pub formula_cut : listing (ascii "TX" ++ s) ≡ ascii "1 TX refused 7\nT 1 0 0\n"
+  pub formula_cut : listing sine (ascii "TX" ++ s) ≡ ascii "1 TX refused 7\nT 1 0 0\n"
   unfolding ascii
-  formula_cut = one_line cut_file (ended_of Formula Cut cut_file) (omega arith) (omega arith) cut_found (omega arith) ∙ cut_line
+  formula_cut = one_line sine cut_file (ended_of Formula Cut cut_file) (omega arith) (omega arith) cut_found (omega arith) ∙ cut_line

@@ -11,6 +11,8 @@ pub mod Once
 pub mod Brushes
 pub mod Roots
 pub mod Cosine
+pub mod ExactSine
+pub mod Sharper
 pub mod Digits
 pub mod Unfolded
 pub mod Quadratics
@@ -22,4 +24,5 @@ pub mod Formula
 pub mod Parted
 pub mod Said
 pub mod ByHand
+pub mod Modes
 pub mod Proved

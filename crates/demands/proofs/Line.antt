@@ -4,6 +4,7 @@ use mathlib.Core.List.{List, ◌++◌, append-nil}
 use Prim.Native.Nat.{ℕ, ◌-◌, ◌<◌, ◌≤◌}
 use borrow.Author.Tests.{le-ltb}
 use lib.ListN.{length}
+use Rattle.angle.specs.declared.Sine.{Sine}
 use Rattle.records.specs.declared.Record.{Record}
 use Rattle.records.specs.Records.{record_at}
 use Rattle.listing.specs.declared.total.Total.{Total}
@@ -14,27 +15,28 @@ use Rattle.listing.proofs.Totals.{plus_none}
 use Rattle.listing.proofs.Bound.{lines_end}
 use Rattle.listing.proofs.Reading.{lines_step, total_step, total_end}
 
-module _ (file : List ℕ) (r : Record) (some : 0 < length file) (few : length file ≤ 65536) (found : record_at file 0 ≡ r) (last : length file ≤ r.next) where
-  only_line : record_lines file ≡ line_of 1 file 0 r
+module _ (sine : Sine) (file : List ℕ) (r : Record) (some : 0 < length file) (few : length file ≤ 65536) (found : record_at file 0 ≡ r)
+    (last : length file ≤ r.next) where
+  only_line : record_lines sine file ≡ line_of sine 1 file 0 r
   unfolding record_lines
   only_line =
-      let line = line_of 1 file 0 r in
+      let line = line_of sine 1 file 0 r in
       simp (le-ltb 65536 (length file) few)
-      (lines_step (length file) file 0 1 some some
-      ∙ ap (λ (x : Record). line_of 1 file 0 x ++ lines_from (length file - 1) file x.next 2) found
-      ∙ ap (λ (t : List ℕ). line ++ t) (lines_end (length file - 1) file r.next 2 last)
+      (lines_step sine (length file) file 0 1 some some
+      ∙ ap (λ (x : Record). line_of sine 1 file 0 x ++ lines_from sine (length file - 1) file x.next 2) found
+      ∙ ap (λ (t : List ℕ). line ++ t) (lines_end sine (length file - 1) file r.next 2 last)
       ∙ append-nil line)
 
-  its_total : total_of file ≡ record_total file 0 r
+  its_total : total_of sine file ≡ record_total sine file 0 r
   unfolding total_of
   its_total =
       simp (le-ltb 65536 (length file) few)
-      (total_step (length file) file 0 some some
-      ∙ ap (λ (x : Record). plus (record_total file 0 x) (total_from (length file - 1) file x.next)) found
-      ∙ ap (plus (record_total file 0 r)) (total_end (length file - 1) file r.next last)
-      ∙ plus_none (record_total file 0 r))
+      (total_step sine (length file) file 0 some some
+      ∙ ap (λ (x : Record). plus (record_total sine file 0 x) (total_from sine (length file - 1) file x.next)) found
+      ∙ ap (plus (record_total sine file 0 r)) (total_end sine (length file - 1) file r.next last)
+      ∙ plus_none (record_total sine file 0 r))
 
-  pub one_line : listing file ≡ line_of 1 file 0 r ++ total_text (record_total file 0 r)
+  pub one_line : listing sine file ≡ line_of sine 1 file 0 r ++ total_text (record_total sine file 0 r)
   unfolding listing
   one_line =
-      ap (λ (t : Total). record_lines file ++ total_text t) its_total ∙ ap (λ (t : List ℕ). t ++ total_text (record_total file 0 r)) only_line
+      ap (λ (t : Total). record_lines sine file ++ total_text t) its_total ∙ ap (λ (t : List ℕ). t ++ total_text (record_total sine file 0 r)) only_line

@@ -1,5 +1,5 @@
 -- The proof of specs/Demands, from the laws beside it.
-use mathlib.Core.Path.{refl, sym, ap, ◌∙◌}
+use mathlib.Core.Path.{◌≡◌, refl, sym, ap, ◌∙◌}
 use mathlib.Core.Logic.{⊎_elim}
 use mathlib.Core.List.{List}
 use Prim.Native.Nat.{◌-◌}
@@ -14,7 +14,9 @@ use Rattle.order.specs.Order.{falling_of}
 use Rattle.decode.proofs.Class.{negative_view, regular_units}
 use Rattle.sqrt.specs.Root.{sqrt_of}
 use Rattle.cbrt.proofs.Cases.{root_special}
-use Rattle.angle.specs.Third.{cos_of, sin_of, third_angle_of}
+use Rattle.angle.specs.declared.Sine.{Sine}
+use Rattle.angle.specs.declared.Sine.TheVariants.{OfRounded, OfExact}
+use Rattle.angle.specs.Third.{cos_of, sin_of, exact_sin_of, sine_of, third_angle_of}
 use Rattle.log2.specs.Log.{grid_of, log2_grid_of}
 use Rattle.scaled.specs.Scaled.{scaled_of}
 use Rattle.scaled.proofs.Smallest.{exponent_holds, exponent_least, exponent_of_constant}
@@ -49,11 +51,13 @@ use Rattle.formula_roots.proofs.Theorem.{formulas}
 use Rattle.demands.specs.Table.{table}
 use Rattle.demands.specs.Example.{ascii}
 use Rattle.demands.specs.Demands.{Demands, SquareRoot, CubeRoot, Third, Logarithm, ScaledCoefficients, FactorDegrees}
-use Rattle.demands.specs.Demands.{TotalOrder, Sorts, Lists, SimpleRoots, PinContacts, NeverBrush, TypedFormulas, ClosingTotal}
+use Rattle.demands.specs.Demands.{TotalOrder, Sorts, Lists, SimpleRoots, PinContacts, NeverBrush, TypedFormulas, ClosingTotal, SharperSine}
 use Rattle.demands.proofs.Nearest.{signed, positive_units}
 use Rattle.demands.proofs.Doubles.{units_exact, only_one}
 use Rattle.demands.proofs.Roots.{square_nearest, cube_nearest, rest_nearest, scaled_most, scaled_least, sqrt_is, cbrt_is}
 use Rattle.demands.proofs.Cosine.{cosine, cosine_range, sin_is}
+use Rattle.demands.proofs.ExactSine.{exact_sine}
+use Rattle.demands.proofs.Sharper.{merged, sine_apart, sine_zero, sine_range, one_start, two_starts}
 use Rattle.demands.proofs.Digits.{exponent_between, grid_between, grid_ratio}
 use Rattle.demands.proofs.Scale.{scale}
 use Rattle.demands.proofs.Powers as powers
@@ -68,6 +72,7 @@ use Rattle.demands.proofs.ByHand.{last_line, ends, no_other, marked_so, refused_
 use Rattle.demands.proofs.Example.{example, empty, is_too_long}
 use Rattle.demands.proofs.Contact.{contact_line}
 use Rattle.demands.proofs.Formula.{formula_line, formula_cut}
+use Rattle.demands.proofs.Modes as modes
 use Rattle.demands.proofs.Entries.{given, stated, all_rows, agree}
 
 square_root : SquareRoot
@@ -88,13 +93,19 @@ cube_root = record {
   others = root_special;
 }
 
+no_angle : (sine : Sine) → ((third_angle_of sine nan).cos ≡ nan) × ((third_angle_of sine nan).sin ≡ nan)
+unfolding cos_of sin_of exact_sin_of sine_of third_angle_of
+no_angle OfRounded = (refl, refl)
+no_angle OfExact = (refl, refl)
+
 third : Third
-unfolding cos_of sin_of third_angle_of
+unfolding sine_of third_angle_of
 third = record {
-  cosine = cosine;
-  range = cosine_range;
+  cosine = λ sine. cosine;
+  same = λ v. refl;
+  range = λ sine. cosine_range;
   sine = λ v f l. rw (sin_is (cos_of v) (cosine v f l).finite.finite) (rest_nearest _ (λ a. omega arith) (units_of (cos_of v)) (cosine_range v f l).1);
-  twice = (refl, refl);
+  twice = no_angle;
 }
 
 logarithm : Logarithm
@@ -115,9 +126,9 @@ scaled_coefficients = record {
   leading = λ a d C. f_leading a d C.degree C.finite C.last;
 }
 
-factor_degrees : FactorDegrees
+factor_degrees : (sine : Sine) → FactorDegrees sine
 unfolding factorize_of
-factor_degrees = record { sum = λ sc h depth. degrees_add (3 - depth) sc h }
+factor_degrees sine = record { sum = λ sc h depth. degrees_add sine (3 - depth) sc h }
 
 total_order : TotalOrder
 unfolding total_le_of is_nan is_sign_negative_of lt eq
@@ -142,67 +153,86 @@ sorts = record {
   falling = sorted_keys (λ a b. total_le_of b a) (λ a b. total.either b a) (λ a b c h g. total.onward c b a g h);
 }
 
-lists : Lists
-lists = record {
+lists : (sine : Sine) → Lists sine
+lists sine = record {
   trimmed = trimmed_is;
-  roots = answer_within;
-  array = answer_fits;
-  refused = has_no_root;
-  numbers = number_most;
-  zero = λ coeffs tol. stands_for coeffs tol 0 (lit≤ tt);
-  one = λ coeffs tol. stands_for coeffs tol 1 (lit≤ tt);
-  two = λ coeffs tol. stands_for coeffs tol 2 (lit≤ tt);
-  three = λ coeffs tol. stands_for coeffs tol 3 (lit≤ tt);
+  roots = answer_within sine;
+  array = answer_fits sine;
+  refused = has_no_root sine;
+  numbers = number_most sine;
+  zero = λ coeffs tol. stands_for sine coeffs tol 0 (lit≤ tt);
+  one = λ coeffs tol. stands_for sine coeffs tol 1 (lit≤ tt);
+  two = λ coeffs tol. stands_for sine coeffs tol 2 (lit≤ tt);
+  three = λ coeffs tol. stands_for sine coeffs tol 3 (lit≤ tt);
 }
 
-simple_roots : SimpleRoots
+simple_roots : (sine : Sine) → SimpleRoots sine
 unfolding finished_of finish_of
-simple_roots = record {
-  polynomial = λ coeffs tol e. rw (answered_is coeffs tol e);
-  found = λ coeffs tol e. rw (answered_is coeffs tol e);
+simple_roots sine = record {
+  polynomial = λ coeffs tol e. rw (answered_is sine coeffs tol e);
+  found = λ coeffs tol e. rw (answered_is sine coeffs tol e);
   polished = λ coeffs tol H e n k.
-      let s = solved_in (solve_of coeffs tol) in
-      let small = solved_small coeffs tol H e in
-      simple_polished n s.poly (candidates_of s.poly (zeros_of coeffs) (factorize_of s.poly 0) s.tol).0 k small.0 small.1;
+      let s = solved_in (solve_of sine coeffs tol) in
+      let small = solved_small sine coeffs tol H e in
+      simple_polished n s.poly (candidates_of s.poly (zeros_of coeffs) (factorize_of sine s.poly 0) s.tol).0 k small.0 small.1;
 }
 
-pin_contacts : PinContacts
-pin_contacts = record {
-  every = contacts;
+pin_contacts : (sine : Sine) → PinContacts sine
+pin_contacts sine = record {
+  every = contacts sine;
   through_the_list = λ confusion path circle e.
-      let asks = solved_asks (made_of path circle) confusion in
-      (contacts confusion path circle).list e ∙ ap (λ (t : Asking (List RealRoot)). roots_of (answered (replies_of confusion path circle) t)) (sym asks);
+      let asks = solved_asks sine (made_of path circle) confusion in
+      (contacts sine confusion path circle).list e ∙ ap (λ (t : Asking (List RealRoot)). roots_of (answered (replies_of confusion path circle) t)) (sym asks);
   polished = λ confusion path circle e.
-      let all = contacts confusion path circle in simple_roots.polished (made_of path circle) confusion all.doubles (all.solved e);
-  line = contact_line;
+      let all = contacts sine confusion path circle in (simple_roots sine).polished (made_of path circle) confusion all.doubles (all.solved e);
+  line = contact_line sine;
 }
 
-typed_formulas : TypedFormulas
+typed_formulas : (sine : Sine) → TypedFormulas sine
 unfolding formula_of ascii
-typed_formulas = record {
-  every = formulas;
-  polished = λ s tol e. simple_roots.polished (handed_on (formula_of s)) tol (formula_doubles s) (formula_solved s tol e);
+typed_formulas sine = record {
+  every = formulas sine;
+  polished = λ s tol e. (simple_roots sine).polished (handed_on (formula_of s)) tol (formula_doubles s) (formula_solved sine s tol e);
   kinds = λ s tol.
-      answered_by_list (λ (a : Result Roots Refusal). NeverBrush (list_of (roots_in a))) s tol (λ n h k l. absurd (omega (arith, l)))
-      (λ cs h. kinds.list cs tol);
-  line = formula_line;
-  cut = formula_cut;
+      answered_by_list sine (λ (a : Result Roots Refusal). NeverBrush (list_of (roots_in a))) s tol (λ n h k l. absurd (omega (arith, l)))
+      (λ cs h. (kinds sine).list cs tol);
+  line = formula_line sine;
+  cut = formula_cut sine;
   order = refl;
   rows = refl;
 }
 
-closing_total : ClosingTotal
-closing_total = record {
-  last = last_line;
-  ended = ends;
+closing_total : (sine : Sine) → ClosingTotal sine
+closing_total sine = record {
+  last = last_line sine;
+  ended = ends sine;
   digits = λ n. (digits_of n, digits_read n);
-  only = no_other;
+  only = no_other sine;
   marks = marked_so;
   refused = refused_says;
-  each = each;
-  alone = alone;
-  agrees = agrees;
-  fits = fit;
+  each = each sine;
+  alone = alone sine;
+  agrees = agrees sine;
+  fits = fit sine;
+}
+
+sharper_sine : SharperSine
+unfolding sine_of third_angle_of
+sharper_sine = record {
+  nearest = exact_sine;
+  merged = merged;
+  apart = sine_apart;
+  zero = sine_zero;
+  range = sine_range;
+  one_start = one_start;
+  two_starts = two_starts;
+  list = modes.list;
+  inquiry = modes.inquiry;
+  crank = modes.crank;
+  contact = modes.contact;
+  formula = modes.formula;
+  count = λ a b s. modes.count a b s;
+  line = λ a b s. modes.line a b s;
 }
 
 pub demands : Demands
@@ -220,15 +250,16 @@ demands = record {
   sorts = sorts;
   loops = record { runs = runs; chains = chains };
   lists = lists;
-  inquiries = record { refusal = start_number; fed = start_fed; questions = start_most; roots = start_list };
+  inquiries = λ sine. record { refusal = start_number sine; fed = start_fed sine; questions = start_most sine; roots = start_list sine };
   quadratics = quadratics;
-  crank_equations = record { every = cranks };
+  crank_equations = λ sine. record { every = cranks sine };
   polishing = record { run = polishing };
   simple_roots = simple_roots;
   entries = record { every = λ tol. agree given stated (table tol) (all_rows tol) };
-  hall_file = record { example = example; empty = empty; too_long = is_too_long; room = listing_fits };
+  hall_file = λ sine. record { example = example sine; empty = empty sine; too_long = is_too_long sine; room = listing_fits sine };
   pin_contacts = pin_contacts;
   kinds = kinds;
   typed_formulas = typed_formulas;
   closing_total = closing_total;
+  sharper_sine = sharper_sine;
 }

@@ -9,6 +9,7 @@ use lib.ListN.{length, get_or, drop}
 use Rattle.std.specs.Prelude.{Option, Some, None, Result, Ok, Err}
 use lib.Ieee.{Float, binary64, to_bits}
 use Rattle.facts.specs.Cond.{either_way}
+use Rattle.angle.specs.declared.Sine.{Sine}
 use Rattle.text.specs.Digits.{hex_digits, decimal}
 use Rattle.roots.specs.declared.RootKind.{RootKind}
 use Rattle.roots.specs.declared.RootKind.TheVariants.{Crossing, Brush, Flat}
@@ -188,21 +189,22 @@ says_quadratic (Ok s) = says_none Quadratic (solution_text s) (solution_plain s)
 says_quadratic (Err refusal) = says_refused Quadratic (number_of refusal)
 
 -- ---- a record's line
-says_at : (kind : Kind) (s : List ℕ) (at : ℕ) → Says kind (answer_text kind s at) (listed_at kind s at)
+says_at : (sine : Sine) (kind : Kind) (s : List ℕ) (at : ℕ) → Says kind (answer_text sine kind s at) (listed_at sine kind s at)
 unfolding answer_text listed_at cut_at root_words like_list like_crank same ascii
-says_at Polynomial s at = says_polynomial Polynomial (λ n ws. refl) (polynomial_at s at) (listed_prints s at Polynomial).fits
-says_at Quadratic s at = says_quadratic (quadratic_at s at)
-says_at Crank s at = says_crank (crank_at s at) (listed_prints s at Crank).fits
-says_at Contact s at = says_polynomial Contact (λ n ws. refl) (contact_at s at) (listed_prints s at Contact).fits
-says_at Formula s at = says_polynomial Formula (λ n ws. refl) (formula_at s at) (listed_prints s at Formula).fits
-says_at Unknown s at = says_none Unknown [] tt (λ n. refl)
+says_at sine Polynomial s at = says_polynomial Polynomial (λ n ws. refl) (polynomial_at sine s at) (listed_prints sine s at Polynomial).fits
+says_at sine Quadratic s at = says_quadratic (quadratic_at s at)
+says_at sine Crank s at = says_crank (crank_at sine s at) (listed_prints sine s at Crank).fits
+says_at sine Contact s at = says_polynomial Contact (λ n ws. refl) (contact_at sine s at) (listed_prints sine s at Contact).fits
+says_at sine Formula s at = says_polynomial Formula (λ n ws. refl) (formula_at sine s at) (listed_prints sine s at Formula).fits
+says_at sine Unknown s at = says_none Unknown [] tt (λ n. refl)
 
-says_words : (s : List ℕ) (at : ℕ) (found : Record) → Says found.kind (words_of s at found) (or_none found.refused (listed_at found.kind s at))
+says_words : (sine : Sine) (s : List ℕ) (at : ℕ) (found : Record)
+    → Says found.kind (words_of sine s at found) (or_none found.refused (listed_at sine found.kind s at))
 unfolding words_of
-says_words s at found = go found.refused
+says_words sine s at found = go found.refused
   where
-    go : (o : Option Refusal) → Says found.kind (or_refused o (answer_text found.kind s at)) (or_none o (listed_at found.kind s at))
-    go None = says_at found.kind s at
+    go : (o : Option Refusal) → Says found.kind (or_refused o (answer_text sine found.kind s at)) (or_none o (listed_at sine found.kind s at))
+    go None = says_at sine found.kind s at
     go (Some refusal) = says_refused found.kind (number_of refusal)
 
 mark_above : (kind : Kind) → Above 32 (mark_of kind)
@@ -226,38 +228,38 @@ not_T n =
     let low : b.0 < 58 = (subst Digits b.2 (digits_of n)).0.1 in
     ap (λ (w : List ℕ). same w (84 ∷ [])) b.2 ∙ simp (ne_eqb b.0 84 (λ e. omega (arith, e, low)))
 
-module _ (n : ℕ) (s : List ℕ) (at : ℕ) (found : Record) where
-  line_words : words (record_line n s at found) ≡ decimal n ∷ mark_of found.kind ∷ words (words_of s at found)
+module _ (sine : Sine) (n : ℕ) (s : List ℕ) (at : ℕ) (found : Record) where
+  pub line_words : words (record_line sine n s at found) ≡ decimal n ∷ mark_of found.kind ∷ words (words_of sine s at found)
   unfolding head_of
   line_words =
-      let t = words_of s at found in
+      let t = words_of sine s at found in
       let mark = mark_of found.kind in
       ap words (append_assoc (decimal n) (32 ∷ mark ++ (32 ∷ [])) t ∙ ap (λ (u : List ℕ). decimal n ++ (32 ∷ u)) (append_assoc mark (32 ∷ []) t))
       ∙ part_then 32 (decimal n) (mark ++ (32 ∷ t)) (decimal_word n).above
       ∙ ap (λ (ws : List (List ℕ)). decimal n ∷ ws) (part_then 32 mark t (mark_above found.kind))
 
-  line_plain : Above 10 (record_line n s at found)
+  line_plain : Above 10 (record_line sine n s at found)
   unfolding head_of
   line_plain =
       let mark = mark_of found.kind in
-      above_append 10 (head_of n found.kind) (words_of s at found)
+      above_append 10 (head_of n found.kind) (words_of sine s at found)
       (above_append 10 (decimal n) (32 ∷ mark ++ (32 ∷ [])) (digits_plain n)
       (omega arith, above_append 10 mark (32 ∷ []) (all_under (omega arith) mark (mark_above found.kind)) (omega arith, tt)))
-      (says_words s at found).plain
+      (says_words sine s at found).plain
 
-  pub line_told : let t = record_total s at found in Told (record_line n s at found) t.roots t.multiplicities
+  pub line_told : let t = record_total sine s at found in Told (record_line sine n s at found) t.roots t.multiplicities
   unfolding record_total
   line_told =
-      let says = says_words s at found in record {
+      let says = says_words sine s at found in record {
         roots_are = ap (λ (ws : List (List ℕ)). roots_said (root_words ws)) line_words ∙ says.roots (decimal n);
         sum_is = ap (λ (ws : List (List ℕ)). multiplicities_said (root_words ws)) line_words ∙ says.sum (decimal n);
         not_a_total = ap (λ (ws : List (List ℕ)). same (get_or ws 0 []) (ascii "T")) line_words ∙ not_T n;
       }
 
-  pub line_parted : (t : List ℕ) → lines (line_of n s at found ++ t) ≡ record_line n s at found ∷ lines t
+  pub line_parted : (t : List ℕ) → lines (line_of sine n s at found ++ t) ≡ record_line sine n s at found ∷ lines t
   unfolding line_of
   line_parted t =
       let head = head_of n found.kind in
-      let w = words_of s at found in
+      let w = words_of sine s at found in
       ap lines (append_assoc head (w ++ (10 ∷ [])) t ∙ ap (λ (u : List ℕ). head ++ u) (append_assoc w (10 ∷ []) t) ∙ sym (append_assoc head w (10 ∷ t)))
       ∙ part_then 10 (head ++ w) t line_plain

@@ -4,13 +4,14 @@ use Rattle.std.specs.Prelude.{◌≡◌, ◌⊎◌, Bool, true, false, cond, ◌
 use Rattle.std.specs.Prelude.{length, take, get_or, Float, Result, Ok}
 use mathlib.Core.List.{List, [], ◌∷◌, ◌++◌, map, Memᴰ}
 use Rattle.std.specs.Float.{nan, inf, fin, binary64}
-use Rattle.std.specs.Float.Ieee.{up, down, lt, fits}
+use Rattle.std.specs.Float.Ieee.{up, down, lt, fits, of_bits, neg}
 use Rattle.std.specs.Float.Ieee.Exact.{HasValue}
 use Rattle.std.specs.Float.Ieee.Positive.{positive}
 use Rattle.facts.specs.Sort.{sorted_by}
 use Rattle.facts.specs.Lists.{AllOf}
 use Rattle.float.specs.Literals.{zero64, two64, four64}
 use Rattle.float.specs.Bytes.{f64_at}
+use Rattle.float.specs.Dyadic.{◌*2^◌, ◌/2^◌}
 use Rattle.float.specs.Methods.{is_finite_of, is_sign_negative_of, total_le_of}
 use Rattle.float.specs.Units.{units_of, Finite}
 use Rattle.order.specs.Order.{falling_of}
@@ -18,8 +19,12 @@ use Rattle.decode.specs.Exponent.{exponent_of, regular_of}
 use Rattle.ldexp.specs.Scale.{ldexp_of}
 use Rattle.sqrt.specs.Root.{sqrt_of}
 use Rattle.cbrt.specs.Root.{cbrt_of}
+use Rattle.angle.specs.declared.Sine.{Sine}
+use Rattle.angle.specs.declared.Sine.TheVariants.{OfRounded, OfExact}
 use Rattle.angle.specs.Third.{third_angle_of}
 use Rattle.log2.specs.Log.{log2_grid_of}
+use Rattle.cubic.specs.declared.CubicRoots.TheVariants.{Three}
+use Rattle.cubic.specs.Cubic.{cubic_closed_form_of}
 use Rattle.scaled.specs.declared.Scaled.{Scaled}
 use Rattle.scaled.specs.Scaled.{scaled_of}
 use Rattle.factors.specs.declared.Factors.{Factors}
@@ -53,7 +58,7 @@ use Rattle.inquiry.specs.Start.{real_roots_touching_of, places_touching_of, star
 use Rattle.inquiry.specs.Claims.{Fed}
 use Rattle.trig_quartic.specs.declared.TrigEquation.{TrigEquation}
 use Rattle.crank.specs.declared.CrankShown.{CrankShown}
-use Rattle.crank.specs.Crank.{trig_quartic_of, crank_shown_of, crank_of, crank_roots_in}
+use Rattle.crank.specs.Crank.{trig_quartic_of, crank_start_of, crank_shown_of, crank_of, crank_roots_in}
 use Rattle.crank.specs.Claims.{Cranks}
 use Rattle.contact.specs.declared.Path.{Path}
 use Rattle.contact.specs.declared.Circle.{Circle}
@@ -82,6 +87,7 @@ use Rattle.demands.specs.ByHand.{closing_line}
 -- ---- words
 
 -- `-` is that of whole numbers from 0 on and stops at 0: the degree left of a list of zeros, 0 - 1, is 0.
+-- `sine` is the mode of request Six. The reference build's is `OfRounded`, the lanes' `OfExact`; what takes a mode holds in every one.
 
 -- No double is nearer than r to a number of y units with the sign s, where `under h` says h / 2 ≤ y, and `over h` y ≤ h / 2: the middle of r and a smaller
 -- double is not above y, and the middle of r and a larger one is not below y. Sizes are enough: of two doubles that differ in the sign alone, the one with
@@ -106,6 +112,23 @@ AtMostSolution s n h = (h ≤ 2 ^ 1074) ⊎ (cube_side s n h ≤ line_side s n h
 
 abbrev pub AtLeastSolution : Bool → ℕ → ℕ → Type 0
 AtLeastSolution s n h = (2 ^ 1074 ≤ h) × (line_side s n h ≤ cube_side s n h)
+
+-- The same of any fraction x = g / G, for a v of n units: the two sides of 4x³ ≤ 3x + v times G³ · 2^1074, with |v| on the side where it is added.
+abbrev pub AtMostCosine : Bool → ℕ → ℕ → ℕ → Type 0
+AtMostCosine s n g G = (2 * g ≤ G)
+    ⊎ (4 * (g * g * g) * 2 ^ 1074 + cond s (n * (G * G * G)) 0 ≤ 3 * g * (G * G) * 2 ^ 1074 + cond s 0 (n * (G * G * G)))
+
+abbrev pub AtLeastCosine : Bool → ℕ → ℕ → ℕ → Type 0
+AtLeastCosine s n g G = (G ≤ 2 * g)
+    × (3 * g * (G * G) * 2 ^ 1074 + cond s 0 (n * (G * G * G)) ≤ 4 * (g * g * g) * 2 ^ 1074 + cond s (n * (G * G * G)) 0)
+
+-- y, of h / 2 units, is at most, or at least, √(1 − c²) for that solution c itself: x² + y² is at most 1 for every fraction x up to c, or at least 1 for every
+-- fraction x from c on. Both sides are times 4G² · 2^2148.
+abbrev pub AtMostSine : Bool → ℕ → ℕ → Type 0
+AtMostSine s n h = (g G : ℕ) → 0 < G → AtMostCosine s n g G → 4 * (g * g) * 2 ^ 2148 + h * h * (G * G) ≤ 4 * (G * G) * 2 ^ 2148
+
+abbrev pub AtLeastSine : Bool → ℕ → ℕ → Type 0
+AtLeastSine s n h = (g G : ℕ) → 0 < G → AtLeastCosine s n g G → 4 * (G * G) * 2 ^ 2148 ≤ 4 * (g * g) * 2 ^ 2148 + h * h * (G * G)
 
 -- 2^z ≤ n / d < 2^(z + 1), where 2^z is up z / down z
 pub record Between (z : ℤ) (n d : ℕ) : Type 0 where
@@ -175,15 +198,17 @@ pub record CubeRoot : Type 0 where
   pub others : (x : Float) → regular_of x ≡ false → cbrt_of x ≡ x
 
 -- 'c is the double nearest the greatest real solution of 4c³ − 3c = v, for v in [−1, 1]; s is the double nearest √(1 − c²) for that rounded c; NaN gives NaN
--- twice.' Like that solution, c lies from 1/2 to 1.
+-- twice.' Like that solution, c lies from 1/2 to 1. This s is that of the old mode, `OfRounded`; that of the new one is in `SharperSine`, and c is the same.
 pub record Third : Type 0 where
-  pub cosine : (v : Float) → Finite v → units_of v ≤ 2 ^ 1074
-      → let s = is_sign_negative_of v in let n = units_of v in Nearest false (AtMostSolution s n) (AtLeastSolution s n) (third_angle_of v).cos
-  pub range : (v : Float) → Finite v → units_of v ≤ 2 ^ 1074 → let c = units_of (third_angle_of v).cos in (2 ^ 1073 ≤ c) × (c ≤ 2 ^ 1074)
+  pub cosine : (sine : Sine) (v : Float) → Finite v → units_of v ≤ 2 ^ 1074
+      → let s = is_sign_negative_of v in let n = units_of v in Nearest false (AtMostSolution s n) (AtLeastSolution s n) (third_angle_of sine v).cos
+  pub same : (v : Float) → (third_angle_of OfExact v).cos ≡ (third_angle_of OfRounded v).cos
+  pub range : (sine : Sine) (v : Float) → Finite v → units_of v ≤ 2 ^ 1074
+      → let c = units_of (third_angle_of sine v).cos in (2 ^ 1073 ≤ c) × (c ≤ 2 ^ 1074)
   pub sine : (v : Float) → Finite v → units_of v ≤ 2 ^ 1074
-      → let c = units_of (third_angle_of v).cos in
-      Nearest false (λ h. h * h + 4 * (c * c) ≤ 4 * 2 ^ 2148) (λ h. 4 * 2 ^ 2148 ≤ h * h + 4 * (c * c)) (third_angle_of v).sin
-  pub twice : ((third_angle_of nan).cos ≡ nan) × ((third_angle_of nan).sin ≡ nan)
+      → let c = units_of (third_angle_of OfRounded v).cos in
+      Nearest false (λ h. h * h + 4 * (c * c) ≤ 4 * 2 ^ 2148) (λ h. 4 * 2 ^ 2148 ≤ h * h + 4 * (c * c)) (third_angle_of OfRounded v).sin
+  pub twice : (sine : Sine) → ((third_angle_of sine nan).cos ≡ nan) × ((third_angle_of sine nan).sin ≡ nan)
 
 -- 'L(a), the greatest multiple of 1/256 not above the exact logarithm; minus infinity for 0': z / 256 where 2^z ≤ a^256 < 2^(z + 1).
 pub record Logarithm : Type 0 where
@@ -218,8 +243,8 @@ pub record ScaledCoefficients : Type 0 where
 
 -- 'Degree 3 splits into a line and a quadratic, degree 4 into two quadratics, or line and cubic': the degrees of the factors add up to d, from every depth on,
 -- so that no factor is ever dropped for want of room.
-pub record FactorDegrees : Type 0 where
-  pub sum : (sc : Scaled) → sc.d ≤ 4 → (depth : ℕ) → let f = factorize_of sc depth in f.nlin + 2 * f.nquad ≡ sc.d
+pub record FactorDegrees (sine : Sine) : Type 0 where
+  pub sum : (sc : Scaled) → sc.d ≤ 4 → (depth : ℕ) → let f = factorize_of sine sc depth in f.nlin + 2 * f.nquad ≡ sc.d
 
 -- ---- 'sorts: ties stay in their earlier order'
 
@@ -256,28 +281,28 @@ pub record Loops : Type 0 where
 -- has no root': `Within d` says this of a list of roots, and `Fits` that the array of four has room for them. The numbers: 'is answered', 0, 'or refused under
 -- a number from document 01', each exactly under its condition: '1, some coefficient not finite, wherever it stands; 2, trimmed length 0 or 1; 3, trimmed
 -- length above 5'.
-pub record Lists : Type 0 where
+pub record Lists (sine : Sine) : Type 0 where
   pub trimmed : (coeffs : List Float) → Trimmed coeffs (trimmed_of coeffs)
-  pub roots : (coeffs : List Float) (tol : Float) → Within (trimmed_of coeffs - 1) (list_of (roots_in (real_roots_of coeffs tol)))
-  pub array : (coeffs : List Float) (tol : Float) → Fits (roots_in (real_roots_of coeffs tol))
-  pub refused : (coeffs : List Float) (tol : Float) → 0 < outcome_of (real_roots_of coeffs tol) → roots_in (real_roots_of coeffs tol) ≡ no_roots
-  pub numbers : (coeffs : List Float) (tol : Float) → outcome_of (real_roots_of coeffs tol) ≤ 3
+  pub roots : (coeffs : List Float) (tol : Float) → Within (trimmed_of coeffs - 1) (list_of (roots_in (real_roots_of sine coeffs tol)))
+  pub array : (coeffs : List Float) (tol : Float) → Fits (roots_in (real_roots_of sine coeffs tol))
+  pub refused : (coeffs : List Float) (tol : Float) → 0 < outcome_of (real_roots_of sine coeffs tol) → roots_in (real_roots_of sine coeffs tol) ≡ no_roots
+  pub numbers : (coeffs : List Float) (tol : Float) → outcome_of (real_roots_of sine coeffs tol) ≤ 3
   pub zero : (coeffs : List Float) (tol : Float)
-      → Exactly (outcome_of (real_roots_of coeffs tol) ≡ 0) (AllFinite coeffs × (2 ≤ trimmed_of coeffs) × (trimmed_of coeffs ≤ 5))
-  pub one : (coeffs : List Float) (tol : Float) → Exactly (outcome_of (real_roots_of coeffs tol) ≡ 1) (SomeNotFinite coeffs)
-  pub two : (coeffs : List Float) (tol : Float) → Exactly (outcome_of (real_roots_of coeffs tol) ≡ 2) (AllFinite coeffs × (trimmed_of coeffs ≤ 1))
-  pub three : (coeffs : List Float) (tol : Float) → Exactly (outcome_of (real_roots_of coeffs tol) ≡ 3) (AllFinite coeffs × (5 < trimmed_of coeffs))
+      → Exactly (outcome_of (real_roots_of sine coeffs tol) ≡ 0) (AllFinite coeffs × (2 ≤ trimmed_of coeffs) × (trimmed_of coeffs ≤ 5))
+  pub one : (coeffs : List Float) (tol : Float) → Exactly (outcome_of (real_roots_of sine coeffs tol) ≡ 1) (SomeNotFinite coeffs)
+  pub two : (coeffs : List Float) (tol : Float) → Exactly (outcome_of (real_roots_of sine coeffs tol) ≡ 2) (AllFinite coeffs × (trimmed_of coeffs ≤ 1))
+  pub three : (coeffs : List Float) (tol : Float) → Exactly (outcome_of (real_roots_of sine coeffs tol) ≡ 3) (AllFinite coeffs × (5 < trimmed_of coeffs))
 
 -- ---- 'Contacts that only brush'
 
 -- The refusals are a list's. `Fed`: 'For every yes-or-no function of x, feeding its replies gives the Rust's list and asks at the Rust's places in its order',
 -- and then nothing is asked. 'At most (degree − 1) questions, 0 where the degree is 1, the degree being that left once trailing zeros are dropped.' Demand 1
 -- holds of the finished list.
-pub record Inquiries : Type 0 where
-  pub refusal : (coeffs : List Float) (tol : Float) → outcome_of (start_of coeffs tol) ≡ refusal_of coeffs
-  pub fed : (touches : Float → Bool) (coeffs : List Float) (tol : Float) → Fed touches (inquiry_in (start_of coeffs tol)) coeffs tol
-  pub questions : (touches : Float → Bool) (coeffs : List Float) (tol : Float) → length (places_touching_of touches coeffs tol) ≤ degree_left coeffs - 1
-  pub roots : (touches : Float → Bool) (coeffs : List Float) (tol : Float) → Within (degree_left coeffs) (real_roots_touching_of touches coeffs tol)
+pub record Inquiries (sine : Sine) : Type 0 where
+  pub refusal : (coeffs : List Float) (tol : Float) → outcome_of (start_of sine coeffs tol) ≡ refusal_of coeffs
+  pub fed : (touches : Float → Bool) (coeffs : List Float) (tol : Float) → Fed sine touches (inquiry_in (start_of sine coeffs tol)) coeffs tol
+  pub questions : (touches : Float → Bool) (coeffs : List Float) (tol : Float) → length (places_touching_of sine touches coeffs tol) ≤ degree_left coeffs - 1
+  pub roots : (touches : Float → Bool) (coeffs : List Float) (tol : Float) → Within (degree_left coeffs) (real_roots_touching_of sine touches coeffs tol)
 
 -- ---- 'Quadratics'
 
@@ -305,8 +330,8 @@ pub record Quadratics : Type 0 where
 
 -- `Cranks`: each refusal stands exactly for its condition, k is 0 to 7, and what holds of inquiries about lists holds of those about a crank's quartic, whose
 -- questions name k and u: the Rust's list, its places in its order, at most (degree − 1) questions, demand 1.
-pub record CrankEquations : Type 0 where
-  pub every : (confusion : Float) (trig : TrigEquation) → Cranks confusion trig
+pub record CrankEquations (sine : Sine) : Type 0 where
+  pub every : (confusion : Float) (trig : TrigEquation) → Cranks sine confusion trig
 
 -- ---- demand 3: 'However many polishing steps are allowed, those that move nothing counted, and wherever they start, no run of them by demand 2's definition
 -- can worsen a simple root beyond rounding.'
@@ -321,42 +346,45 @@ pub record Polishing : Type 0 where
 
 -- The places with which the roots come to polishing, in order, each with its multiplicity and its gap. All that begins with `solve_of`, as a list does, has
 -- these.
-abbrev pub places_of : List Float → Float → List Ordered
-places_of coeffs tol = let s = solved_in (solve_of coeffs tol) in ordered_of (candidates_of s.poly (zeros_of coeffs) (factorize_of s.poly 0) s.tol).0
+abbrev pub places_of : Sine → List Float → Float → List Ordered
+places_of sine coeffs tol =
+    let s = solved_in (solve_of sine coeffs tol) in ordered_of (candidates_of s.poly (zeros_of coeffs) (factorize_of sine s.poly 0) s.tol).0
 
 -- 'A simple root comes to polishing with multiplicity 1. First is the place it comes with, last the one where the loop leaves it.' Whatever the number of
 -- turns n, the k-th place is not worsened where it comes with multiplicity 1; that the coefficients are at most 2 in size is no premise.
-abbrev pub NotWorsened : List Float → Float → Type 0
-NotWorsened coeffs tol =
-    let s = solved_in (solve_of coeffs tol) in
-    (n k : ℕ) → let first = get_or (places_of coeffs tol) k nowhere in let last = get_or (polished_of n s.poly (places_of coeffs tol)) k blank in
+abbrev pub NotWorsened : Sine → List Float → Float → Type 0
+NotWorsened sine coeffs tol =
+    let s = solved_in (solve_of sine coeffs tol) in
+    (n k : ℕ) → let first = get_or (places_of sine coeffs tol) k nowhere in let last = get_or (polished_of n s.poly (places_of sine coeffs tol)) k blank in
     first.multiplicity ≡ 1 → at_most four64 first.value ≡ true → at_most four64 last.value ≡ true
     → Polished s.poly.f s.poly.d first.value last.value
 
 -- The same of every answer: what is found are these places, each polished by at most four turns, and then joined. The polynomial is the list's, scaled, 'with
 -- those zeros removed'.
-pub record SimpleRoots : Type 0 where
-  pub polynomial : (coeffs : List Float) (tol : Float) → outcome_of (solve_of coeffs tol) ≡ 0 → (solved_in (solve_of coeffs tol)).poly ≡ poly_of coeffs
-  pub found : (coeffs : List Float) (tol : Float) → outcome_of (solve_of coeffs tol) ≡ 0
-      → let s = solved_in (solve_of coeffs tol) in s.roots ≡ roots_of (joined_of s.poly s.tol (polished_of 4 s.poly (places_of coeffs tol)))
-  pub polished : (coeffs : List Float) (tol : Float) → AllDoubles coeffs → outcome_of (solve_of coeffs tol) ≡ 0 → NotWorsened coeffs tol
+pub record SimpleRoots (sine : Sine) : Type 0 where
+  pub polynomial : (coeffs : List Float) (tol : Float) → outcome_of (solve_of sine coeffs tol) ≡ 0
+      → (solved_in (solve_of sine coeffs tol)).poly ≡ poly_of coeffs
+  pub found : (coeffs : List Float) (tol : Float) → outcome_of (solve_of sine coeffs tol) ≡ 0
+      → let s = solved_in (solve_of sine coeffs tol) in s.roots ≡ roots_of (joined_of s.poly s.tol (polished_of 4 s.poly (places_of sine coeffs tol)))
+  pub polished : (coeffs : List Float) (tol : Float) → AllDoubles coeffs → outcome_of (solve_of sine coeffs tol) ≡ 0 → NotWorsened sine coeffs tol
 
 -- ---- condition 4 on every contract: 'The entries marked P form one small table, shown from the definitions by one fact about all its rows.'
 
--- what the definitions answer to a row's call is the row's answer, for every row that stands in the table, whatever the tolerance of its lists
+-- what the definitions answer to a row's call in the reference build's mode is the row's answer, for every row that stands in the table, whatever the
+-- tolerance of its lists
 pub record Entries : Type 0 where
-  pub every : (tol : Float) (row : Row) → Memᴰ row (table tol) → row_answer_of row.call ≡ row.answer
+  pub every : (tol : Float) (row : Row) → Memᴰ row (table tol) → row_answer_of OfRounded row.call ≡ row.answer
 
 -- ---- 'The hall file'
 
 -- Document 01's file has the listing that stands there, byte for byte, with what requests Two and Five add. '9, over 65,536 bytes, the only line then being
 -- `0 -- refused 9`.' 'An empty file prints only `T 0 0 0`, and an over-long one `T 1 0 0` after its line. This amends document 01 on both, and its listing,
 -- which now ends `T 5 4 4`.' No listing has more bytes than the program lends for it.
-pub record HallFile : Type 0 where
-  pub example : listing example_file ≡ example_listing
-  pub empty : listing [] ≡ ascii "T 0 0 0\n"
-  pub too_long : (s : List ℕ) → 65536 < length s → listing s ≡ ascii "0 -- refused 9\nT 1 0 0\n"
-  pub room : (s : List ℕ) → length (listing s) ≤ 524328
+pub record HallFile (sine : Sine) : Type 0 where
+  pub example : listing sine example_file ≡ example_listing
+  pub empty : listing sine [] ≡ ascii "T 0 0 0\n"
+  pub too_long : (s : List ℕ) → 65536 < length s → listing sine s ≡ ascii "0 -- refused 9\nT 1 0 0\n"
+  pub room : (s : List ℕ) → length (listing sine s) ≤ 524328
 
 -- ---- request One, 'Pin contact from path and circle'
 
@@ -365,16 +393,17 @@ pub record HallFile : Type 0 where
 -- is at most confusion'; at most three questions; demand 1. 'Demand 3, the accuracy rule, covers these roots through the list': what is asked about and listed
 -- are the roots that the list of the same coefficients found, none of them worsened. 'A record PC holds ..', 'The line prints like PL': the listing of a file
 -- of one such record, with its total.
-pub record PinContacts : Type 0 where
-  pub every : (confusion : Float) (path : Path) (circle : Circle) → Contacts confusion path circle
-  pub through_the_list : (confusion : Float) (path : Path) (circle : Circle) → outcome_of (pin_contact_of confusion path circle) ≡ 0
-      → let s = solved_in (solve_of (made_of path circle) confusion) in roots_in (pin_contact_of confusion path circle)
+pub record PinContacts (sine : Sine) : Type 0 where
+  pub every : (confusion : Float) (path : Path) (circle : Circle) → Contacts sine confusion path circle
+  pub through_the_list : (confusion : Float) (path : Path) (circle : Circle) → outcome_of (pin_contact_of sine confusion path circle) ≡ 0
+      → let s = solved_in (solve_of sine (made_of path circle) confusion) in roots_in (pin_contact_of sine confusion path circle)
       ≡ roots_of (answered (replies_of confusion path circle) (touching s.poly s.tol (list_of s.roots) (pair_list_of s.pairs)))
-  pub polished : (confusion : Float) (path : Path) (circle : Circle) → outcome_of (pin_contact_of confusion path circle) ≡ 0
-      → NotWorsened (made_of path circle) confusion
+  pub polished : (confusion : Float) (path : Path) (circle : Circle) → outcome_of (pin_contact_of sine confusion path circle) ≡ 0
+      → NotWorsened sine (made_of path circle) confusion
   pub line : (s : List ℕ) → length s ≡ 80
       → let file = ascii "PC" ++ s in
-      listing file ≡ ascii "1 PC " ++ (polynomial_text (contact_at file 0) ++ ascii "\n") ++ total_text (line_total (roots_in (contact_at file 0)))
+      let a = contact_at sine file 0 in
+      listing sine file ≡ ascii "1 PC " ++ (polynomial_text a ++ ascii "\n") ++ total_text (line_total (roots_in a))
 
 -- ---- request Two, 'Say whether it crossed or brushed'
 
@@ -389,12 +418,12 @@ pub record HasKind (replies : List Bool) (f : Formed) (r : RealRoot) : Type 0 wh
 
 -- These are the roots of a run with these replies, each with its kind. `once`: every question of the run that was replied yes helped to form one chain, once,
 -- and no other question helped to form any; the roots are the chains whose place is finite in x.
-pub record KindsBy (replies : List Bool) (coeffs : List Float) (tol : Float) (roots : List RealRoot) : Type 0 where
-  pub length_is : length roots ≡ length (roots_formed (reply_in replies) (solved_in (solve_of coeffs tol)))
+pub record KindsBy (sine : Sine) (replies : List Bool) (coeffs : List Float) (tol : Float) (roots : List RealRoot) : Type 0 where
+  pub length_is : length roots ≡ length (roots_formed (reply_in replies) (solved_in (solve_of sine coeffs tol)))
   pub kinds : (k : ℕ) → k < length roots
-      → HasKind replies (get_or (roots_formed (reply_in replies) (solved_in (solve_of coeffs tol))) k unformed) (get_or roots k blank)
-  pub asked : (chains_formed (reply_in replies) (solved_in (solve_of coeffs tol))).0 ≤ length replies
-  pub once : (i : ℕ) → let run = chains_formed (reply_in replies) (solved_in (solve_of coeffs tol)) in
+      → HasKind replies (get_or (roots_formed (reply_in replies) (solved_in (solve_of sine coeffs tol))) k unformed) (get_or roots k blank)
+  pub asked : (chains_formed (reply_in replies) (solved_in (solve_of sine coeffs tol))).0 ≤ length replies
+  pub once : (i : ℕ) → let run = chains_formed (reply_in replies) (solved_in (solve_of sine coeffs tol)) in
       times_of i run.1 ≡ cond (ltb i run.0 && reply_in replies i) 1 0
 
 -- 'crossing where its total multiplicity is 1, .. flat otherwise': no reply has helped to form these roots
@@ -411,21 +440,21 @@ crank_shown_in shown = (value_or (record { k = 0; seen = unseen }) shown).seen.a
 -- 'The kind follows the root everywhere': to the list, which never has a brush; to an inquiry's finished list, fed by a function or with whatever replies, and
 -- to a crank's; to the record TG, whose questions are all replied no and which never has a brush either; and to a contact. 'The lines for PL, TG and PC print
 -- it as c, b or f after the multiplicity and a blank.'
-pub record Kinds : Type 0 where
-  pub list : (coeffs : List Float) (tol : Float) → NeverBrush (list_of (roots_in (real_roots_of coeffs tol)))
+pub record Kinds (sine : Sine) : Type 0 where
+  pub list : (coeffs : List Float) (tol : Float) → NeverBrush (list_of (roots_in (real_roots_of sine coeffs tol)))
   pub fed : (touches : Float → Bool) (coeffs : List Float) (tol : Float)
-      → KindsBy (map touches (places_touching_of touches coeffs tol)) coeffs tol (real_roots_touching_of touches coeffs tol)
+      → KindsBy sine (map touches (places_touching_of sine touches coeffs tol)) coeffs tol (real_roots_touching_of sine touches coeffs tol)
   pub inquiry : (replies : Replies) (coeffs : List Float) (tol : Float) → RepliesFit replies
-      → let shown = shown_in (shown_after_of coeffs tol replies) in is_question shown ≡ false
-      → KindsBy (given.replies_of replies) coeffs tol (list_of (list_in shown))
+      → let shown = shown_in (shown_after_of sine coeffs tol replies) in is_question shown ≡ false
+      → KindsBy sine (given.replies_of replies) coeffs tol (list_of (list_in shown))
   pub crank_inquiry : (replies : Replies) (confusion : Float) (trig : TrigEquation) → RepliesFit replies
-      → let shown = crank_shown_in (crank_shown_of confusion trig replies) in is_question shown ≡ false
-      → KindsBy (given.replies_of replies) (trig_quartic_of trig) confusion (list_of (list_in shown))
-  pub crank : (confusion : Float) (trig : TrigEquation) → NeverBrush (list_of (crank_roots_in (crank_of confusion trig)))
-  pub contact : (confusion : Float) (path : Path) (circle : Circle) → outcome_of (pin_contact_of confusion path circle) ≡ 0
+      → let shown = crank_shown_in (crank_shown_of sine confusion trig replies) in is_question shown ≡ false
+      → KindsBy sine (given.replies_of replies) (trig_quartic_of trig) confusion (list_of (list_in shown))
+  pub crank : (confusion : Float) (trig : TrigEquation) → NeverBrush (list_of (crank_roots_in (crank_of sine confusion trig)))
+  pub contact : (confusion : Float) (path : Path) (circle : Circle) → outcome_of (pin_contact_of sine confusion path circle) ≡ 0
       → let touches = replies_of confusion path circle in
-      KindsBy (map touches (places_touching_of touches (made_of path circle) confusion)) (made_of path circle) confusion
-      (list_of (roots_in (pin_contact_of confusion path circle)))
+      KindsBy sine (map touches (places_touching_of sine touches (made_of path circle) confusion)) (made_of path circle) confusion
+      (list_of (roots_in (pin_contact_of sine confusion path circle)))
   pub line : (r : RealRoot) → root_text r ≡ (place_text r.value ++ (32 ∷ decimal r.multiplicity)) ++ (32 ∷ letter_of r.kind ∷ [])
   pub letters : letter_of Crossing ∷ letter_of Brush ∷ letter_of Flat ∷ [] ≡ ascii "cbf"
 
@@ -438,27 +467,27 @@ pub record Kinds : Type 0 where
 -- covers these roots through the list, and so do the kinds of request Two: none is a brush, since nothing is asked. 'A record TX holds a length byte 0 to 255,
 -- a tolerance and that much ASCII', 'whose answer or refusal prints like PL': the listing of a file of one such record, with its total, and of one whose length
 -- byte or later bytes are missing, '7, fewer bytes than the record needs'. `rows` and `order`: what some texts come to, and the parts of one.
-pub record TypedFormulas : Type 0 where
-  pub every : (s : List ℕ) (tol : Float) → Formulas s tol
-  pub polished : (s : List ℕ) (tol : Float) → outcome_of (formula_roots_of s tol) ≡ 0 → NotWorsened (handed_on (formula_of s)) tol
-  pub kinds : (s : List ℕ) (tol : Float) → NeverBrush (list_of (roots_in (formula_roots_of s tol)))
+pub record TypedFormulas (sine : Sine) : Type 0 where
+  pub every : (s : List ℕ) (tol : Float) → Formulas sine s tol
+  pub polished : (s : List ℕ) (tol : Float) → outcome_of (formula_roots_of sine s tol) ≡ 0 → NotWorsened sine (handed_on (formula_of s)) tol
+  pub kinds : (s : List ℕ) (tol : Float) → NeverBrush (list_of (roots_in (formula_roots_of sine s tol)))
   pub line : (tolerance text : List ℕ) → length tolerance ≡ 8 → length text ≤ 255
       → let file = ascii "TX" ++ (length text ∷ tolerance ++ text) in
-      let a = formula_roots_of text (f64_at file 3) in
-      listing file ≡ ascii "1 TX " ++ (polynomial_text a ++ ascii "\n") ++ total_text (line_total (roots_in a))
-  pub cut : (s : List ℕ) → get_or s 0 0 ≤ 255 → length s < 9 + get_or s 0 0 → listing (ascii "TX" ++ s) ≡ ascii "1 TX refused 7\nT 1 0 0\n"
+      let a = formula_roots_of sine text (f64_at file 3) in
+      listing sine file ≡ ascii "1 TX " ++ (polynomial_text a ++ ascii "\n") ++ total_text (line_total (roots_in a))
+  pub cut : (s : List ℕ) → get_or s 0 0 ≤ 255 → length s < 9 + get_or s 0 0 → listing sine (ascii "TX" ++ s) ≡ ascii "1 TX refused 7\nT 1 0 0\n"
   pub order : if_some (reading_of (ascii "2-(t+1)^2")) [] sum_parts ≡ parts_in_order
   pub rows : map (λ (r : TextRow). formula_of (ascii r.text)) texts ≡ map (λ (r : TextRow). r.value) texts
 
 -- ---- request Five, 'A closing total'
 
 -- A listing read as a person reads it, by lines, words and decimal numbers (ByHand.antt): all its lines but the last.
-abbrev pub lines_before : List ℕ → List (List ℕ)
-lines_before s = before_last (lines (listing s))
+abbrev pub lines_before : Sine → List ℕ → List (List ℕ)
+lines_before sine s = before_last (lines (listing sine s))
 
 -- a record's line, without its end
-abbrev pub record_line : ℕ → List ℕ → ℕ → Record → List ℕ
-record_line n s at found = head_of n found.kind ++ words_of s at found
+abbrev pub record_line : Sine → ℕ → List ℕ → ℕ → Record → List ℕ
+record_line sine n s at found = head_of n found.kind ++ words_of sine s at found
 
 -- 'After the last record `hallroots` prints `T`, the number of record lines, the number of roots listed and the sum of their multiplicities. Every record
 -- line counts, QD and `--` lines too, but roots come only from PL, TG, PC and TX lines. The three numbers are proved equal to what the printed records hold,
@@ -466,22 +495,59 @@ record_line n s at found = head_of n found.kind ++ words_of s at found
 -- before it, in decimal `digits`; `only`, no other line is a `T` line; `marks`, a line that says a root has one of the four; `refused`, a refused line says
 -- none. `each`, a record's line says the roots that its answer lists; `alone`, where it is refused, by its bytes or by the operation, it adds only the line;
 -- `agrees`, the records' answers come to the same; `fits`, no number is above 65,536. An empty file, one that is too long, and the room: `HallFile`.
-pub record ClosingTotal : Type 0 where
-  pub last : (s : List ℕ) → let before = lines_before s in
-      lines (listing s) ≡ before ++ (closing_line (length before) (roots_on before) (multiplicities_on before) ∷ [])
-  pub ended : (s : List ℕ) → get_or (listing s) (length (listing s) - 1) 0 ≡ 10
+pub record ClosingTotal (sine : Sine) : Type 0 where
+  pub last : (s : List ℕ) → let before = lines_before sine s in
+      lines (listing sine s) ≡ before ++ (closing_line (length before) (roots_on before) (multiplicities_on before) ∷ [])
+  pub ended : (s : List ℕ) → get_or (listing sine s) (length (listing sine s) - 1) 0 ≡ 10
   pub digits : (n : ℕ) → AllOf (λ (d : ℕ). (47 < d) × (d < 58)) (decimal n) × (number (decimal n) ≡ n)
-  pub only : (s : List ℕ) (k : ℕ) → k < length (lines_before s) → same (word 0 (get_or (lines_before s) k [])) (ascii "T") ≡ false
+  pub only : (s : List ℕ) (k : ℕ) → k < length (lines_before sine s) → same (word 0 (get_or (lines_before sine s) k [])) (ascii "T") ≡ false
   pub marks : (line : List ℕ) → 0 < line_roots line → let mark = word 1 line in (like_list mark || like_crank mark) ≡ true
   pub refused : (line : List ℕ) → word 2 line ≡ ascii "refused" → (line_roots line ≡ 0) × (line_multiplicities line ≡ 0)
-  pub each : (n : ℕ) (s : List ℕ) (at : ℕ) (found : Record) → let line = record_line n s at found in let t = record_total s at found in
+  pub each : (n : ℕ) (s : List ℕ) (at : ℕ) (found : Record) → let line = record_line sine n s at found in let t = record_total sine s at found in
       (t.records ≡ 1) × (line_roots line ≡ t.roots) × (line_multiplicities line ≡ t.multiplicities)
-  pub alone : (n : ℕ) (s : List ℕ) (at : ℕ) (found : Record) → word 2 (record_line n s at found) ≡ ascii "refused"
-      → record_total s at found ≡ record { records = 1; roots = 0; multiplicities = 0 }
-  pub agrees : (s : List ℕ) → let before = lines_before s in
-      total_of s ≡ record { records = length before; roots = roots_on before; multiplicities = multiplicities_on before }
-  pub fits : (s : List ℕ) → let before = lines_before s in
+  pub alone : (n : ℕ) (s : List ℕ) (at : ℕ) (found : Record) → word 2 (record_line sine n s at found) ≡ ascii "refused"
+      → record_total sine s at found ≡ record { records = 1; roots = 0; multiplicities = 0 }
+  pub agrees : (s : List ℕ) → let before = lines_before sine s in
+      total_of sine s ≡ record { records = length before; roots = roots_on before; multiplicities = multiplicities_on before }
+  pub fits : (s : List ℕ) → let before = lines_before sine s in
       (length before ≤ 65536) × (roots_on before ≤ 65536) × (multiplicities_on before ≤ 65536)
+
+-- ---- request Six, 'A sharper sine in the third-angle pair'
+
+-- the double k steps of 2^-53 below 1, for a small k
+abbrev pub below_one : ℕ → Float
+below_one k = of_bits binary64 (0x3FF0_0000_0000_0000 - k)
+
+-- `nearest`: 'A new mode beside the old defines s as the double nearest √(1 − c²) for the exact c, before c is rounded.' No double is nearer, c being the
+-- solution of the cubic itself. 'A path with two nearly equal contacts starts its refinement from one place instead of two, since c rounds to 1 and s to 0':
+-- `merged`, so it is for the four doubles next below 1, in the old mode. In the new one, `apart`, s is at least 2^-26/3, rounded, for every v from −1 to below
+-- 1; `zero`, it is 0 for v = 1 alone. `range`: it lies from 0 to √3/2, rounded, which is 0.8660254037844386. `one_start` and `two_starts`: of a cubic for which
+-- v is the double next below 1, y³ − 3y − (2 − 2^-52), two roots are near −1, about 1.7·10^-8 apart; the closed form's places for them are one double, −1, in
+-- the old mode, and in the new one −0.9999999913968106 and −1.0000000086031895. 'Errors: no additions': what is refused is refused under the same number in
+-- both modes. `count` and `line`: two listings of a file have as many lines, and a line that says a refusal is the same in both. 'The accuracy rule covers both
+-- modes, being shown over whichever start is used': `SimpleRoots`, which `Demands` has of every mode.
+pub record SharperSine : Type 0 where
+  pub nearest : (v : Float) → Finite v → units_of v ≤ 2 ^ 1074
+      → let s = is_sign_negative_of v in let n = units_of v in Nearest false (AtMostSine s n) (AtLeastSine s n) (third_angle_of OfExact v).sin
+  pub merged : (k : ℕ) → 0 < k → k ≤ 4 → third_angle_of OfRounded (below_one k) ≡ record { cos = 1 /2^ 0; sin = 0 /2^ 0 }
+  pub apart : (v : Float) → Finite v → units_of v ≤ 2 ^ 1074 → (v ≡ 1 /2^ 0 → ⊥) → 6004799503160661 * 2 ^ 994 ≤ units_of (third_angle_of OfExact v).sin
+  pub zero : (v : Float) → Finite v → units_of v ≤ 2 ^ 1074 → Exactly ((third_angle_of OfExact v).sin ≡ 0 /2^ 0) (v ≡ 1 /2^ 0)
+  pub range : (v : Float) → Finite v → units_of v ≤ 2 ^ 1074
+      → let s = (third_angle_of OfExact v).sin in Finite s × (is_sign_negative_of s ≡ false) × (units_of s ≤ 7800463371553962 * 2 ^ 1021)
+  pub one_start : cubic_closed_form_of OfRounded (0 /2^ 0) (neg (3 /2^ 0)) (neg (9007199254740991 /2^ 52))
+      ≡ Three (1 *2^ 1 ∷ neg (1 /2^ 0) ∷ neg (1 /2^ 0) ∷ [])
+  pub two_starts : cubic_closed_form_of OfExact (0 /2^ 0) (neg (3 /2^ 0)) (neg (9007199254740991 /2^ 52))
+      ≡ Three (1 *2^ 1 ∷ neg (9007199177250351 /2^ 53) ∷ neg (4503599666115817 /2^ 52) ∷ [])
+  pub list : (a b : Sine) (coeffs : List Float) (tol : Float) → outcome_of (real_roots_of a coeffs tol) ≡ outcome_of (real_roots_of b coeffs tol)
+  pub inquiry : (a b : Sine) (coeffs : List Float) (tol : Float) → outcome_of (start_of a coeffs tol) ≡ outcome_of (start_of b coeffs tol)
+  pub crank : (a b : Sine) (confusion : Float) (trig : TrigEquation)
+      → outcome_of (crank_start_of a confusion trig) ≡ outcome_of (crank_start_of b confusion trig)
+  pub contact : (a b : Sine) (confusion : Float) (path : Path) (circle : Circle)
+      → outcome_of (pin_contact_of a confusion path circle) ≡ outcome_of (pin_contact_of b confusion path circle)
+  pub formula : (a b : Sine) (s : List ℕ) (tol : Float) → outcome_of (formula_roots_of a s tol) ≡ outcome_of (formula_roots_of b s tol)
+  pub count : (a b : Sine) (s : List ℕ) → length (lines_before a s) ≡ length (lines_before b s)
+  pub line : (a b : Sine) (s : List ℕ) (k : ℕ) → word 2 (get_or (lines_before a s) k []) ≡ ascii "refused"
+      → get_or (lines_before a s) k [] ≡ get_or (lines_before b s) k []
 
 -- ---- all of them
 pub record Demands : Type 0 where
@@ -493,19 +559,20 @@ pub record Demands : Type 0 where
   pub exponent : Exponent
   pub scale : Scale
   pub scaled_coefficients : ScaledCoefficients
-  pub factor_degrees : FactorDegrees
+  pub factor_degrees : (sine : Sine) → FactorDegrees sine
   pub total_order : TotalOrder
   pub sorts : Sorts
   pub loops : Loops
-  pub lists : Lists
-  pub inquiries : Inquiries
+  pub lists : (sine : Sine) → Lists sine
+  pub inquiries : (sine : Sine) → Inquiries sine
   pub quadratics : Quadratics
-  pub crank_equations : CrankEquations
+  pub crank_equations : (sine : Sine) → CrankEquations sine
   pub polishing : Polishing
-  pub simple_roots : SimpleRoots
+  pub simple_roots : (sine : Sine) → SimpleRoots sine
   pub entries : Entries
-  pub hall_file : HallFile
-  pub pin_contacts : PinContacts
-  pub kinds : Kinds
-  pub typed_formulas : TypedFormulas
-  pub closing_total : ClosingTotal
+  pub hall_file : (sine : Sine) → HallFile sine
+  pub pin_contacts : (sine : Sine) → PinContacts sine
+  pub kinds : (sine : Sine) → Kinds sine
+  pub typed_formulas : (sine : Sine) → TypedFormulas sine
+  pub closing_total : (sine : Sine) → ClosingTotal sine
+  pub sharper_sine : SharperSine

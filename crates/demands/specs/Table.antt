@@ -8,6 +8,7 @@ use Rattle.float.specs.Literals.{one64, two64, three64}
 use Rattle.float.specs.Dyadic.{◌/2^◌}
 use Rattle.sqrt.specs.Root.{sqrt_of}
 use Rattle.cbrt.specs.Root.{cbrt_of}
+use Rattle.angle.specs.declared.Sine.{Sine}
 use Rattle.angle.specs.Third.{third_angle_of}
 use Rattle.log2.specs.Log.{log2_grid_of}
 use Rattle.scaled.specs.Scaled.{scaled_of}
@@ -38,14 +39,14 @@ list_answer (Ok l) = roots (list_of l)
 list_answer (Err refusal) = refused (number_of refusal)
 
 -- what the definitions give
-unfoldable pub row_answer_of : Call → RowAnswer
+unfoldable pub row_answer_of : Sine → Call → RowAnswer
 unfolding sqrt_of cbrt_of third_angle_of log2_grid_of scaled_of real_roots_of
-row_answer_of (square_root x) = number (sqrt_of x)
-row_answer_of (cube_root x) = number (cbrt_of x)
-row_answer_of (third_angle v) = pair (third_angle_of v).cos (third_angle_of v).sin
-row_answer_of (logarithm x) = number (log2_grid_of x)
-row_answer_of (exponent a) = power (scaled_of a (length a - 1)).e
-row_answer_of (list coeffs tol) = list_answer (real_roots_of coeffs tol)
+row_answer_of sine (square_root x) = number (sqrt_of x)
+row_answer_of sine (cube_root x) = number (cbrt_of x)
+row_answer_of sine (third_angle v) = let t = third_angle_of sine v in pair t.cos t.sin
+row_answer_of sine (logarithm x) = number (log2_grid_of x)
+row_answer_of sine (exponent a) = power (scaled_of a (length a - 1)).e
+row_answer_of sine (list coeffs tol) = list_answer (real_roots_of sine coeffs tol)
 
 -- a call and its answer
 pub record Row : Type 0 where

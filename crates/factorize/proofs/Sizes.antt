@@ -9,6 +9,7 @@ use lib.Ieee.{Float}
 use mir.Syntax.{w32}
 use mir.Val.{to_z, of_z}
 use mir.Facts.{to_z-of_z}
+use Rattle.angle.specs.declared.Sine.{Sine}
 use Rattle.scaled.specs.declared.Scaled.{Scaled}
 use Rattle.scaled.specs.Scaled.{scaled_of}
 use Rattle.scaled.proofs.Best.{exponent_bounded}
@@ -28,8 +29,8 @@ pub handed_on : (f : Factors) → (rooted_of f).f ≡ f
 unfolding rooted_of
 handed_on f = refl
 
-pub out_fits : (g : List Float) (d : ℕ) → d ≤ 4 → degree_of (out_of g d) ≤ 4
-out_fits g d D = omega (arith, out_degree g d D)
+pub out_fits : (sine : Sine) (g : List Float) (d : ℕ) → d ≤ 4 → degree_of (out_of sine g d) ≤ 4
+out_fits sine g d D = omega (arith, out_degree sine g d D)
 
 pub gap_inside : (lg : List Float) (d : ℕ) (part : Gap) → magnitude_split_of lg d ≡ Some part → d ≤ 4 → part.small < d
 gap_inside lg d part e D = (subst (Inside d) e (split_inside lg d D)).1
@@ -57,15 +58,15 @@ module _ (s : List Float) (small : ℕ) where
   pub sub_exponent : nat_abs (to_z w32 (of_z w32 (scaled_of s small).e)) ≤ 2 ^ 13
   sub_exponent = subst (λ (z : ℤ). nat_abs z ≤ 2 ^ 13) (sym exponent_read) exponent_small
 
-module _ (sub : Scaled) (depth : ℕ) (D : sub.d ≤ 4) where
-  inner_degree : degree_of (factorize_of sub depth) ≡ sub.d
+module _ (sine : Sine) (sub : Scaled) (depth : ℕ) (D : sub.d ≤ 4) where
+  inner_degree : degree_of (factorize_of sine sub depth) ≡ sub.d
   unfolding factorize_of
-  inner_degree = degrees_add (3 - depth) sub D
+  inner_degree = degrees_add sine (3 - depth) sub D
 
-  pub inner_lins : (factorize_of sub depth).nlin ≤ 4
+  pub inner_lins : (factorize_of sine sub depth).nlin ≤ 4
   inner_lins = omega (arith, inner_degree)
 
-  pub inner_quads : (factorize_of sub depth).nquad ≤ 2
+  pub inner_quads : (factorize_of sine sub depth).nquad ≤ 2
   inner_quads = omega (arith, inner_degree)
 
 -- What the function's proof rests on.

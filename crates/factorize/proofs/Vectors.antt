@@ -10,6 +10,7 @@ use Rattle.float.specs.Floor.{floor_of}
 use Rattle.ldexp.specs.Scale.{chain, times_power_of, ldexp_of}
 use Rattle.nearest.specs.Greatest.{greatest}
 use Rattle.decode.specs.Exponent.{exponent_of}
+use Rattle.angle.specs.declared.Sine.TheVariants.{OfRounded}
 use Rattle.isolated.proofs.Vectors.{computes as factors-compute}
 use Rattle.scaled.specs.declared.Scaled.{Scaled}
 use Rattle.scaled.specs.Exponent.{held_at, held_below, too_small, scale_exponent_of}
@@ -47,7 +48,7 @@ cubic = record {
 }
 
 -- the gap parts the last root from the others, and a second scaling gives it alone
-cubic_split : factorize_of cubic 0 ≡ record {
+cubic_split : factorize_of OfRounded cubic 0 ≡ record {
   lin = bits 0x3fe0_0000_0000_0000 ∷ bits 0x3fd0_0000_0000_0000 ∷ bits 0x3f20_0000_0000_0000
       ∷ none ∷ [];
   nlin = 3;
@@ -58,7 +59,7 @@ unfolding computes
 cubic_split = refl
 
 -- not at depth 3
-cubic_whole : factorize_of cubic 3 ≡ record {
+cubic_whole : factorize_of OfRounded cubic 3 ≡ record {
   lin = bits 0x3fe0_0000_0000_0000 ∷ none ∷ none ∷ none ∷ [];
   nlin = 1;
   quad = quad_of (bits 0xbfd0_0200_0000_0000) (bits 0x3f00_0000_0000_0000) ∷ quad_of none none ∷ [];
@@ -79,7 +80,7 @@ quartic = record {
 }
 
 -- a quadratic is split at the gap, a pair stays
-quartic_split : factorize_of quartic 0 ≡ record {
+quartic_split : factorize_of OfRounded quartic 0 ≡ record {
   lin = bits 0x3fbd_e06e_44bf_2997 ∷ bits 0x3f20_0000_0000_0000 ∷ none ∷ none ∷ [];
   nlin = 2;
   quad = quad_of (bits 0xbfd8_87e4_6ed0_359a) (bits 0x3fd1_2319_a696_e214) ∷ quad_of none none ∷ [];

@@ -7,6 +7,7 @@ use native.Mathlib.Omega.{arith}
 use borrow.Author.Tests.{le-leb, lt-leb, eq-eqb, ne_eqb}
 use Rattle.std.specs.Prelude.{Option, Some, None}
 use lib.Ieee.{Float}
+use Rattle.angle.specs.declared.Sine.{Sine}
 use Rattle.quartic.specs.declared.QuarticFactor.{QuarticFactor}
 use Rattle.cubic.specs.Cubic.{cubic_factor_of}
 use Rattle.quartic.specs.Quartic.{quartic_factor_of}
@@ -23,41 +24,42 @@ use Rattle.factorize.proofs.Discs.{is_far, in_two}
 use Rattle.factorize.specs.Factorize.{paired_of, quartic_factors_of, out_of, second_of, factors_from, factorize_of}
 
 -- ---- a quartic
-module _ (b c d e : Float) (quads : QuarticFactor) (far : Option Float) (Q : quads ≡ quartic_factor_of b c d e) (I : far ≡ isolated_root_of quads) where
-  pub peeled : (r : Float) → far ≡ Some r → quartic_factors_of b c d e
-      ≡ (let p = peel_root_of b c d e r in let k = cubic_factor_of p.h2 p.h1 p.h0 in push_quad_of (push_lin_of (push_lin_of no_factors p.r) k.r) k.e k.f)
+module _ (sine : Sine) (b c d e : Float) (quads : QuarticFactor) (far : Option Float) (Q : quads ≡ quartic_factor_of sine b c d e)
+    (I : far ≡ isolated_root_of quads) where
+  pub peeled : (r : Float) → far ≡ Some r → quartic_factors_of sine b c d e
+      ≡ (let p = peel_root_of b c d e r in let k = cubic_factor_of sine p.h2 p.h1 p.h0 in push_quad_of (push_lin_of (push_lin_of no_factors p.r) k.r) k.e k.f)
   unfolding quartic_factors_of paired_of
   peeled r A = rw (sym Q, sym I ∙ A)
 
   pub in_pairs : (n m f : Factors) → far ≡ None → n ≡ no_factors → m ≡ push_quad_of n quads.al quads.be → f ≡ push_quad_of m quads.ga quads.de
-      → f ≡ quartic_factors_of b c d e
+      → f ≡ quartic_factors_of sine b c d e
   unfolding quartic_factors_of paired_of
   in_pairs n m f A N M F = rw (sym Q, sym I ∙ A) (rw (F, M, N))
 
 -- ---- one level of factorize
-module _ (sc : Scaled) (depth : ℕ) where
+module _ (sine : Sine) (sc : Scaled) (depth : ℕ) where
   abbrev out : Factors
-  out = out_of sc.g sc.d
+  out = out_of sine sc.g sc.d
 
-  pub at_depth_three : 3 ≤ depth → factorize_of sc depth ≡ out
+  pub at_depth_three : 3 ≤ depth → factorize_of sine sc depth ≡ out
   unfolding factorize_of factors_from
-  at_depth_three h = let e : 3 - depth ≡ 0 = omega arith in ap (λ (k : ℕ). factors_from k sc) e
+  at_depth_three h = let e : 3 - depth ≡ 0 = omega arith in ap (λ (k : ℕ). factors_from sine k sc) e
 
   module _ (h : depth < 3) where
-    left_is : factorize_of sc depth ≡ factors_from (suc (3 - (depth + 1))) sc
+    left_is : factorize_of sine sc depth ≡ factors_from sine (suc (3 - (depth + 1))) sc
     unfolding factorize_of
-    left_is = let e : 3 - depth ≡ suc (3 - (depth + 1)) = omega arith in ap (λ (k : ℕ). factors_from k sc) e
+    left_is = let e : 3 - depth ≡ suc (3 - (depth + 1)) = omega arith in ap (λ (k : ℕ). factors_from sine k sc) e
 
-    pub at_degree_two : sc.d ≤ 2 → factorize_of sc depth ≡ out
+    pub at_degree_two : sc.d ≤ 2 → factorize_of sine sc depth ≡ out
     unfolding factors_from
     at_degree_two l = rw (left_is, le-leb sc.d 2 l)
 
     module _ (l : 2 < sc.d) where
-      unsplit : (second_of sc out).found ≡ false → factorize_of sc depth ≡ out
+      unsplit : (second_of sc out).found ≡ false → factorize_of sine sc depth ≡ out
       unfolding factors_from
       unsplit f = rw (left_is, lt-leb sc.d 2 l, f)
 
-      pub without_gap : magnitude_split_of sc.lg sc.d ≡ None → factorize_of sc depth ≡ out
+      pub without_gap : magnitude_split_of sc.lg sc.d ≡ None → factorize_of sine sc depth ≡ out
       unfolding second_of
       without_gap f = unsplit (rw f)
 
@@ -68,17 +70,17 @@ module _ (sc : Scaled) (depth : ℕ) where
         abbrev small : List Float
         small = quotient_of sc.g (product_of large) part.small
 
-        pub other_degree : (degree_of large ≡ sc.d - part.small → ⊥) → factorize_of sc depth ≡ out
+        pub other_degree : (degree_of large ≡ sc.d - part.small → ⊥) → factorize_of sine sc depth ≡ out
         unfolding second_of
         other_degree q = unsplit (rw (f, ne_eqb (degree_of large) (sc.d - part.small) q))
 
         module _ (q : degree_of large ≡ sc.d - part.small) where
-          pub unusable : usable_of small part.small ≡ false → factorize_of sc depth ≡ out
+          pub unusable : usable_of small part.small ≡ false → factorize_of sine sc depth ≡ out
           unfolding second_of
           unusable k = unsplit (rw (f, eq-eqb (degree_of large) (sc.d - part.small) q, k))
 
           pub split_up : usable_of small part.small ≡ true
-              → factorize_of sc depth ≡ merged_of large (factorize_of (scaled_of small part.small) (depth + 1)) (scaled_of small part.small).e
+              → factorize_of sine sc depth ≡ merged_of large (factorize_of sine (scaled_of small part.small) (depth + 1)) (scaled_of small part.small).e
           unfolding second_of factors_from factorize_of
           split_up k = rw (left_is, lt-leb sc.d 2 l, f, eq-eqb (degree_of large) (sc.d - part.small) q, k)
 

@@ -3,6 +3,7 @@
 use Rattle.std.specs.Prelude.{Bool, false, cond, ◌&&◌, List, ℕ, zero, suc, ◌-◌, leb, eqb, get_or, Float, Option, Some, None}
 use Rattle.std.specs.Float.{nan}
 use Rattle.std.specs.Float.Ieee.{neg}
+use Rattle.angle.specs.declared.Sine.{Sine}
 use Rattle.quartic.specs.declared.QuarticFactor.{QuarticFactor}
 use Rattle.cubic.specs.Cubic.{cubic_factor_of}
 use Rattle.quartic.specs.Quartic.{quartic_factor_of}
@@ -16,37 +17,38 @@ use Rattle.factors.specs.Factors.{no_factors, push_lin_of, push_quad_of, degree_
 use Rattle.large_factors.specs.Large.{large_of}
 use Rattle.quotient.specs.Quotient.{product_of, quotient_of, usable_of, merged_of}
 
--- the arm `3`: `let (r, e, f) = cubic_factor(g[2], g[1], g[0]);`, `out.push_lin(r);` and `out.push_quad(e, f);`
-unfoldable pub cubic_factors_of : Float → Float → Float → Factors
-cubic_factors_of b c d = let k = cubic_factor_of b c d in push_quad_of (push_lin_of no_factors k.r) k.e k.f
+module _ (sine : Sine) where
+  -- the arm `3`: `let (r, e, f) = cubic_factor(g[2], g[1], g[0]);`, `out.push_lin(r);` and `out.push_quad(e, f);`
+  unfoldable pub cubic_factors_of : Float → Float → Float → Factors
+  cubic_factors_of b c d = let k = cubic_factor_of sine b c d in push_quad_of (push_lin_of no_factors k.r) k.e k.f
 
--- the arm `_`: 'A tight cluster of three roots cannot sit in one quadratic: peel off the far root, solve the cluster as a cubic.'
--- `None => { for (al, be) in quads { out.push_quad(al, be); } }`
-unfoldable pub paired_of : Float → Float → Float → Float → QuarticFactor → Option Float → Factors
-paired_of b c d e quads (Some r) =
-    -- let (r, h2, h1, h0) = peel_root(g[3], g[2], g[1], g[0], r);
-    let p = peel_root_of b c d e r in
-    -- let (r2, e, f) = cubic_factor(h2, h1, h0);
-    let k = cubic_factor_of p.h2 p.h1 p.h0 in
-    -- out.push_lin(r); out.push_lin(r2); out.push_quad(e, f);
-    push_quad_of (push_lin_of (push_lin_of no_factors p.r) k.r) k.e k.f
-paired_of b c d e quads None = push_quad_of (push_quad_of no_factors quads.al quads.be) quads.ga quads.de
+  -- the arm `_`: 'A tight cluster of three roots cannot sit in one quadratic: peel off the far root, solve the cluster as a cubic.'
+  -- `None => { for (al, be) in quads { out.push_quad(al, be); } }`
+  unfoldable pub paired_of : Float → Float → Float → Float → QuarticFactor → Option Float → Factors
+  paired_of b c d e quads (Some r) =
+      -- let (r, h2, h1, h0) = peel_root(g[3], g[2], g[1], g[0], r);
+      let p = peel_root_of b c d e r in
+      -- let (r2, e, f) = cubic_factor(h2, h1, h0);
+      let k = cubic_factor_of sine p.h2 p.h1 p.h0 in
+      -- out.push_lin(r); out.push_lin(r2); out.push_quad(e, f);
+      push_quad_of (push_lin_of (push_lin_of no_factors p.r) k.r) k.e k.f
+  paired_of b c d e quads None = push_quad_of (push_quad_of no_factors quads.al quads.be) quads.ga quads.de
 
--- `let quads = quartic_factor(g[3], g[2], g[1], g[0]);` and `match isolated_root(&quads)`
-unfoldable pub quartic_factors_of : Float → Float → Float → Float → Factors
-quartic_factors_of b c d e = let quads = quartic_factor_of b c d e in paired_of b c d e quads (isolated_root_of quads)
+  -- `let quads = quartic_factor(g[3], g[2], g[1], g[0]);` and `match isolated_root(&quads)`
+  unfoldable pub quartic_factors_of : Float → Float → Float → Float → Factors
+  quartic_factors_of b c d e = let quads = quartic_factor_of sine b c d e in paired_of b c d e quads (isolated_root_of quads)
 
--- `match sc.d`: `out`, the factors at this scale. `1 => out.push_lin(-g[0]),` and `2 => out.push_quad(g[1], g[0]),`
-unfoldable pub out_of : List Float → ℕ → Factors
-out_of g d =
-    let g0 = get_or g 0 nan in
-    let g1 = get_or g 1 nan in
-    let g2 = get_or g 2 nan in
-    let g3 = get_or g 3 nan in
-    cond (eqb d 0) no_factors
-    (cond (eqb d 1) (push_lin_of no_factors (neg g0))
-    (cond (eqb d 2) (push_quad_of no_factors g1 g0)
-    (cond (eqb d 3) (cubic_factors_of g2 g1 g0) (quartic_factors_of g3 g2 g1 g0))))
+  -- `match sc.d`: `out`, the factors at this scale. `1 => out.push_lin(-g[0]),` and `2 => out.push_quad(g[1], g[0]),`
+  unfoldable pub out_of : List Float → ℕ → Factors
+  out_of g d =
+      let g0 = get_or g 0 nan in
+      let g1 = get_or g 1 nan in
+      let g2 = get_or g 2 nan in
+      let g3 = get_or g 3 nan in
+      cond (eqb d 0) no_factors
+      (cond (eqb d 1) (push_lin_of no_factors (neg g0))
+      (cond (eqb d 2) (push_quad_of no_factors g1 g0)
+      (cond (eqb d 3) (cubic_factors_of g2 g1 g0) (quartic_factors_of g3 g2 g1 g0))))
 
 -- A second scaling: whether there is one, the large factors, which it keeps, and the polynomial of the small roots at their own scale.
 pub record Second : Type 0 where
@@ -68,17 +70,18 @@ second_at sc out None = record { found = false; large = no_factors; sub = sc }
 unfoldable pub second_of : Scaled → Factors → Second
 second_of sc out = second_at sc out (magnitude_split_of sc.lg sc.d)
 
--- with `left` more scalings: `if depth >= 3 || sc.d <= 2 { return out; }`
-unfoldable pub factors_from : ℕ → Scaled → Factors
-factors_from zero sc = out_of sc.g sc.d
-factors_from (suc left) sc =
-    let out = out_of sc.g sc.d in
-    let second = second_of sc out in
-    -- let inner = factorize(&sub, depth + 1);
-    let inner = factors_from left second.sub in
-    let merged = merged_of second.large inner second.sub.e in
-    cond (leb sc.d 2) out (cond second.found merged out)
+module _ (sine : Sine) where
+  -- with `left` more scalings: `if depth >= 3 || sc.d <= 2 { return out; }`
+  unfoldable pub factors_from : ℕ → Scaled → Factors
+  factors_from zero sc = out_of sine sc.g sc.d
+  factors_from (suc left) sc =
+      let out = out_of sine sc.g sc.d in
+      let second = second_of sc out in
+      -- let inner = factorize(&sub, depth + 1);
+      let inner = factors_from left second.sub in
+      let merged = merged_of second.large inner second.sub.e in
+      cond (leb sc.d 2) out (cond second.found merged out)
 
--- `fn factorize(sc: &Scaled, depth: u32) -> Factors`
-unfoldable pub factorize_of : Scaled → ℕ → Factors
-factorize_of sc depth = factors_from (3 - depth) sc
+  -- `fn factorize(sc: &Scaled, depth: u32) -> Factors`
+  unfoldable pub factorize_of : Scaled → ℕ → Factors
+  factorize_of sc depth = factors_from (3 - depth) sc

@@ -6,12 +6,14 @@ ghost use Rattle.std.specs.Prelude.{◌≡◌, ◌≤◌, ◌<◌};
 ghost use Rattle.factorize.specs.Factorize.{cubic_factors_of, quartic_factors_of, out_of, factorize_of};
 ghost use Rattle.factorize.specs.Discs.{disc_at, rooted_of};
 
+use angle::Sine;
+
 // (The coefficients one by one, here and in quartic_factors, as cubic_factor and quartic_factor take them.)
 #[tactic(auto, unfolding(crate::specs::Factorize::cubic_factors_of))]
-fn cubic_factors(b: f64, c: f64, d: f64) -> factors::Factors
-    ensures { result ≡ cubic_factors_of b c d }
+fn cubic_factors(sine: Sine, b: f64, c: f64, d: f64) -> factors::Factors
+    ensures { result ≡ cubic_factors_of sine b c d }
 {
-    let k = cubic::cubic_factor(b, c, d);
+    let k = cubic::cubic_factor(sine, b, c, d);
     factors::Factors::default()
         .push_lin(k.r)
         .push_quad(k.e, k.f)
@@ -49,15 +51,15 @@ fn with_discs(f: factors::Factors) -> Rooted
 }
 
 #[tactic(auto, using(crate::proofs::Ways::quartics))]
-fn quartic_factors(b: f64, c: f64, d: f64, e: f64) -> Rooted
-    ensures { result ≡ rooted_of (quartic_factors_of b c d e) }
+fn quartic_factors(sine: Sine, b: f64, c: f64, d: f64, e: f64) -> Rooted
+    ensures { result ≡ rooted_of (quartic_factors_of sine b c d e) }
 {
-    let quads = quartic::quartic_factor(b, c, d, e);
+    let quads = quartic::quartic_factor(sine, b, c, d, e);
     let s = isolated::isolated(quads);
     match s.far {
         Some(r) => {
             let p = isolated::peel_root(b, c, d, e, r);
-            let k = cubic::cubic_factor(p.h2, p.h1, p.h0);
+            let k = cubic::cubic_factor(sine, p.h2, p.h1, p.h0);
             with_discs(
                 factors::Factors::default()
                     .push_lin(p.r)
@@ -77,27 +79,27 @@ fn quartic_factors(b: f64, c: f64, d: f64, e: f64) -> Rooted
 
 // The factors at this scale.
 #[tactic(auto, unfolding(crate::specs::Factorize::out_of))]
-fn out_of(g: [f64; 5], d: usize) -> Rooted
-    ensures { result ≡ rooted_of (out_of g d) }
+fn out_of(sine: Sine, g: [f64; 5], d: usize) -> Rooted
+    ensures { result ≡ rooted_of (out_of sine g d) }
 {
     match d {
         0 => with_discs(factors::Factors::default()),
         1 => with_discs(factors::Factors::default().push_lin(-g[0])),
         2 => with_discs(factors::Factors::default().push_quad(g[1], g[0])),
-        3 => with_discs(cubic_factors(g[2], g[1], g[0])),
-        _ => quartic_factors(g[3], g[2], g[1], g[0]),
+        3 => with_discs(cubic_factors(sine, g[2], g[1], g[0])),
+        _ => quartic_factors(sine, g[3], g[2], g[1], g[0]),
     }
 }
 
 // A quadratic needs no second scaling: its roots are accurate each.
 #[tactic(auto, using(crate::proofs::Ways::ways, crate::proofs::Sizes::sizes))]
-pub fn factorize_rooted(sc: scaled::Scaled, depth: u32) -> Rooted
+pub fn factorize_rooted(sine: Sine, sc: scaled::Scaled, depth: u32) -> Rooted
     requires { sc.d ≤ 4 }
-    ensures { result ≡ rooted_of (factorize_of sc depth) }
+    ensures { result ≡ rooted_of (factorize_of sine sc depth) }
 {
     let g = sc.g;
     let d = sc.d;
-    let out = out_of(g, d);
+    let out = out_of(sine, g, d);
     if depth >= 3 || d <= 2 {
         return out;
     }
@@ -115,14 +117,14 @@ pub fn factorize_rooted(sc: scaled::Scaled, depth: u32) -> Rooted
     }
     let p = horner::Polynomial { f: s, d: small };
     let sub = scaled::Scaled::new(p);
-    let inner = factorize_rooted(sub, depth + 1);
+    let inner = factorize_rooted(sine, sub, depth + 1);
     with_discs(quotient::merged(large, inner.f, sub.e))
 }
 
 #[tactic(auto, using(crate::proofs::Discs::the_factors))]
-pub fn factorize(sc: scaled::Scaled, depth: u32) -> factors::Factors
+pub fn factorize(sine: Sine, sc: scaled::Scaled, depth: u32) -> factors::Factors
     requires { sc.d ≤ 4 }
-    ensures { result ≡ factorize_of sc depth }
+    ensures { result ≡ factorize_of sine sc depth }
 {
-    factorize_rooted(sc, depth).f
+    factorize_rooted(sine, sc, depth).f
 }

@@ -18,6 +18,7 @@ use Rattle.algebra.specs.NatOrder.{le_or_lt}
 use Rattle.refusals.specs.Refusals.{outcome_of}
 use Rattle.float.specs.Literals.{zero64}
 use Rattle.float.specs.Methods.{is_finite_of}
+use Rattle.angle.specs.declared.Sine.{Sine}
 use Rattle.poly.specs.Coefficients.{trimmed_of}
 use Rattle.poly.specs.RealRoots.{real_roots_of}
 use Rattle.poly.specs.Conditions.{AllFinite, Exactly}
@@ -111,24 +112,24 @@ module _ (p : List ℤ) (coeffs : List Float) (r : Result p coeffs) where
       let inside : k < length coeffs = omega (arith, t.within) in
       (k, omega arith, λ e. true≢false (sym (level_whole (get_or coeffs k nan) (coefficient_of p k) (r.each k inside) e) ∙ t.last (omega arith)))
 
-  module _ (tol : Float) where
-    constant_refused : trimmed_of coeffs ≤ 1 → outcome_of (real_roots_of coeffs tol) ≡ 2
-    constant_refused h = (stands_for coeffs tol 2 (lit≤ tt)).where_it_holds (finite, h)
+  module _ (sine : Sine) (tol : Float) where
+    constant_refused : trimmed_of coeffs ≤ 1 → outcome_of (real_roots_of sine coeffs tol) ≡ 2
+    constant_refused h = (stands_for sine coeffs tol 2 (lit≤ tt)).where_it_holds (finite, h)
 
-    varying_answered : 2 ≤ trimmed_of coeffs → outcome_of (real_roots_of coeffs tol) ≡ 0
-    varying_answered h = (stands_for coeffs tol 0 (lit≤ tt)).where_it_holds (finite, h, omega (arith, (trimmed_is coeffs).within, r.five))
+    varying_answered : 2 ≤ trimmed_of coeffs → outcome_of (real_roots_of sine coeffs tol) ≡ 0
+    varying_answered h = (stands_for sine coeffs tol 0 (lit≤ tt)).where_it_holds (finite, h, omega (arith, (trimmed_is coeffs).within, r.five))
 
-    pub list_two : Exactly (outcome_of (real_roots_of coeffs tol) ≡ 2) (Constant p)
+    pub list_two : Exactly (outcome_of (real_roots_of sine coeffs tol) ≡ 2) (Constant p)
     list_two = record {
       where_it_holds = λ z. ⊎_elim constant_refused (λ h. let w = kept_varying h in absurd (w.2 (z w.0 w.1))) (le_or_lt (trimmed_of coeffs) 1);
-      only_there = λ e. dropped_constant ((stands_for coeffs tol 2 (lit≤ tt)).only_there e).1;
+      only_there = λ e. dropped_constant ((stands_for sine coeffs tol 2 (lit≤ tt)).only_there e).1;
     }
 
-    pub list_zero : Exactly (outcome_of (real_roots_of coeffs tol) ≡ 0) (Varying p)
+    pub list_zero : Exactly (outcome_of (real_roots_of sine coeffs tol) ≡ 0) (Varying p)
     list_zero = record {
       where_it_holds = λ w. ⊎_elim (λ h. absurd (w.2 (dropped_constant h w.0 w.1))) varying_answered (le_or_lt (trimmed_of coeffs) 1);
-      only_there = λ e. kept_varying ((stands_for coeffs tol 0 (lit≤ tt)).only_there e).1;
+      only_there = λ e. kept_varying ((stands_for sine coeffs tol 0 (lit≤ tt)).only_there e).1;
     }
 
-    pub list_number : (outcome_of (real_roots_of coeffs tol) ≡ 0) ⊎ (outcome_of (real_roots_of coeffs tol) ≡ 2)
+    pub list_number : (outcome_of (real_roots_of sine coeffs tol) ≡ 0) ⊎ (outcome_of (real_roots_of sine coeffs tol) ≡ 2)
     list_number = ⊎_elim (λ h. inr (constant_refused h)) (λ h. inl (varying_answered h)) (le_or_lt (trimmed_of coeffs) 1)

@@ -17,6 +17,7 @@ use Rattle.roots.specs.declared.Roots.{Roots}
 use Rattle.roots.specs.Roots.{list_of}
 use Rattle.roots.specs.Listed.{Within, Fits}
 use Rattle.roots.proofs.Sums.{within_none, within_more}
+use Rattle.angle.specs.declared.Sine.{Sine}
 use Rattle.poly.specs.Coefficients.{degree_left}
 use Rattle.poly.specs.Conditions.{AllDoubles}
 use Rattle.poly.specs.Solve.{solve_of}
@@ -48,19 +49,19 @@ handed s = go (formula_of s)
     go (Err refusal) = refl
 
 -- the list's answer to them, or the refusal
-abbrev pub answered_by : Float → Result Expanded Refusal → Result Roots Refusal
-answered_by tol r = and_then r (λ (e : Expanded). real_roots_of (take e.len e.coeffs) tol)
+abbrev pub answered_by : Sine → Float → Result Expanded Refusal → Result Roots Refusal
+answered_by sine tol r = and_then r (λ (e : Expanded). real_roots_of sine (take e.len e.coeffs) tol)
 
-pub by_expand : (s : List ℕ) (tol : Float) → formula_roots_of s tol ≡ answered_by tol (expand_of s)
+pub by_expand : (sine : Sine) (s : List ℕ) (tol : Float) → formula_roots_of sine s tol ≡ answered_by sine tol (expand_of s)
 unfolding expand_of answered_of formula_roots_of solved_of
-by_expand s tol = go (formula_of s)
+by_expand sine s tol = go (formula_of s)
   where
-    go : (v : Value) → solved_of v tol ≡ answered_by tol (answered_of v)
-    go (Ok p) = ap (λ (l : List Float). real_roots_of l tol) (sym (expanded_taken p))
+    go : (v : Value) → solved_of sine v tol ≡ answered_by sine tol (answered_of v)
+    go (Ok p) = ap (λ (l : List Float). real_roots_of sine l tol) (sym (expanded_taken p))
     go (Err refusal) = refl
 
-pub solved : (s : List ℕ) (tol : Float) (r : Result Expanded Refusal) → r ≡ expand_of s → answered_by tol r ≡ formula_roots_of s tol
-solved s tol r q = ap (answered_by tol) q ∙ sym (by_expand s tol)
+pub solved : (sine : Sine) (s : List ℕ) (tol : Float) (r : Result Expanded Refusal) → r ≡ expand_of s → answered_by sine tol r ≡ formula_roots_of sine s tol
+solved sine s tol r q = ap (answered_by sine tol) q ∙ sym (by_expand sine s tol)
 
 -- the coefficients that are handed on stand in the array
 abbrev read : Expanded → Result Expanded Refusal
@@ -70,35 +71,37 @@ pub in_room : (s : List ℕ) (e : Expanded) → read e ≡ expand_of s → e.len
 in_room s e q = subst⁻¹ (λ (r : Result Expanded Refusal). IfOk r (λ (x : Expanded). x.len ≤ 5)) q (few s)
 
 -- ---- demand 1
-value_within : (v : Value) (tol : Float) → Within (degree_left (handed_on v)) (list_of (roots_in (solved_of v tol)))
+value_within : (sine : Sine) (v : Value) (tol : Float) → Within (degree_left (handed_on v)) (list_of (roots_in (solved_of sine v tol)))
 unfolding solved_of
-value_within (Ok p) tol = answer_within (floats_of p) tol
-value_within (Err refusal) tol = within_more 0 (degree_left []) [] (omega arith) within_none
+value_within sine (Ok p) tol = answer_within sine (floats_of p) tol
+value_within sine (Err refusal) tol = within_more 0 (degree_left []) [] (omega arith) within_none
 
-pub formula_within : (s : List ℕ) (tol : Float) → Within (degree_left (handed_on (formula_of s))) (list_of (roots_in (formula_roots_of s tol)))
+pub formula_within : (sine : Sine) (s : List ℕ) (tol : Float)
+    → Within (degree_left (handed_on (formula_of s))) (list_of (roots_in (formula_roots_of sine s tol)))
 unfolding formula_roots_of
-formula_within s tol = value_within (formula_of s) tol
+formula_within sine s tol = value_within sine (formula_of s) tol
 
-pub holds : (s : List ℕ) (tol : Float) {answer : Result Roots Refusal} → answer ≡ formula_roots_of s tol
-    → (answer ≡ formula_roots_of s tol) × Within (degree_left (handed_on (formula_of s))) (list_of (roots_in answer))
-holds s tol is = (
+pub holds : (sine : Sine) (s : List ℕ) (tol : Float) {answer : Result Roots Refusal} → answer ≡ formula_roots_of sine s tol
+    → (answer ≡ formula_roots_of sine s tol) × Within (degree_left (handed_on (formula_of s))) (list_of (roots_in answer))
+holds sine s tol is = (
   is,
-  subst⁻¹ (λ (answer : Result Roots Refusal). Within (degree_left (handed_on (formula_of s))) (list_of (roots_in answer))) is (formula_within s tol),
+  subst⁻¹ (λ (answer : Result Roots Refusal). Within (degree_left (handed_on (formula_of s))) (list_of (roots_in answer))) is (formula_within sine s tol),
 )
 
 -- ---- what holds of every refusal, and of the list's answer to at most two coefficients more than the text has bytes, holds of every answer
-pub answered_by_list : (P : Result Roots Refusal → Type 0) (s : List ℕ) (tol : Float) → ((refusal : Refusal) → number_of refusal ≤ 15 → P (Err refusal))
-    → ((cs : List Float) → length cs ≤ length s + 2 → P (real_roots_of cs tol)) → P (formula_roots_of s tol)
+pub answered_by_list : (sine : Sine) (P : Result Roots Refusal → Type 0) (s : List ℕ) (tol : Float)
+    → ((refusal : Refusal) → number_of refusal ≤ 15 → P (Err refusal))
+    → ((cs : List Float) → length cs ≤ length s + 2 → P (real_roots_of sine cs tol)) → P (formula_roots_of sine s tol)
 unfolding formula_roots_of solved_of
-answered_by_list P s tol refused answered = go (formula_of s) refl
+answered_by_list sine P s tol refused answered = go (formula_of s) refl
   where
-    go : (v : Value) → formula_of s ≡ v → P (solved_of v tol)
+    go : (v : Value) → formula_of s ≡ v → P (solved_of sine v tol)
     go (Ok p) e = answered (floats_of p) (omega (arith, short_text s p e, length-map p (of_int binary64)))
     go (Err n) e = refused n (refused_number s n e).1
 
-pub formula_fits : (s : List ℕ) (tol : Float) → Fits (roots_in (formula_roots_of s tol))
-formula_fits s tol =
-    answered_by_list (λ (answer : Result Roots Refusal). Fits (roots_in answer)) s tol (λ n h. (refl, omega arith)) (λ cs h. answer_fits cs tol)
+pub formula_fits : (sine : Sine) (s : List ℕ) (tol : Float) → Fits (roots_in (formula_roots_of sine s tol))
+formula_fits sine s tol =
+    answered_by_list sine (λ (answer : Result Roots Refusal). Fits (roots_in answer)) s tol (λ n h. (refl, omega arith)) (λ cs h. answer_fits sine cs tol)
 
 -- ---- demand 3: what is solved are doubles
 pub floats_fit : (p : List ℤ) → AllDoubles (floats_of p)
@@ -113,10 +116,11 @@ handed_fit (Err refusal) i h = absurd (omega arith)
 pub formula_doubles : (s : List ℕ) → AllDoubles (handed_on (formula_of s))
 formula_doubles s = handed_fit (formula_of s)
 
-pub formula_solved : (s : List ℕ) (tol : Float) → outcome_of (formula_roots_of s tol) ≡ 0 → outcome_of (solve_of (handed_on (formula_of s)) tol) ≡ 0
+pub formula_solved : (sine : Sine) (s : List ℕ) (tol : Float) → outcome_of (formula_roots_of sine s tol) ≡ 0
+    → outcome_of (solve_of sine (handed_on (formula_of s)) tol) ≡ 0
 unfolding formula_roots_of solved_of real_roots_of
-formula_solved s tol = go (formula_of s) refl
+formula_solved sine s tol = go (formula_of s) refl
   where
-    go : (v : Value) → formula_of s ≡ v → outcome_of (solved_of v tol) ≡ 0 → outcome_of (solve_of (handed_on v) tol) ≡ 0
-    go (Ok p) e z = sym (then_number answer_of (solve_of (floats_of p) tol)) ∙ z
+    go : (v : Value) → formula_of s ≡ v → outcome_of (solved_of sine v tol) ≡ 0 → outcome_of (solve_of sine (handed_on v) tol) ≡ 0
+    go (Ok p) e z = sym (then_number answer_of (solve_of sine (floats_of p) tol)) ∙ z
     go (Err n) e z = absurd (omega (arith, (refused_number s n e).0, z))

@@ -13,6 +13,7 @@ use Rattle.refusals.specs.declared.Refusal.TheVariants.{NotASum, DegreeTooHigh, 
 use Rattle.refusals.specs.Refusals.{number_of, outcome_of}
 use Rattle.roots.specs.declared.Roots.{Roots}
 use Rattle.roots.specs.Roots.{no_roots}
+use Rattle.angle.specs.declared.Sine.{Sine}
 use Rattle.poly.specs.RealRoots.{roots_in, real_roots_of}
 use Rattle.poly.specs.Conditions.{Exactly}
 use Rattle.poly.proofs.Refusals.{number_most, has_no_root}
@@ -30,9 +31,9 @@ use Rattle.formula_roots.specs.Claims.{Constant, Varying, Result, Formulas}
 use Rattle.formula_roots.proofs.Solved.{handed, formula_within, answered_by_list, formula_fits}
 use Rattle.formula_roots.proofs.Doubles.{result_of, list_two, list_zero, list_number}
 
-module _ (s : List ℕ) (tol : Float) where
+module _ (sine : Sine) (s : List ℕ) (tol : Float) where
   abbrev answer : Prelude.Result Roots Refusal
-  answer = formula_roots_of s tol
+  answer = formula_roots_of sine s tol
 
   -- its number, 0 for roots
   abbrev number : ℕ
@@ -41,7 +42,7 @@ module _ (s : List ℕ) (tol : Float) where
   -- ---- by what the text is worth
   refused_answer : (n : Refusal) → formula_of s ≡ Err n → number ≡ number_of n
   unfolding formula_roots_of
-  refused_answer n e = ap (λ (v : Value). outcome_of (solved_of v tol)) e
+  refused_answer n e = ap (λ (v : Value). outcome_of (solved_of sine v tol)) e
 
   refused_expand : (n : Refusal) → formula_of s ≡ Err n → outcome_of (expand_of s) ≡ number_of n
   unfolding expand_of answered_of
@@ -56,14 +57,14 @@ module _ (s : List ℕ) (tol : Float) where
   coeffs = handed_on (formula_of s)
 
   abbrev Listed : List ℤ → Type 0
-  Listed p = Result p coeffs × (answer ≡ real_roots_of coeffs tol)
+  Listed p = Result p coeffs × (answer ≡ real_roots_of sine coeffs tol)
 
   listed : (p : List ℤ) → Meets p → formula_of s ≡ Ok (trimmed p) → Listed p
   unfolding formula_roots_of solved_of
-  listed p m e = subst⁻¹ (λ (v : Value). Result p (handed_on v) × (solved_of v tol ≡ real_roots_of (handed_on v) tol)) e (result_of p m, refl)
+  listed p m e = subst⁻¹ (λ (v : Value). Result p (handed_on v) × (solved_of sine v tol ≡ real_roots_of sine (handed_on v) tol)) e (result_of p m, refl)
 
   list_most : (p : List ℤ) → Listed p → number ≤ 3
-  list_most p w = subst⁻¹ (λ (x : Prelude.Result Roots Refusal). outcome_of x ≤ 3) w.1 (number_most coeffs tol)
+  list_most p w = subst⁻¹ (λ (x : Prelude.Result Roots Refusal). outcome_of x ≤ 3) w.1 (number_most sine coeffs tol)
 
   -- ---- a tree whose parts all meet the limits
   worth : (a : Sum) → Derives s a → AllMeet (sum_parts a) → Meets (sum_polynomial a) × (formula_of s ≡ Ok (trimmed (sum_polynomial a)))
@@ -122,7 +123,8 @@ module _ (s : List ℕ) (tol : Float) where
       only (meets a d h m q) e = absurd (omega (arith, list_most (sum_polynomial a) (listed (sum_polynomial a) m q), e))
 
   -- those of the list
-  of_the_list : (n : ℕ) → n ≤ 3 → (Such : List ℤ → Type 0) → ((p : List ℤ) → Result p coeffs → Exactly (outcome_of (real_roots_of coeffs tol) ≡ n) (Such p))
+  of_the_list : (n : ℕ) → n ≤ 3 → (Such : List ℤ → Type 0)
+      → ((p : List ℤ) → Result p coeffs → Exactly (outcome_of (real_roots_of sine coeffs tol) ≡ n) (Such p))
       → Exactly (number ≡ n) ((a : Sum) × Derives s a × AllMeet (sum_parts a) × Such (sum_polynomial a))
   of_the_list n l Such law = record { where_it_holds = at; only_there = only (way s) }
     where
@@ -138,10 +140,10 @@ module _ (s : List ℕ) (tol : Float) where
           (a, d, h, (law (sum_polynomial a) w.0).only_there (sym (ap outcome_of w.1) ∙ e))
 
   two : Exactly (number ≡ 2) ((a : Sum) × Derives s a × AllMeet (sum_parts a) × Constant (sum_polynomial a))
-  two = of_the_list 2 (omega arith) Constant (λ p r. list_two p coeffs r tol)
+  two = of_the_list 2 (omega arith) Constant (λ p r. list_two p coeffs r sine tol)
 
   zero : Exactly (number ≡ 0) ((a : Sum) × Derives s a × AllMeet (sum_parts a) × Varying (sum_polynomial a))
-  zero = of_the_list 0 (omega arith) Varying (λ p r. list_zero p coeffs r tol)
+  zero = of_the_list 0 (omega arith) Varying (λ p r. list_zero p coeffs r sine tol)
 
   no_other : (number ≡ 0) ⊎ ((number ≡ 2) ⊎ ((13 ≤ number) × (number ≤ 15)))
   no_other = go (way s)
@@ -153,18 +155,18 @@ module _ (s : List ℕ) (tol : Float) where
       go (meets a d h m q) =
           let w = listed (sum_polynomial a) m q in
           let is = ap outcome_of w.1 in
-          ⊎_elim (λ e. inl (is ∙ e)) (λ e. inr (inl (is ∙ e))) (list_number (sum_polynomial a) coeffs w.0 tol)
+          ⊎_elim (λ e. inl (is ∙ e)) (λ e. inr (inl (is ∙ e))) (list_number (sum_polynomial a) coeffs w.0 sine tol)
 
   -- ---- all of them
   stopped : 0 < outcome_of (expand_of s) → number ≡ outcome_of (expand_of s)
   unfolding formula_roots_of solved_of expand_of answered_of
   stopped = go (formula_of s)
     where
-      go : (v : Value) → 0 < outcome_of (answered_of v) → outcome_of (solved_of v tol) ≡ outcome_of (answered_of v)
+      go : (v : Value) → 0 < outcome_of (answered_of v) → outcome_of (solved_of sine v tol) ≡ outcome_of (answered_of v)
       go (Ok p) h = absurd (omega arith)
       go (Err n) h = refl
 
-  pub formulas : Formulas s tol
+  pub formulas : Formulas sine s tol
   formulas = record {
     one_reading = λ a b d e. one_reading a b (d ∙ sym e);
     numbers = record { thirteen = thirteen; fourteen = fourteen; fifteen = fifteen; two = two; zero = zero; no_other = no_other };
@@ -173,9 +175,9 @@ module _ (s : List ℕ) (tol : Float) where
     result = goes_on;
     handed = handed s;
     stopped = stopped;
-    roots = formula_within s tol;
-    array = formula_fits s tol;
+    roots = formula_within sine s tol;
+    array = formula_fits sine s tol;
     refused =
-        answered_by_list (λ (x : Prelude.Result Roots Refusal). 0 < outcome_of x → roots_in x ≡ no_roots) s tol (λ n l h. refl)
-        (λ cs l. has_no_root cs tol);
+        answered_by_list sine (λ (x : Prelude.Result Roots Refusal). 0 < outcome_of x → roots_in x ≡ no_roots) s tol (λ n l h. refl)
+        (λ cs l. has_no_root sine cs tol);
   }

@@ -7,6 +7,7 @@ use Rattle.refusals.specs.Refusals.{outcome_of, value_or}
 use Rattle.float.specs.Literals.{zero64}
 use Rattle.roots.specs.Roots.{list_of, no_roots}
 use Rattle.roots.specs.Listed.{Within, Fits}
+use Rattle.angle.specs.declared.Sine.{Sine}
 use Rattle.poly.specs.Coefficients.{degree_left}
 use Rattle.poly.specs.RealRoots.{roots_in, real_roots_of}
 use Rattle.poly.specs.Conditions.{AllDoubles, Exactly}
@@ -56,21 +57,21 @@ abbrev pub expanded_in : List ℕ → Expanded
 expanded_in s = value_or (record { len = 0; coeffs = replicate 5 zero64 }) (expand_of s)
 
 -- What holds of every text.
-pub record Formulas (s : List ℕ) (tol : Float) : Type 0 where
+pub record Formulas (sine : Sine) (s : List ℕ) (tol : Float) : Type 0 where
   -- 'with one reading each'
   pub one_reading : (a b : Sum) → Derives s a → Derives s b → a ≡ b
-  pub numbers : Numbers s (outcome_of (formula_roots_of s tol))
+  pub numbers : Numbers s (outcome_of (formula_roots_of sine s tol))
   -- 'Expansion is exact over whole numbers': the polynomial of a tree is worth, at every whole number, what the formula is
   pub exact : (a : Sum) (x : ℤ) → value_at (sum_polynomial a) x ≡ sum_at x a
   -- 'The texts that reach it are exactly those the grammar derives that meet the limits below'
   pub reached : Exactly (outcome_of (expand_of s) ≡ 0) ((a : Sum) × Derives s a × AllMeet (sum_parts a))
   -- 'The result, zero being +0, goes to the list operation, whose answer or refusal prints'
   pub result : (a : Sum) → Derives s a → AllMeet (sum_parts a)
-      → Result (sum_polynomial a) (handed_on (formula_of s)) × (formula_roots_of s tol ≡ real_roots_of (handed_on (formula_of s)) tol)
+      → Result (sum_polynomial a) (handed_on (formula_of s)) × (formula_roots_of sine s tol ≡ real_roots_of sine (handed_on (formula_of s)) tol)
   pub handed : take (expanded_in s).len (expanded_in s).coeffs ≡ handed_on (formula_of s)
   -- a text that does not reach it is answered with its number
-  pub stopped : 0 < outcome_of (expand_of s) → outcome_of (formula_roots_of s tol) ≡ outcome_of (expand_of s)
+  pub stopped : 0 < outcome_of (expand_of s) → outcome_of (formula_roots_of sine s tol) ≡ outcome_of (expand_of s)
   -- demand 1; no root where it is refused
-  pub roots : Within (degree_left (handed_on (formula_of s))) (list_of (roots_in (formula_roots_of s tol)))
-  pub array : Fits (roots_in (formula_roots_of s tol))
-  pub refused : 0 < outcome_of (formula_roots_of s tol) → roots_in (formula_roots_of s tol) ≡ no_roots
+  pub roots : Within (degree_left (handed_on (formula_of s))) (list_of (roots_in (formula_roots_of sine s tol)))
+  pub array : Fits (roots_in (formula_roots_of sine s tol))
+  pub refused : 0 < outcome_of (formula_roots_of sine s tol) → roots_in (formula_roots_of sine s tol) ≡ no_roots

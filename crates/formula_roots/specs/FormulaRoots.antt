@@ -2,6 +2,7 @@
 use Rattle.std.specs.Prelude.{List, [], ℕ, Float, Result, Ok, Err}
 use Rattle.refusals.specs.declared.Refusal.{Refusal}
 use Rattle.roots.specs.declared.Roots.{Roots}
+use Rattle.angle.specs.declared.Sine.{Sine}
 use Rattle.poly.specs.RealRoots.{real_roots_of}
 use Rattle.parts.specs.Value.{Value}
 use Rattle.formula.specs.Formula.{formula_of, floats_of}
@@ -12,10 +13,10 @@ handed_on (Ok p) = floats_of p
 handed_on (Err refusal) = []
 
 -- 'whose answer or refusal prints like PL'; a refusal of the text is the answer
-unfoldable pub solved_of : Value → Float → Result Roots Refusal
-solved_of (Ok p) tol = real_roots_of (floats_of p) tol
-solved_of (Err refusal) tol = Err refusal
+unfoldable pub solved_of : Sine → Value → Float → Result Roots Refusal
+solved_of sine (Ok p) tol = real_roots_of sine (floats_of p) tol
+solved_of sine (Err refusal) tol = Err refusal
 
-unfoldable pub formula_roots_of : List ℕ → Float → Result Roots Refusal
+unfoldable pub formula_roots_of : Sine → List ℕ → Float → Result Roots Refusal
 unfolding formula_of solved_of
-formula_roots_of s tol = solved_of (formula_of s) tol
+formula_roots_of sine s tol = solved_of sine (formula_of s) tol

@@ -1,5 +1,5 @@
 // Reads a hall file from standard input and writes its listing to standard output. The work is `listing_io::list_fd`, proved to store the definition
-// `listing` of what was read; no contract can say what the system reads or writes. It rests on `input` and `listing_io`.
+// `listing OfExact` of what was read, in the lanes' mode; no contract can say what the system reads or writes. It rests on `input` and `listing_io`.
 #![tactic(auto)]
 
 use std::io::Write;

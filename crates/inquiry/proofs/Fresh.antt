@@ -12,6 +12,7 @@ use Rattle.roots.specs.Roots.{list_of}
 use Rattle.roots.specs.Listed.{multiplicities}
 use Rattle.roots.proofs.Laws.{length_pair_list}
 use Rattle.roots.proofs.Sums.{counted}
+use Rattle.angle.specs.declared.Sine.{Sine}
 use Rattle.poly.specs.declared.Solved.{Solved}
 use Rattle.poly.specs.Coefficients.{trimmed_of, counted_of, refusal_of, poly_of}
 use Rattle.poly.specs.Solve.{finished_of, solve_of, no_solved, solved_in}
@@ -37,11 +38,11 @@ begun_in : (r : Result Solved Refusal) → inquiry_in (and_then r (λ s. Ok (fre
 begun_in (Ok s) = refl
 begun_in (Err refusal) = refl
 
-module _ (coeffs : List Float) (tol : Float) where
+module _ (sine : Sine) (coeffs : List Float) (tol : Float) where
   abbrev s : Solved
-  s = solved_in (solve_of coeffs tol)
+  s = solved_in (solve_of sine coeffs tol)
 
-  refused : (refusal : Refusal) → counted_of coeffs ≡ Err refusal → solve_of coeffs tol ≡ Err refusal
+  refused : (refusal : Refusal) → counted_of coeffs ≡ Err refusal → solve_of sine coeffs tol ≡ Err refusal
   unfolding solve_of
   refused refusal h = rw h
 
@@ -57,21 +58,21 @@ module _ (coeffs : List Float) (tol : Float) where
       go (Ok n) h =
           let zero : refusal_of coeffs ≡ 0 = ap outcome_of h in
           let degree : s.poly.d ≡ (poly_of coeffs).d = ap (λ (r : Result Solved Refusal). (solved_in r).poly.d)
-          (answered_is coeffs tol (solved_number coeffs tol ∙ zero)) in
-          let most = (solved_shared coeffs tol).sum in
-          let pairs = length_pair_list s.pairs (solved_fits coeffs tol).1 in
+          (answered_is sine coeffs tol (solved_number sine coeffs tol ∙ zero)) in
+          let most = (solved_shared sine coeffs tol).sum in
+          let pairs = length_pair_list s.pairs (solved_fits sine coeffs tol).1 in
           (omega (arith, degree, poly_degree coeffs, five zero), omega (arith, most, pairs, five zero))
       go (Err refusal) h = rw (refused refusal h) (omega arith, omega arith)
 
   -- the inquiry of a start, of a refused one too
-  pub start_is : inquiry_in (start_of coeffs tol) ≡ fresh_by s
+  pub start_is : inquiry_in (start_of sine coeffs tol) ≡ fresh_by s
   unfolding start_of
-  start_is = begun_in (solve_of coeffs tol)
+  start_is = begun_in (solve_of sine coeffs tol)
 
   pub solved_sound : sound_of (fresh_by s) ≡ true
   solved_sound =
-      let fits = solved_fits coeffs tol in
-      let shared = solved_shared coeffs tol in
+      let fits = solved_fits sine coeffs tol in
+      let shared = solved_shared sine coeffs tol in
       sound_holds (fresh_by s) (record {
         degree = solved_four.0;
         replies = omega arith;
@@ -81,16 +82,16 @@ module _ (coeffs : List Float) (tol : Float) where
         total = solved_four.1;
       })
 
-  pub solved_asks : asking (fresh_by s) ≡ real_roots_touching coeffs tol
+  pub solved_asks : asking (fresh_by s) ≡ real_roots_touching sine coeffs tol
   unfolding real_roots_touching
-  solved_asks = begun_asks (solve_of coeffs tol)
+  solved_asks = begun_asks (solve_of sine coeffs tol)
 
-  pub start_sound : sound_of (inquiry_in (start_of coeffs tol)) ≡ true
+  pub start_sound : sound_of (inquiry_in (start_of sine coeffs tol)) ≡ true
   start_sound = ap sound_of start_is ∙ solved_sound
 
-  pub start_number : outcome_of (start_of coeffs tol) ≡ refusal_of coeffs
+  pub start_number : outcome_of (start_of sine coeffs tol) ≡ refusal_of coeffs
   unfolding start_of
-  start_number = then_number fresh_by (solve_of coeffs tol) ∙ solved_number coeffs tol
+  start_number = then_number fresh_by (solve_of sine coeffs tol) ∙ solved_number sine coeffs tol
 
-  pub start_asks : asking (inquiry_in (start_of coeffs tol)) ≡ real_roots_touching coeffs tol
+  pub start_asks : asking (inquiry_in (start_of sine coeffs tol)) ≡ real_roots_touching sine coeffs tol
   start_asks = ap asking start_is ∙ solved_asks

@@ -8,6 +8,7 @@ use Rattle.refusals.specs.declared.Refusal.{Refusal}
 use Rattle.refusals.specs.Refusals.{and_then}
 use Rattle.roots.specs.declared.RealRoot.{RealRoot}
 use Rattle.roots.specs.Roots.{list_of, pair_list_of}
+use Rattle.angle.specs.declared.Sine.{Sine}
 use Rattle.poly.specs.declared.Solved.{Solved}
 use Rattle.poly.specs.Solve.{solve_of}
 use Rattle.poly.specs.Brief.{relogged, ButLogs}
@@ -32,16 +33,16 @@ solved_same : (lg : List Float) (rs : Replies) (r : Result Solved Refusal)
 solved_same lg rs (Ok s) = ap (λ (seen : Seen). Ok seen) (same_seen lg s rs)
 solved_same lg rs (Err refusal) = refl
 
-pub shown_is : (coeffs : List Float) (tol : Float) (rs : Replies) (r : Result Solved Refusal) → ButLogs r (solve_of coeffs tol)
-    → and_then r (λ s. Ok (seen_of (given (fresh_by s) rs))) ≡ shown_after_of coeffs tol rs
+pub shown_is : (sine : Sine) (coeffs : List Float) (tol : Float) (rs : Replies) (r : Result Solved Refusal) → ButLogs r (solve_of sine coeffs tol)
+    → and_then r (λ s. Ok (seen_of (given (fresh_by s) rs))) ≡ shown_after_of sine coeffs tol rs
 unfolding shown_after_of start_of
-shown_is coeffs tol rs r (lg, b) = rw b (solved_same lg rs (solve_of coeffs tol))
+shown_is sine coeffs tol rs r (lg, b) = rw b (solved_same lg rs (solve_of sine coeffs tol))
 
 -- the two ways of `?`
-pub shown_refused : (coeffs : List Float) (tol : Float) (rs : Replies) (refusal : Refusal) {r : Result Seen Refusal}
-    → ButLogs (Err refusal) (solve_of coeffs tol) → r ≡ Err refusal → r ≡ shown_after_of coeffs tol rs
-shown_refused coeffs tol rs refusal b e = e ∙ shown_is coeffs tol rs (Err refusal) b
+pub shown_refused : (sine : Sine) (coeffs : List Float) (tol : Float) (rs : Replies) (refusal : Refusal) {r : Result Seen Refusal}
+    → ButLogs (Err refusal) (solve_of sine coeffs tol) → r ≡ Err refusal → r ≡ shown_after_of sine coeffs tol rs
+shown_refused sine coeffs tol rs refusal b e = e ∙ shown_is sine coeffs tol rs (Err refusal) b
 
-pub shown_solved : (coeffs : List Float) (tol : Float) (rs : Replies) (s : Solved) (q : Inquiry) (seen : Seen) → ButLogs (Ok s) (solve_of coeffs tol)
-    → q ≡ given (fresh_by s) rs → seen ≡ seen_of q → Ok seen ≡ shown_after_of coeffs tol rs
-shown_solved coeffs tol rs s q seen b i e = ap (λ (t : Seen). Ok t) (e ∙ ap seen_of i) ∙ shown_is coeffs tol rs (Ok s) b
+pub shown_solved : (sine : Sine) (coeffs : List Float) (tol : Float) (rs : Replies) (s : Solved) (q : Inquiry) (seen : Seen)
+    → ButLogs (Ok s) (solve_of sine coeffs tol) → q ≡ given (fresh_by s) rs → seen ≡ seen_of q → Ok seen ≡ shown_after_of sine coeffs tol rs
+shown_solved sine coeffs tol rs s q seen b i e = ap (λ (t : Seen). Ok t) (e ∙ ap seen_of i) ∙ shown_is sine coeffs tol rs (Ok s) b

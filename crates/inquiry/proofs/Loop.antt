@@ -18,6 +18,7 @@ use Rattle.float.specs.Literals.{zero64}
 use Rattle.float.specs.Methods.{max_of}
 use Rattle.roots.specs.declared.RealRoot.{RealRoot}
 use Rattle.roots.specs.Roots.{list_of, pair_list_of, roots_of}
+use Rattle.angle.specs.declared.Sine.{Sine}
 use Rattle.poly.specs.declared.Solved.{Solved}
 use Rattle.poly.specs.Coefficients.{zeros_of, counted_of, refusal_of, poly_of}
 use Rattle.poly.specs.Solve.{finished_of, solve_of, solved_in}
@@ -47,19 +48,19 @@ relogged_has t lg (Ok s) h =
     }
 relogged_has t lg (Err refusal) h = h
 
-pub brief_has : (coeffs : List Float) (tol : Float) (r : Result Solved Refusal) → ButLogs r (solve_of coeffs tol)
-    → Has (real_roots_touching coeffs tol) [] (fresh_by (solved_in r))
-brief_has coeffs tol r (lg, b) =
-    subst⁻¹ (λ (x : Result Solved Refusal). Has (real_roots_touching coeffs tol) [] (fresh_by (solved_in x))) b
-    (relogged_has (real_roots_touching coeffs tol) lg (solve_of coeffs tol) (solved_has coeffs tol))
+pub brief_has : (sine : Sine) (coeffs : List Float) (tol : Float) (r : Result Solved Refusal) → ButLogs r (solve_of sine coeffs tol)
+    → Has (real_roots_touching sine coeffs tol) [] (fresh_by (solved_in r))
+brief_has sine coeffs tol r (lg, b) =
+    subst⁻¹ (λ (x : Result Solved Refusal). Has (real_roots_touching sine coeffs tol) [] (fresh_by (solved_in x))) b
+    (relogged_has (real_roots_touching sine coeffs tol) lg (solve_of sine coeffs tol) (solved_has sine coeffs tol))
 
 -- a refused list asks nothing
-pub refused_asks : (coeffs : List Float) (tol : Float) → eqb (refusal_of coeffs) 0 ≡ false → real_roots_touching coeffs tol ≡ done []
+pub refused_asks : (sine : Sine) (coeffs : List Float) (tol : Float) → eqb (refusal_of coeffs) 0 ≡ false → real_roots_touching sine coeffs tol ≡ done []
 unfolding real_roots_touching solve_of
-refused_asks coeffs tol h = go (counted_of coeffs) h
+refused_asks sine coeffs tol h = go (counted_of coeffs) h
   where
     go : (r : Result ℕ Refusal) → eqb (outcome_of r) 0 ≡ false
-        → touching_by (and_then r (λ n. Ok (finished_of (poly_of coeffs) (zeros_of coeffs) (max_of tol zero64)))) ≡ done []
+        → touching_by (and_then r (λ n. Ok (finished_of sine (poly_of coeffs) (zeros_of coeffs) (max_of tol zero64)))) ≡ done []
     go (Ok n) h = absurd (true≢false h)
     go (Err refusal) h = refl
 

@@ -16,6 +16,7 @@ use Rattle.roots.specs.Roots.{list_of, pair_list_of}
 use Rattle.roots.specs.Listed.{multiplicities, Within}
 use Rattle.roots.proofs.Laws.{length_pair_list}
 use Rattle.roots.proofs.Sums.{counted, length_counted}
+use Rattle.angle.specs.declared.Sine.{Sine}
 use Rattle.poly.specs.Coefficients.{degree_left}
 use Rattle.refusals.specs.Refusals.{value_or}
 use Rattle.poly.specs.declared.Solved.{Solved}
@@ -120,9 +121,9 @@ module _ (touches : Float → Bool) (t : Asking (List RealRoot)) (q : Inquiry) (
       ∙ ap (λ (l : List Float). shown (walked (map touches l) t)) (take-length xs)
 
 -- ---- the bounds
-module _ (coeffs : List Float) (tol : Float) where
+module _ (sine : Sine) (coeffs : List Float) (tol : Float) where
   abbrev s : Solved
-  s = solved_in (solve_of coeffs tol)
+  s = solved_in (solve_of sine coeffs tol)
 
   abbrev most : ℕ
   most = (length (list_of s.roots) + 2 * length (pair_list_of s.pairs)) - 1
@@ -130,62 +131,64 @@ module _ (coeffs : List Float) (tol : Float) where
   abbrev total : ℕ
   total = multiplicities (list_of s.roots) + 2 * length (pair_list_of s.pairs)
 
-  bounds : EndsWithin most (real_roots_touching coeffs tol) (λ m l. ListedIn total l)
+  bounds : EndsWithin most (real_roots_touching sine coeffs tol) (λ m l. ListedIn total l)
   bounds =
-      subst (λ (t : Asking (List RealRoot)). EndsWithin most t (λ m l. ListedIn total l)) (solved_asks coeffs tol)
+      subst (λ (t : Asking (List RealRoot)). EndsWithin most t (λ m l. ListedIn total l)) (solved_asks sine coeffs tol)
       (touching_within s.poly s.tol (list_of s.roots) (pair_list_of s.pairs))
 
   -- at most R roots and P pairs, R + 2 P at most 4, and at most the degree
   sizes : (most ≤ 3) × (most ≤ degree_left coeffs - 1) × (total ≤ 4) × (total ≤ degree_left coeffs)
   sizes =
-      let shared = solved_shared coeffs tol in
+      let shared = solved_shared sine coeffs tol in
       let each = length_counted (list_of s.roots) (counted (list_of s.roots) shared.listed) in
-      let pairs = length_pair_list s.pairs (solved_fits coeffs tol).1 in
-      let four = (sound_is (fresh_by s) (solved_sound coeffs tol)).total in
+      let pairs = length_pair_list s.pairs (solved_fits sine coeffs tol).1 in
+      let four = (sound_is (fresh_by s) (solved_sound sine coeffs tol)).total in
       let degree = shared.sum in
       (omega (arith, each, pairs, four), omega (arith, each, degree), omega (arith, pairs, four), omega (arith, degree))
 
-  pub solved_has : Has (real_roots_touching coeffs tol) [] (fresh_by s)
-  solved_has = record { asks_it = solved_asks coeffs tol; has = refl; array = refl; count = refl; sound = solved_sound coeffs tol }
+  pub solved_has : Has (real_roots_touching sine coeffs tol) [] (fresh_by s)
+  solved_has = record { asks_it = solved_asks sine coeffs tol; has = refl; array = refl; count = refl; sound = solved_sound sine coeffs tol }
 
-  pub start_has : Has (real_roots_touching coeffs tol) [] (inquiry_in (start_of coeffs tol))
-  start_has = subst⁻¹ (Has (real_roots_touching coeffs tol) []) (start_is coeffs tol) solved_has
+  pub start_has : Has (real_roots_touching sine coeffs tol) [] (inquiry_in (start_of sine coeffs tol))
+  start_has = subst⁻¹ (Has (real_roots_touching sine coeffs tol) []) (start_is sine coeffs tol) solved_has
 
   -- replies that lead to a question are at most two
-  pub start_room : (rs : List Bool) (x : Float) → walked rs (real_roots_touching coeffs tol) ≡ asks x → length rs < 3
+  pub start_room : (rs : List Bool) (x : Float) → walked rs (real_roots_touching sine coeffs tol) ≡ asks x → length rs < 3
   start_room rs x e =
-      let t = real_roots_touching coeffs tol in
+      let t = real_roots_touching sine coeffs tol in
       let h = subst (AtStage (length rs < most) (ListedIn total)) e (walked_within (ListedIn total) rs most t bounds) in
       omega (arith, h, sizes.0)
 
 -- ---- for a function
-module _ (touches : Float → Bool) (coeffs : List Float) (tol : Float) where
-  asked_most : length (places_asked touches (real_roots_touching coeffs tol)) ≤ most coeffs tol
-  asked_most = places_within (λ m l. ListedIn (total coeffs tol) l) touches (most coeffs tol) (real_roots_touching coeffs tol) (bounds coeffs tol)
+module _ (sine : Sine) (touches : Float → Bool) (coeffs : List Float) (tol : Float) where
+  asked_most : length (places_asked touches (real_roots_touching sine coeffs tol)) ≤ most sine coeffs tol
+  asked_most =
+      places_within (λ m l. ListedIn (total sine coeffs tol) l) touches (most sine coeffs tol) (real_roots_touching sine coeffs tol) (bounds sine coeffs tol)
 
-  pub start_few : length (places_asked touches (real_roots_touching coeffs tol)) ≤ 3
-  start_few = omega (arith, asked_most, (sizes coeffs tol).0)
+  pub start_few : length (places_asked touches (real_roots_touching sine coeffs tol)) ≤ 3
+  start_few = omega (arith, asked_most, (sizes sine coeffs tol).0)
 
-  pub start_fed : Fed touches (inquiry_in (start_of coeffs tol)) coeffs tol
+  pub start_fed : Fed sine touches (inquiry_in (start_of sine coeffs tol)) coeffs tol
   unfolding shown
   start_fed =
-      let t = real_roots_touching coeffs tol in
-      let q = inquiry_in (start_of coeffs tol) in
+      let t = real_roots_touching sine coeffs tol in
+      let q = inquiry_in (start_of sine coeffs tol) in
       let last = fed touches (length (places_asked touches t)) q in
-      let end = ends_with touches t q (start_has coeffs tol) start_few ∙ ap shown (finish touches t) in
+      let end = ends_with touches t q (start_has sine coeffs tol) start_few ∙ ap shown (finish touches t) in
       record {
-        question = asks_at touches t q (start_has coeffs tol) start_few;
+        question = asks_at touches t q (start_has sine coeffs tol) start_few;
         finished = end;
         over = λ r. let refused = sym (reply_refused last r (ap is_question end)) in (refused, ap (value_or last) refused);
       }
 
-  pub start_list : Within (degree_left coeffs) (answered touches (real_roots_touching coeffs tol))
+  pub start_list : Within (degree_left coeffs) (answered touches (real_roots_touching sine coeffs tol))
   start_list =
-      let l = answered touches (real_roots_touching coeffs tol) in
-      let h = answered_within (ListedIn (total coeffs tol)) touches (most coeffs tol) (real_roots_touching coeffs tol) (bounds coeffs tol) in
+      let l = answered touches (real_roots_touching sine coeffs tol) in
+      let h = answered_within (ListedIn (total sine coeffs tol)) touches (most sine coeffs tol) (real_roots_touching sine coeffs tol)
+      (bounds sine coeffs tol) in
       let each = length_counted l (counted l h.0) in
-      record { four = omega (arith, each, h.1, (sizes coeffs tol).2); listed = h.0; sum = omega (arith, h.1, (sizes coeffs tol).3) }
+      record { four = omega (arith, each, h.1, (sizes sine coeffs tol).2); listed = h.0; sum = omega (arith, h.1, (sizes sine coeffs tol).3) }
 
   -- at most degree - 1 questions
-  pub start_most : length (places_asked touches (real_roots_touching coeffs tol)) ≤ degree_left coeffs - 1
-  start_most = omega (arith, asked_most, (sizes coeffs tol).1)
+  pub start_most : length (places_asked touches (real_roots_touching sine coeffs tol)) ≤ degree_left coeffs - 1
+  start_most = omega (arith, asked_most, (sizes sine coeffs tol).1)

@@ -13,6 +13,7 @@ ghost use Rattle.touching.specs.Walk.{left_of, RepliesFit, Held};
 ghost use Rattle.inquiry.specs.Inquiry.{counted_in, sizes_fit, sound_of, list_in, over_by, seen_at, unseen, asked_of, seen_of, replied_of};
 ghost use Rattle.inquiry.specs.Start.{fresh_by, start_of, given, shown_after_of};
 
+use angle::Sine;
 use refusals::Refusal;
 use touching::{Replies, Walker};
 
@@ -122,11 +123,12 @@ fn begun(s: poly::Solved, replies: Replies) -> Inquiry
 }
 
 // 1, 2 and 3 are refused as for a list.
+// `sine` is the mode: the third angle's sine is that of the rounded cosine, as in the reference build, or of the exact one.
 #[tactic(auto, unfolding(crate::specs::Start::start_of))]
-pub fn start(coeffs: &[f64], tol: f64) -> Result<Inquiry, Refusal>
-    ensures { result ≡ start_of coeffs.now tol }
+pub fn start(sine: Sine, coeffs: &[f64], tol: f64) -> Result<Inquiry, Refusal>
+    ensures { result ≡ start_of sine coeffs.now tol }
 {
-    let s = poly::solve(coeffs, tol)?;
+    let s = poly::solve(sine, coeffs, tol)?;
     Ok(begun(s, Replies::default()))
 }
 
@@ -138,10 +140,10 @@ pub fn asked_with(s: poly::Solved, replies: Replies) -> Asked
 }
 
 // What `start` and `see` show with these replies put in at once. The inquiry is not handed out, so a level list is solved without logarithms.
-pub fn shown_after(coeffs: &[f64], tol: f64, replies: Replies) -> Result<Seen, Refusal>
-    ensures { result ≡ shown_after_of coeffs.now tol replies }
+pub fn shown_after(sine: Sine, coeffs: &[f64], tol: f64, replies: Replies) -> Result<Seen, Refusal>
+    ensures { result ≡ shown_after_of sine coeffs.now tol replies }
 {
-    let s = poly::solve_brief(coeffs, tol)?;
+    let s = poly::solve_brief(sine, coeffs, tol)?;
     Ok(begun(s, replies).see())
 }
 

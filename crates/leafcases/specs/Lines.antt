@@ -14,11 +14,13 @@ use Rattle.decode.specs.Exponent.{exponent_of}
 use Rattle.log2.specs.Log.{log2_grid_of}
 use Rattle.sqrt.specs.Root.{sqrt_of}
 use Rattle.cbrt.specs.Root.{cbrt_of}
+use Rattle.angle.specs.declared.Sine.{Sine}
+use Rattle.angle.specs.declared.Sine.TheVariants.{OfRounded, OfExact}
 use Rattle.angle.specs.Third.{third_angle_of}
 use Rattle.ldexp.specs.Total.{pow2_or_nan}
 use Rattle.leafcases.specs.declared.lines.Word.{Word}
 use Rattle.leafcases.specs.declared.lines.Word.TheVariants.{Double, Whole}
-use Rattle.leafcases.specs.Words.{sqrt_word, cbrt_word, third_word, log2_word, ldexp_word, exponent_word, pow2_word, bad_line}
+use Rattle.leafcases.specs.Words.{sqrt_word, cbrt_word, third_word, exact_word, log2_word, ldexp_word, exponent_word, pow2_word, bad_line}
 
 -- ---- a line
 
@@ -35,17 +37,22 @@ words_of words = flat_map word_of words
 unfoldable pub leaf_line_of : List ℕ → List Word → List ℕ
 leaf_line_of name words = name ++ (words_of words ++ (10 ∷ []))
 
+-- the line of a third angle: c, and s by the mode
+abbrev pub third_line_of : List ℕ → Sine → Float → List ℕ
+third_line_of name sine x = let t = third_angle_of sine x in leaf_line_of name (Double x ∷ Double t.cos ∷ Double t.sin ∷ [])
+
 -- the line of a record by its letter, and none where no leaf has the letter
 unfoldable pub leaf_answer_of : ℕ → Float → ℤ → Option (List ℕ)
 leaf_answer_of letter x k =
     cond (eqb letter 115) (Some (leaf_line_of sqrt_word (Double x ∷ Double (sqrt_of x) ∷ [])))
     (cond (eqb letter 99) (Some (leaf_line_of cbrt_word (Double x ∷ Double (cbrt_of x) ∷ [])))
-    (cond (eqb letter 97) (Some (leaf_line_of third_word (Double x ∷ Double (third_angle_of x).cos ∷ Double (third_angle_of x).sin ∷ [])))
+    (cond (eqb letter 97) (Some (third_line_of third_word OfRounded x))
+    (cond (eqb letter 98) (Some (third_line_of exact_word OfExact x))
     (cond (eqb letter 108) (Some (leaf_line_of log2_word (Double x ∷ Double (log2_grid_of x) ∷ [])))
     (cond (eqb letter 100) (Some (leaf_line_of ldexp_word (Double x ∷ Whole k ∷ Double (ldexp_of x k) ∷ [])))
     (cond (eqb letter 101) (Some (leaf_line_of exponent_word (Double x ∷ Whole (exponent_of x) ∷ [])))
     (cond (eqb letter 112) (Some (leaf_line_of pow2_word (Whole k ∷ Double (pow2_or_nan k) ∷ [])))
-    None))))))
+    None)))))))
 
 -- ---- a record
 

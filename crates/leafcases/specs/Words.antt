@@ -13,6 +13,10 @@ cbrt_word = 99 ∷ 98 ∷ 114 ∷ 116 ∷ []
 abbrev pub third_word : List ℕ
 third_word = 116 ∷ 104 ∷ 105 ∷ 114 ∷ 100 ∷ []
 
+-- `exact`, a third angle with the sine of the exact cosine
+abbrev pub exact_word : List ℕ
+exact_word = 101 ∷ 120 ∷ 97 ∷ 99 ∷ 116 ∷ []
+
 -- `log2`
 abbrev pub log2_word : List ℕ
 log2_word = 108 ∷ 111 ∷ 103 ∷ 50 ∷ []

@@ -2,8 +2,9 @@
 ghost use Rattle.std.specs.Prelude.{◌≡◌, ◌+◌, ◌*◌, ◌^◌, ◌<◌, ◌≤◌, length};
 ghost use Rattle.std.proofs.lemmas.List.Edits.{sets};
 ghost use Rattle.text.specs.Written.{Written};
-ghost use Rattle.leafcases.specs.Lines.{word_of, words_of, leaf_line_of, leaf_answer_of, number_at, leaf_record_of, lines_of, Told};
+ghost use Rattle.leafcases.specs.Lines.{word_of, words_of, leaf_line_of, third_line_of, leaf_answer_of, number_at, leaf_record_of, lines_of, Told};
 
+use angle::{Sine, ThirdAngle};
 use text::Text;
 
 // A word of a line behind the first.
@@ -47,6 +48,17 @@ fn put_line(out: &mut Text, name: &[u8], words: &[Word])
     out.byte(b'\n');
 }
 
+// The line of a third angle: c, and s by the mode.
+fn put_third(out: &mut Text, name: &[u8], sine: Sine, x: f64)
+    requires { (out.old.at < 2 ^ 31) × (length name.now ≤ 8) }
+    ensures written { Written out.old (third_line_of name.now sine x) out.new }
+    ensures upper_bound { out.new.at ≤ out.old.at + 60 }
+{
+    let ThirdAngle { cos, sin } = angle::third_angle(sine, x);
+    let words = [Word::Double(x), Word::Double(cos), Word::Double(sin)];
+    put_line(out, name, &words);
+}
+
 // The line of a record by its letter, and whether a leaf has the letter.
 #[tactic(auto, unfolding(crate::specs::Lines::leaf_answer_of))]
 fn put_answer(out: &mut Text, letter: u8, x: f64, k: i32) -> bool
@@ -58,14 +70,8 @@ fn put_answer(out: &mut Text, letter: u8, x: f64, k: i32) -> bool
     match letter {
         b's' => put_line(out, b"sqrt", &[asked, Word::Double(sqrt::sqrt(x))]),
         b'c' => put_line(out, b"cbrt", &[asked, Word::Double(cbrt::cbrt(x))]),
-        b'a' => {
-            let t = angle::third_angle(x);
-            put_line(
-                out,
-                b"third",
-                &[asked, Word::Double(t.cos), Word::Double(t.sin)],
-            );
-        }
+        b'a' => put_third(out, b"third", Sine::OfRounded, x),
+        b'b' => put_third(out, b"exact", Sine::OfExact, x),
         b'l' => put_line(out, b"log2", &[asked, Word::Double(log2::log2_grid(x))]),
         b'd' => put_line(
             out,

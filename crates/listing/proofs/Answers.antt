@@ -16,6 +16,7 @@ use Rattle.roots.specs.Roots.{list_of, roots_of, no_roots}
 use Rattle.roots.specs.Listed.{multiplicities, Within}
 use Rattle.roots.proofs.Laws.{list_roots, length_list, roots_fit}
 use Rattle.roots.proofs.Sums.{counted, length_counted, within_none}
+use Rattle.angle.specs.declared.Sine.{Sine}
 use Rattle.poly.specs.Coefficients.{degree_left}
 use Rattle.poly.specs.RealRoots.{real_roots_of, roots_in}
 use Rattle.poly.proofs.Refusals.{trimmed_is, has_no_root, stands_for}
@@ -53,43 +54,43 @@ pub record ListShort (cs : List Float) (a : Result Roots Refusal) : Type 0 where
   pub fewer : (roots_in a).len ≤ length cs - 1
   pub sum : multiplicities (list_of (roots_in a)) ≤ length cs - 1
 
-module _ (cs : List Float) (tol : Float) where
+module _ (sine : Sine) (cs : List Float) (tol : Float) where
   abbrev list : Roots
-  list = roots_in (real_roots_of cs tol)
+  list = roots_in (real_roots_of sine cs tol)
 
   list_prints : Printable list
-  list_prints = ⊎_elim answered refused (eq-zero-or-pos (outcome_of (real_roots_of cs tol)))
+  list_prints = ⊎_elim answered refused (eq-zero-or-pos (outcome_of (real_roots_of sine cs tol)))
     where
-      answered : outcome_of (real_roots_of cs tol) ≡ 0 → Printable list
+      answered : outcome_of (real_roots_of sine cs tol) ≡ 0 → Printable list
       answered e =
-          let few = ((stands_for cs tol 0 (lit≤ tt)).only_there e).2 in
-          record { fits = answer_fits cs tol; short = omega (arith, (answer_within cs tol).sum, few) }
+          let few = ((stands_for sine cs tol 0 (lit≤ tt)).only_there e).2 in
+          record { fits = answer_fits sine cs tol; short = omega (arith, (answer_within sine cs tol).sum, few) }
 
-      refused : 0 < outcome_of (real_roots_of cs tol) → Printable list
-      refused h = subst⁻¹ Printable (has_no_root cs tol h) none_short
+      refused : 0 < outcome_of (real_roots_of sine cs tol) → Printable list
+      refused h = subst⁻¹ Printable (has_no_root sine cs tol h) none_short
 
-  pub list_short : ListShort cs (real_roots_of cs tol)
+  pub list_short : ListShort cs (real_roots_of sine cs tol)
   list_short =
-      let w = answer_within cs tol in
+      let w = answer_within sine cs tol in
       let each = length_counted (list_of list) (counted (list_of list) w.listed) in
       record {
         roots = list_prints;
-        fewer = omega (arith, length_list list (answer_fits cs tol), each, w.sum, (trimmed_is cs).within);
+        fewer = omega (arith, length_list list (answer_fits sine cs tol), each, w.sum, (trimmed_is cs).within);
         sum = omega (arith, w.sum, (trimmed_is cs).within);
       }
 
 -- ---- cranks
-pub crank_short : (confusion : Float) (trig : TrigEquation) → CrankPrintable (crank_of confusion trig)
+pub crank_short : (sine : Sine) (confusion : Float) (trig : TrigEquation) → CrankPrintable (crank_of sine confusion trig)
 unfolding crank_of
-crank_short confusion trig = go (crank_start_of confusion trig) refl
+crank_short sine confusion trig = go (crank_start_of sine confusion trig) refl
   where
-    all : Cranks confusion trig
-    all = cranks confusion trig
+    all : Cranks sine confusion trig
+    all = cranks sine confusion trig
 
     solved : ℕ × List RealRoot
-    solved = solve_trig_of (λ k u. false) confusion trig
+    solved = solve_trig_of sine (λ k u. false) confusion trig
 
-    go : (start : Result CrankInquiry Refusal) → crank_start_of confusion trig ≡ start
+    go : (start : Result CrankInquiry Refusal) → crank_start_of sine confusion trig ≡ start
         → CrankPrintable (and_then start (λ c. Ok (record { k = solved.0; roots = roots_of solved.1 })))
     go (Ok c) e = (
       subst (λ (k : ℕ). k < 8) (all.k_is (ap outcome_of e) (λ k u. false)) all.eighths,
@@ -102,9 +103,9 @@ crank_listed (Ok a) p = p.1
 crank_listed (Err refusal) p = none_short
 
 -- ---- pin contacts
-pub contact_short : (confusion : Float) (path : Path) (circle : Circle) → Printable (roots_in (pin_contact_of confusion path circle))
-contact_short confusion path circle =
-    let all = contacts confusion path circle in record { fits = all.array; short = omega (arith, all.roots.sum, all.degree) }
+pub contact_short : (sine : Sine) (confusion : Float) (path : Path) (circle : Circle) → Printable (roots_in (pin_contact_of sine confusion path circle))
+contact_short sine confusion path circle =
+    let all = contacts sine confusion path circle in record { fits = all.array; short = omega (arith, all.roots.sum, all.degree) }
 
 -- ---- formulas
 pub record FormulaShort (text : List ℕ) (a : Result Roots Refusal) : Type 0 where
@@ -112,7 +113,7 @@ pub record FormulaShort (text : List ℕ) (a : Result Roots Refusal) : Type 0 wh
   pub few : (roots_in a).len ≤ length text + 1
   pub sum : multiplicities (list_of (roots_in a)) ≤ length text + 1
 
-pub formula_short : (text : List ℕ) (tol : Float) → FormulaShort text (formula_roots_of text tol)
-formula_short text tol =
-    answered_by_list (FormulaShort text) text tol (λ refusal h. record { roots = none_short; few = omega arith; sum = omega arith })
-    (λ cs h. let a = list_short cs tol in record { roots = a.roots; few = omega (arith, a.fewer); sum = omega (arith, a.sum) })
+pub formula_short : (sine : Sine) (text : List ℕ) (tol : Float) → FormulaShort text (formula_roots_of sine text tol)
+formula_short sine text tol =
+    answered_by_list sine (FormulaShort text) text tol (λ refusal h. record { roots = none_short; few = omega arith; sum = omega arith })
+    (λ cs h. let a = list_short sine cs tol in record { roots = a.roots; few = omega (arith, a.fewer); sum = omega (arith, a.sum) })

@@ -12,6 +12,7 @@ use lib.Dec.{ltb}
 use lib.ListN.{length, length-append}
 use Rattle.refusals.specs.declared.Refusal.{Refusal}
 use Rattle.refusals.specs.declared.Refusal.TheVariants.{FileTooLong}
+use Rattle.angle.specs.declared.Sine.{Sine}
 use Rattle.records.specs.declared.Kind.{Kind}
 use Rattle.records.specs.declared.Kind.TheVariants.{Polynomial, Quadratic, Crank, Contact, Formula, Unknown}
 use Rattle.records.specs.declared.Record.{Record}
@@ -27,78 +28,78 @@ use Rattle.listing.proofs.Asked.{polynomial_at_length, quadratic_at_length, form
 use Rattle.records.proofs.Places.{whole_of, record_by, record_forward}
 
 -- ---- a line
-ended_length : (s : List ℕ) (at : ℕ) (kind : Kind) (refusal : Refusal) → length (words_of s at (ended_of kind refusal s)) ≤ 10
+ended_length : (sine : Sine) (s : List ℕ) (at : ℕ) (kind : Kind) (refusal : Refusal) → length (words_of sine s at (ended_of kind refusal s)) ≤ 10
 unfolding words_of
-ended_length s at kind refusal = refused_length refusal
+ended_length sine s at kind refusal = refused_length refusal
 
 -- the last line, of 20 bytes at most, or one of eight bytes for each that was read
-Short : List ℕ → ℕ → ℕ → Record → Type 0
-Short s at n r = ((length s ≤ r.next) × (length (line_of n s at r) ≤ 20)) ⊎ (length (line_of n s at r) + 8 * at ≤ 8 * r.next)
+Short : Sine → List ℕ → ℕ → ℕ → Record → Type 0
+Short sine s at n r = ((length s ≤ r.next) × (length (line_of sine n s at r) ≤ 20)) ⊎ (length (line_of sine n s at r) + 8 * at ≤ 8 * r.next)
 
-record_short : (s : List ℕ) (at n : ℕ) → n < 100000 → Short s at n (record_at s at)
+record_short : (sine : Sine) (s : List ℕ) (at n : ℕ) → n < 100000 → Short sine s at n (record_at s at)
 unfolding Short words_of
-record_short s at n few =
+record_short sine s at n few =
     let polynomial = whole_of Polynomial (at + (11 + 8 * count_at s at)) in
     let quadratic = whole_of Quadratic (at + 42) in
     let crank = whole_of Crank (at + 50) in
     let contact = whole_of Contact (at + 82) in
     let formula = whole_of Formula (at + (11 + count_at s at)) in
-    record_by (Short s at n) s at
-    (λ kind refusal. inl (omega arith, omega (arith, line_length n s at (ended_of kind refusal s) few, ended_length s at kind refusal)))
-    (λ c h. inr (omega (arith, line_length n s at polynomial few, polynomial_at_length s at, answer_length s at Polynomial)))
-    (λ h. inr (omega (arith, line_length n s at quadratic few, quadratic_at_length s at)))
-    (λ h. inr (omega (arith, line_length n s at crank few, answer_length s at Crank)))
-    (λ h. inr (omega (arith, line_length n s at contact few, answer_length s at Contact)))
-    (λ h. inr (omega (arith, line_length n s at formula few, formula_at_length s at, answer_length s at Formula)))
+    record_by (Short sine s at n) s at
+    (λ kind refusal. inl (omega arith, omega (arith, line_length sine n s at (ended_of kind refusal s) few, ended_length sine s at kind refusal)))
+    (λ c h. inr (omega (arith, line_length sine n s at polynomial few, polynomial_at_length sine s at, answer_length sine s at Polynomial)))
+    (λ h. inr (omega (arith, line_length sine n s at quadratic few, quadratic_at_length sine s at)))
+    (λ h. inr (omega (arith, line_length sine n s at crank few, answer_length sine s at Crank)))
+    (λ h. inr (omega (arith, line_length sine n s at contact few, answer_length sine s at Contact)))
+    (λ h. inr (omega (arith, line_length sine n s at formula few, formula_at_length sine s at, answer_length sine s at Formula)))
 
 -- ---- the lines from a place on
-pub lines_end : (f : ℕ) (s : List ℕ) (at n : ℕ) → length s ≤ at → lines_from f s at n ≡ []
+pub lines_end : (sine : Sine) (f : ℕ) (s : List ℕ) (at n : ℕ) → length s ≤ at → lines_from sine f s at n ≡ []
 unfolding lines_from
-lines_end zero s at n h = refl
-lines_end (suc f) s at n h = simp (le-ltb _ _ h)
+lines_end sine zero s at n h = refl
+lines_end sine (suc f) s at n h = simp (le-ltb _ _ h)
 
 -- the line at at, and those behind it, of which the bound is known
-line_and_rest : (f : ℕ) (s : List ℕ) (at n : ℕ) → at < length s → n + (length s - at) < 100000
-    → ((j : ℕ) → n + 1 + (length s - j) < 100000 → length (lines_from f s j (n + 1)) ≤ 8 * (length s - j) + 20)
-    → length (line_of n s at (record_at s at) ++ lines_from f s (record_at s at).next (n + 1)) ≤ 8 * (length s - at) + 20
+line_and_rest : (sine : Sine) (f : ℕ) (s : List ℕ) (at n : ℕ) → at < length s → n + (length s - at) < 100000
+    → ((j : ℕ) → n + 1 + (length s - j) < 100000 → length (lines_from sine f s j (n + 1)) ≤ 8 * (length s - j) + 20)
+    → length (line_of sine n s at (record_at s at) ++ lines_from sine f s (record_at s at).next (n + 1)) ≤ 8 * (length s - at) + 20
 unfolding Short
-line_and_rest f s at n inside few rest =
+line_and_rest sine f s at n inside few rest =
     let r = record_at s at in
-    let line = line_of n s at r in
-    let more = lines_from f s r.next (n + 1) in
+    let line = line_of sine n s at r in
+    let more = lines_from sine f s r.next (n + 1) in
     let on = record_forward s at inside in
     ⊎_elim
-    (λ end. omega (arith, length-append line more, ap length (lines_end f s r.next (n + 1) end.0), end.1))
+    (λ end. omega (arith, length-append line more, ap length (lines_end sine f s r.next (n + 1) end.0), end.1))
     (λ far. omega (arith, length-append line more, rest r.next (omega (arith, on.past, on.within)), on.past, on.within, far))
-    (record_short s at n (omega arith))
+    (record_short sine s at n (omega arith))
 
-lines_length : (f : ℕ) (s : List ℕ) (at n : ℕ) → n + (length s - at) < 100000 → length (lines_from f s at n) ≤ 8 * (length s - at) + 20
+lines_length : (sine : Sine) (f : ℕ) (s : List ℕ) (at n : ℕ) → n + (length s - at) < 100000 → length (lines_from sine f s at n) ≤ 8 * (length s - at) + 20
 unfolding lines_from
-lines_length zero s at n h = omega arith
-lines_length (suc f) s at n h = go (ltb at (length s)) refl (λ j p. lines_length f s j (n + 1) p)
+lines_length sine zero s at n h = omega arith
+lines_length sine (suc f) s at n h = go (ltb at (length s)) refl (λ j p. lines_length sine f s j (n + 1) p)
   where
     all : List ℕ
-    all = line_of n s at (record_at s at) ++ lines_from f s (record_at s at).next (n + 1)
+    all = line_of sine n s at (record_at s at) ++ lines_from sine f s (record_at s at).next (n + 1)
 
     go : (b : Bool) → ltb at (length s) ≡ b
-        → ((j : ℕ) → n + 1 + (length s - j) < 100000 → length (lines_from f s j (n + 1)) ≤ 8 * (length s - j) + 20)
+        → ((j : ℕ) → n + 1 + (length s - j) < 100000 → length (lines_from sine f s j (n + 1)) ≤ 8 * (length s - j) + 20)
         → length (cond b all []) ≤ 8 * (length s - at) + 20
     go false e rest = omega arith
-    go true e rest = line_and_rest f s at n (ltb-true at (length s) e) h rest
+    go true e rest = line_and_rest sine f s at n (ltb-true at (length s) e) h rest
 
-pub all_lines_fit : (s : List ℕ) → length s ≤ 65536 → length (lines_from (length s) s 0 1) ≤ 524308
-all_lines_fit s h = omega (arith, lines_length (length s) s 0 1 (omega arith))
+pub all_lines_fit : (sine : Sine) (s : List ℕ) → length s ≤ 65536 → length (lines_from sine (length s) s 0 1) ≤ 524308
+all_lines_fit sine s h = omega (arith, lines_length sine (length s) s 0 1 (omega arith))
 
-pub record_lines_fit : (s : List ℕ) → length (record_lines s) ≤ 524308
+pub record_lines_fit : (sine : Sine) (s : List ℕ) → length (record_lines sine s) ≤ 524308
 unfolding record_lines
-record_lines_fit s = go (ltb 65536 (length s)) refl
+record_lines_fit sine s = go (ltb 65536 (length s)) refl
   where
     last : Record
     last = ended_of Unknown FileTooLong s
 
-    go : (b : Bool) → ltb 65536 (length s) ≡ b → length (cond b (line_of 0 s 0 last) (lines_from (length s) s 0 1)) ≤ 524308
-    go true e = omega (arith, line_length 0 s 0 last (omega arith), ended_length s 0 Unknown FileTooLong)
-    go false e = all_lines_fit s (ltb-false 65536 (length s) e)
+    go : (b : Bool) → ltb 65536 (length s) ≡ b → length (cond b (line_of sine 0 s 0 last) (lines_from sine (length s) s 0 1)) ≤ 524308
+    go true e = omega (arith, line_length sine 0 s 0 last (omega arith), ended_length sine s 0 Unknown FileTooLong)
+    go false e = all_lines_fit sine s (ltb-false 65536 (length s) e)
 
 -- ---- the total, of which no number has more than five digits
 total_length : (t : Total) → AtMost 65536 t → length (total_text t) ≤ 20
@@ -115,12 +116,12 @@ total_length t h =
       five_digits {n = t.multiplicities} (omega (arith, h.multiplicities)),
     )
 
-pub listing_fits : (s : List ℕ) → length (listing s) ≤ 524328
+pub listing_fits : (sine : Sine) (s : List ℕ) → length (listing sine s) ≤ 524328
 unfolding listing
-listing_fits s =
+listing_fits sine s =
     omega (
       arith,
-      length-append (record_lines s) (total_text (total_of s)),
-      record_lines_fit s,
-      total_length (total_of s) (total_fits s),
+      length-append (record_lines sine s) (total_text (total_of sine s)),
+      record_lines_fit sine s,
+      total_length (total_of sine s) (total_fits sine s),
     )

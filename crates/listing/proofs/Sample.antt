@@ -6,6 +6,7 @@ use mathlib.Core.List.{List, [], ◌∷◌, ◌++◌, map}
 use Prim.Native.Nat.{ℕ, ◌+◌}
 use lib.ListN.{replicate, drop}
 use Rattle.float.specs.Literals.{zero64}
+use Rattle.angle.specs.declared.Sine.{Sine}
 use Rattle.text.specs.Digits.{hex_digits, decimal}
 use Rattle.roots.specs.declared.RealRoot.{RealRoot}
 use Rattle.roots.specs.Roots.{kind_of, root_by, root}
@@ -63,18 +64,18 @@ rows =
     ∷ row (pc ++ replicate 79 0) pc 7
     ∷ []
 
-refusals : map (λ (r : Row). listing r.file) rows ≡ map (λ (r : Row). line 1 r.mark r.number ++ total 1) rows
+refusals : (sine : Sine) → map (λ (r : Row). listing sine r.file) rows ≡ map (λ (r : Row). line 1 r.mark r.number ++ total 1) rows
 unfolding rows listing decimal
-refusals = refl
+refusals sine = refl
 
 -- the empty file, and a list of no coefficient before an unknown mark
-empty : listing [] ≡ total 0
+empty : (sine : Sine) → listing sine [] ≡ total 0
 unfolding listing decimal
-empty = refl
+empty sine = refl
 
-goes_on : listing (pl ++ (replicate 9 0 ++ (88 ∷ 88 ∷ []))) ≡ line 1 pl 2 ++ (line 2 unknown 6 ++ total 2)
+goes_on : (sine : Sine) → listing sine (pl ++ (replicate 9 0 ++ (88 ∷ 88 ∷ []))) ≡ line 1 pl 2 ++ (line 2 unknown 6 ++ total 2)
 unfolding listing real_roots_of answer_of unscaled_all solve_of counted_by trimmed_of trimmed_from decimal
-goes_on = refl
+goes_on sine = refl
 
 -- ` 1 c`, ` 2 b`, ` 2 f`
 kinds : map (λ (r : RealRoot). drop 17 (root_text r)) (root zero64 1 ∷ root_by true zero64 2 ∷ root zero64 2 ∷ [])

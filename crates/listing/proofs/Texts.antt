@@ -5,6 +5,7 @@ use Prim.Native.Nat.{ℕ, zero, suc, ◌+◌, ◌*◌, ◌^◌, ◌<◌, ◌≤�
 use native.Mathlib.Omega.{arith}
 use lib.ListN.{length, get_or, length-append}
 use lib.Ieee.{Float, binary64, to_bits}
+use Rattle.angle.specs.declared.Sine.{Sine}
 use Rattle.text.specs.Digits.{decimal}
 use Rattle.text.proofs.Digits.{decimal_length, hex_length}
 use Rattle.std.specs.Prelude.{Option, Some, None, Result, Ok, Err}
@@ -143,10 +144,11 @@ head_length n kind h =
       mark_length kind,
     )
 
-pub line_length : (n : ℕ) (s : List ℕ) (at : ℕ) (found : Record) → n < 100000 → length (line_of n s at found) ≤ 10 + length (words_of s at found)
+pub line_length : (sine : Sine) (n : ℕ) (s : List ℕ) (at : ℕ) (found : Record) → n < 100000
+    → length (line_of sine n s at found) ≤ 10 + length (words_of sine s at found)
 unfolding line_of
-line_length n s at found h =
-    let words = words_of s at found in
+line_length sine n s at found h =
+    let words = words_of sine s at found in
     omega (
       arith,
       length-append (head_of n found.kind) (words ++ (10 ∷ [])),

@@ -13,6 +13,7 @@ use Rattle.facts.specs.Lists.{sum_snoc}
 use Rattle.roots.specs.declared.RealRoot.{RealRoot}
 use Rattle.roots.specs.Roots.{list_of, no_roots}
 use Rattle.roots.specs.Listed.{multiplicities}
+use Rattle.angle.specs.declared.Sine.{Sine}
 use Rattle.records.specs.declared.Kind.{Kind}
 use Rattle.records.specs.declared.Kind.TheVariants.{Polynomial, Quadratic, Crank, Contact, Formula}
 use Rattle.refusals.specs.declared.Refusal.{Refusal}
@@ -68,52 +69,52 @@ at_most_sum p q g h =
     }
 
 -- ---- a record has at least as many bytes as it lists roots, each counted as often as its multiplicity says
-module _ (s : List ℕ) (at : ℕ) (inside : at < length s) where
-  refused_at_most : (kind : Kind) (refusal : Refusal) → AtMost (length s - at) (record_total s at (ended_of kind refusal s))
+module _ (sine : Sine) (s : List ℕ) (at : ℕ) (inside : at < length s) where
+  refused_at_most : (kind : Kind) (refusal : Refusal) → AtMost (length s - at) (record_total sine s at (ended_of kind refusal s))
   unfolding record_total
   refused_at_most kind refusal = record { records = omega arith; roots = omega arith; multiplicities = omega arith }
 
-  whole_at_most : (kind : Kind) (size : ℕ) → 11 ≤ size → multiplicities (list_of (listed_at kind s at)) ≤ size
-      → AtMost (at + size - at) (record_total s at (whole_of kind (at + size)))
+  whole_at_most : (kind : Kind) (size : ℕ) → 11 ≤ size → multiplicities (list_of (listed_at sine kind s at)) ≤ size
+      → AtMost (at + size - at) (record_total sine s at (whole_of kind (at + size)))
   unfolding record_total
   whole_at_most kind size h sum =
-      record { records = omega arith; roots = omega (arith, (listed_prints s at kind).fits.1); multiplicities = omega (arith, sum) }
+      record { records = omega arith; roots = omega (arith, (listed_prints sine s at kind).fits.1); multiplicities = omega (arith, sum) }
 
-  record_at_most : AtMost ((record_at s at).next - at) (record_total s at (record_at s at))
+  record_at_most : AtMost ((record_at s at).next - at) (record_total sine s at (record_at s at))
   record_at_most =
-      record_by (λ (r : Record). AtMost (r.next - at) (record_total s at r)) s at refused_at_most
-      (λ c h. whole_at_most Polynomial (11 + 8 * count_at s at) (omega arith) (omega (arith, polynomial_sum s at)))
-      (λ h. whole_at_most Quadratic 42 (omega arith) (omega (arith, quadratic_sum s at)))
-      (λ h. whole_at_most Crank 50 (omega arith) (omega (arith, crank_sum s at)))
-      (λ h. whole_at_most Contact 82 (omega arith) (omega (arith, contact_sum s at)))
-      (λ h. whole_at_most Formula (11 + count_at s at) (omega arith) (omega (arith, formula_sum s at)))
+      record_by (λ (r : Record). AtMost (r.next - at) (record_total sine s at r)) s at refused_at_most
+      (λ c h. whole_at_most Polynomial (11 + 8 * count_at s at) (omega arith) (omega (arith, polynomial_sum sine s at)))
+      (λ h. whole_at_most Quadratic 42 (omega arith) (omega (arith, quadratic_sum sine s at)))
+      (λ h. whole_at_most Crank 50 (omega arith) (omega (arith, crank_sum sine s at)))
+      (λ h. whole_at_most Contact 82 (omega arith) (omega (arith, contact_sum sine s at)))
+      (λ h. whole_at_most Formula (11 + count_at s at) (omega arith) (omega (arith, formula_sum sine s at)))
 
-from_at_most : (f : ℕ) (s : List ℕ) (at : ℕ) → AtMost (length s - at) (total_from f s at)
+from_at_most : (sine : Sine) (f : ℕ) (s : List ℕ) (at : ℕ) → AtMost (length s - at) (total_from sine f s at)
 unfolding total_from
-from_at_most zero s at = record { records = omega arith; roots = omega arith; multiplicities = omega arith }
-from_at_most (suc f) s at = go (ltb at (length s)) refl (from_at_most f s (record_at s at).next)
+from_at_most sine zero s at = record { records = omega arith; roots = omega arith; multiplicities = omega arith }
+from_at_most sine (suc f) s at = go (ltb at (length s)) refl (from_at_most sine f s (record_at s at).next)
   where
     found : Record
     found = record_at s at
 
-    go : (b : Bool) → ltb at (length s) ≡ b → AtMost (length s - found.next) (total_from f s found.next)
-        → AtMost (length s - at) (cond b (plus (record_total s at found) (total_from f s found.next)) no_total)
+    go : (b : Bool) → ltb at (length s) ≡ b → AtMost (length s - found.next) (total_from sine f s found.next)
+        → AtMost (length s - at) (cond b (plus (record_total sine s at found) (total_from sine f s found.next)) no_total)
     go true e rest =
         let inside = ltb-true at (length s) e in
         let on = record_forward s at inside in
-        at_most_sum (omega (arith, on.past)) on.within (record_at_most s at inside) rest
+        at_most_sum (omega (arith, on.past)) on.within (record_at_most sine s at inside) rest
     go false e rest = record { records = omega arith; roots = omega arith; multiplicities = omega arith }
 
 -- the numbers fit
-pub all_at_most : (s : List ℕ) → length s ≤ 65536 → AtMost 65536 (total_from (length s) s 0)
-all_at_most s h =
-    let t = from_at_most (length s) s 0 in
+pub all_at_most : (sine : Sine) (s : List ℕ) → length s ≤ 65536 → AtMost 65536 (total_from sine (length s) s 0)
+all_at_most sine s h =
+    let t = from_at_most sine (length s) s 0 in
     record { records = omega (arith, t.records); roots = omega (arith, t.roots); multiplicities = omega (arith, t.multiplicities) }
 
-pub total_fits : (s : List ℕ) → AtMost 65536 (total_of s)
+pub total_fits : (sine : Sine) (s : List ℕ) → AtMost 65536 (total_of sine s)
 unfolding total_of
-total_fits s = go (ltb 65536 (length s)) refl
+total_fits sine s = go (ltb 65536 (length s)) refl
   where
-    go : (b : Bool) → ltb 65536 (length s) ≡ b → AtMost 65536 (cond b (line_total no_roots) (total_from (length s) s 0))
+    go : (b : Bool) → ltb 65536 (length s) ≡ b → AtMost 65536 (cond b (line_total no_roots) (total_from sine (length s) s 0))
     go true e = record { records = omega arith; roots = omega arith; multiplicities = omega arith }
-    go false e = all_at_most s (ltb-false 65536 (length s) e)
+    go false e = all_at_most sine s (ltb-false 65536 (length s) e)

@@ -1,6 +1,7 @@
 -- The solver's answers to the numbers of a record that stands whole. Definitions only.
 use Rattle.std.specs.Prelude.{List, ℕ, ◌+◌, take, drop, Result}
 use Rattle.float.specs.Bytes.{f64_at}
+use Rattle.angle.specs.declared.Sine.{Sine}
 use Rattle.lent_bytes.specs.Bytes.{f64s_at}
 use Rattle.refusals.specs.declared.Refusal.{Refusal}
 use Rattle.roots.specs.declared.Roots.{Roots}
@@ -17,9 +18,9 @@ use Rattle.formula_roots.specs.FormulaRoots.{formula_roots_of}
 use Rattle.records.specs.Records.{count_at}
 
 -- 'PL: count byte, tolerance, that many coefficients'
-unfoldable pub polynomial_at : List ℕ → ℕ → Result Roots Refusal
+unfoldable pub polynomial_at : Sine → List ℕ → ℕ → Result Roots Refusal
 unfolding f64s_at
-polynomial_at s at = real_roots_of (f64s_at (count_at s at) s (at + 11)) (f64_at s (at + 3))
+polynomial_at sine s at = real_roots_of sine (f64s_at (count_at s at) s (at + 11)) (f64_at s (at + 3))
 
 -- 'QD: confusion, angular, a, b, c'
 unfoldable pub quadratic_at : List ℕ → ℕ → Result QuadraticSolution Refusal
@@ -33,8 +34,8 @@ abbrev pub trig_at : List ℕ → ℕ → TrigEquation
 trig_at s at =
     record { a2 = f64_at s (at + 10); b2 = f64_at s (at + 18); c1 = f64_at s (at + 26); d1 = f64_at s (at + 34); e = f64_at s (at + 42) }
 
-unfoldable pub crank_at : List ℕ → ℕ → Result CrankAnswer Refusal
-crank_at s at = crank_of (f64_at s (at + 2)) (trig_at s at)
+unfoldable pub crank_at : Sine → List ℕ → ℕ → Result CrankAnswer Refusal
+crank_at sine s at = crank_of sine (f64_at s (at + 2)) (trig_at s at)
 
 -- 'A record PC holds confusion, x0, x1, x2, y0, y1, y2 .., the circle's centre cx, cy and radius R'
 abbrev pub path_at : List ℕ → ℕ → Path
@@ -51,12 +52,12 @@ path_at s at =
 abbrev pub circle_at : List ℕ → ℕ → Circle
 circle_at s at = record { cx = f64_at s (at + 58); cy = f64_at s (at + 66); r = f64_at s (at + 74) }
 
-unfoldable pub contact_at : List ℕ → ℕ → Result Roots Refusal
-contact_at s at = pin_contact_of (f64_at s (at + 2)) (path_at s at) (circle_at s at)
+unfoldable pub contact_at : Sine → List ℕ → ℕ → Result Roots Refusal
+contact_at sine s at = pin_contact_of sine (f64_at s (at + 2)) (path_at s at) (circle_at s at)
 
 -- 'A record TX holds a length byte 0 to 255, a tolerance and that much ASCII'
 abbrev pub text_at : List ℕ → ℕ → List ℕ
 text_at s at = take (count_at s at) (drop (at + 11) s)
 
-unfoldable pub formula_at : List ℕ → ℕ → Result Roots Refusal
-formula_at s at = formula_roots_of (text_at s at) (f64_at s (at + 3))
+unfoldable pub formula_at : Sine → List ℕ → ℕ → Result Roots Refusal
+formula_at sine s at = formula_roots_of sine (text_at s at) (f64_at s (at + 3))

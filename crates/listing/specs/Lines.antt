@@ -5,6 +5,7 @@ use Rattle.std.specs.Float.{binary64}
 use Rattle.std.specs.Float.Ieee.{to_bits}
 use Rattle.refusals.specs.declared.Refusal.{Refusal}
 use Rattle.refusals.specs.Refusals.{number_of}
+use Rattle.angle.specs.declared.Sine.{Sine}
 use Rattle.text.specs.Digits.{hex_digits, decimal}
 use Rattle.roots.specs.declared.RootKind.{RootKind}
 use Rattle.roots.specs.declared.RealRoot.{RealRoot}
@@ -82,28 +83,28 @@ crank_text (Err refusal) = refused_text (number_of refusal)
 -- ---- the line
 
 -- what the solver answers to a record that stands whole; of PC: 'The line prints like PL', of TX: 'whose answer or refusal prints like PL'
-unfoldable pub answer_text : Kind → List ℕ → ℕ → List ℕ
+unfoldable pub answer_text : Sine → Kind → List ℕ → ℕ → List ℕ
 unfolding polynomial_text quadratic_text crank_text polynomial_at quadratic_at crank_at contact_at formula_at
-answer_text Polynomial s at = polynomial_text (polynomial_at s at)
-answer_text Quadratic s at = quadratic_text (quadratic_at s at)
-answer_text Crank s at = crank_text (crank_at s at)
-answer_text Contact s at = polynomial_text (contact_at s at)
-answer_text Formula s at = polynomial_text (formula_at s at)
-answer_text Unknown s at = []
+answer_text sine Polynomial s at = polynomial_text (polynomial_at sine s at)
+answer_text sine Quadratic s at = quadratic_text (quadratic_at s at)
+answer_text sine Crank s at = crank_text (crank_at sine s at)
+answer_text sine Contact s at = polynomial_text (contact_at sine s at)
+answer_text sine Formula s at = polynomial_text (formula_at sine s at)
+answer_text sine Unknown s at = []
 
 -- what stands behind the mark
-unfoldable pub words_of : List ℕ → ℕ → Record → List ℕ
+unfoldable pub words_of : Sine → List ℕ → ℕ → Record → List ℕ
 unfolding answer_text refused_text
-words_of s at found = or_refused found.refused (answer_text found.kind s at)
+words_of sine s at found = or_refused found.refused (answer_text sine found.kind s at)
 
 -- 'its number from 1, its mark'
 unfoldable pub head_of : ℕ → Kind → List ℕ
 head_of n kind = decimal n ++ (32 ∷ mark_of kind ++ (32 ∷ []))
 
 -- the n-th line, that of the record at at
-unfoldable pub line_of : ℕ → List ℕ → ℕ → Record → List ℕ
+unfoldable pub line_of : Sine → ℕ → List ℕ → ℕ → Record → List ℕ
 unfolding head_of words_of
-line_of n s at found = head_of n found.kind ++ (words_of s at found ++ (10 ∷ []))
+line_of sine n s at found = head_of n found.kind ++ (words_of sine s at found ++ (10 ∷ []))
 
 -- the last line: 'After the last record `hallroots` prints `T`, the number of record lines, the number of roots listed and the sum of their multiplicities'
 unfoldable pub total_text : Total → List ℕ

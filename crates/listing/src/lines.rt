@@ -14,6 +14,7 @@ ghost use Rattle.listing.specs.Totals.{line_total, listed_at, record_total};
 ghost use Rattle.listing.specs.Printable.{Printable, CrankPrintable};
 
 use crate::total::Total;
+use angle::Sine;
 use crank::CrankAnswer;
 use records::{Kind, Record};
 use refusals::Refusal;
@@ -164,17 +165,17 @@ fn put_crank(out: &mut Text, a: Result<CrankAnswer, Refusal>) -> Total
 
 // What the solver answers to the record at `at`, which stands whole; its line's total.
 #[tactic(auto, using(crate::proofs::Asked::prints), unfolding(crate::specs::Lines::answer_text, crate::specs::Totals::listed_at))]
-fn put_answer(out: &mut Text, s: &[u8], at: usize, kind: Kind) -> Total
+fn put_answer(sine: Sine, out: &mut Text, s: &[u8], at: usize, kind: Kind) -> Total
     requires { (out.old.at < 2 ^ 31) × Whole kind s.now at }
-    ensures text { Written out.old (answer_text kind s.now at) out.new }
-    ensures total { result ≡ line_total (listed_at kind s.now at) }
+    ensures text { Written out.old (answer_text sine kind s.now at) out.new }
+    ensures total { result ≡ line_total (listed_at sine kind s.now at) }
 {
     match kind {
-        Kind::Polynomial => put_polynomial(out, crate::numbers::polynomial_at(s, at)),
+        Kind::Polynomial => put_polynomial(out, crate::numbers::polynomial_at(sine, s, at)),
         Kind::Quadratic => put_quadratic(out, crate::numbers::quadratic_at(s, at)),
-        Kind::Crank => put_crank(out, crate::numbers::crank_at(s, at)),
-        Kind::Contact => put_polynomial(out, crate::numbers::contact_at(s, at)),
-        Kind::Formula => put_polynomial(out, crate::numbers::formula_at(s, at)),
+        Kind::Crank => put_crank(out, crate::numbers::crank_at(sine, s, at)),
+        Kind::Contact => put_polynomial(out, crate::numbers::contact_at(sine, s, at)),
+        Kind::Formula => put_polynomial(out, crate::numbers::formula_at(sine, s, at)),
         Kind::Unknown => Total::LINE,
     }
 }
@@ -192,28 +193,28 @@ fn put_head(out: &mut Text, n: u64, kind: Kind)
 
 // What stands behind the mark.
 #[tactic(auto, unfolding(crate::specs::Lines::words_of, crate::specs::Totals::record_total))]
-fn put_words(out: &mut Text, s: &[u8], at: usize, found: Record) -> Total
+fn put_words(sine: Sine, out: &mut Text, s: &[u8], at: usize, found: Record) -> Total
     requires { (out.old.at < 2 ^ 31) × Sound found s.now at }
-    ensures text { Written out.old (words_of s.now at found) out.new }
-    ensures total { result ≡ record_total s.now at found }
+    ensures text { Written out.old (words_of sine s.now at found) out.new }
+    ensures total { result ≡ record_total sine s.now at found }
 {
     let kind = found.kind;
     match found.refused {
         Some(refusal) => put_refused(out, refusal),
-        None => put_answer(out, s, at, kind),
+        None => put_answer(sine, out, s, at, kind),
     }
 }
 
 // The n-th line, that of the record at `at`; its total.
 #[tactic(auto, using(crate::proofs::Texts::head_length, crate::proofs::Texts::five_digits, crate::proofs::Asked::words_length))]
-pub fn put_line(out: &mut Text, n: u64, s: &[u8], at: usize, found: Record) -> Total
+pub fn put_line(sine: Sine, out: &mut Text, n: u64, s: &[u8], at: usize, found: Record) -> Total
     requires { (out.old.at < 2 ^ 30) × ((n < 100000) × Sound found s.now at) }
-    ensures text { Written out.old (line_of n s.now at found) out.new }
-    ensures total { result ≡ record_total s.now at found }
+    ensures text { Written out.old (line_of sine n s.now at found) out.new }
+    ensures total { result ≡ record_total sine s.now at found }
 {
     let kind = found.kind;
     put_head(out, n, kind);
-    let total = put_words(out, s, at, found);
+    let total = put_words(sine, out, s, at, found);
     out.byte(b'\n');
     total
 }

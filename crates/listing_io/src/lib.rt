@@ -8,7 +8,9 @@ ghost use Rattle.std.proofs.lemmas.List.Edits.{sets};
 ghost use Rattle.std.specs.Io.KnownBytes.{Consumes, IsAtEnd};
 ghost use Rattle.listing_io.specs.Counts.{IsPrefixLen};
 ghost use Rattle.listing.specs.File.{listing};
+ghost use Rattle.angle.specs.declared.Sine.TheVariants.{OfExact};
 
+use angle::Sine;
 use std::io;
 use std::io::Read;
 
@@ -28,16 +30,17 @@ pub struct Listed {
 }
 
 // Reads to the end of what `from` gives, or until file is full, and stores the listing of what was read from the start of out on; where a read fails, nothing.
+// The mode is the lanes': the third angle's sine is that of the exact cosine.
 pub fn list_fd<R: Read>(from: &mut R, file: &mut [u8], out: &mut [u8; 524328]) -> io::Result<Listed>
     ensures read_in_bounds { IfOk result (λ l. l.read ≤ length file.new) }
     ensures read_bytes { IfOk result (λ l. Consumes (R.remaining from.old) (R.remaining from.new) (take l.read file.new)) }
     ensures read_end { IfOk result (λ l. l.read < length file.new → IsAtEnd (R.remaining from.new)) }
-    ensures len_value { IfOk result (λ l. l.len ≡ length (listing (take l.read file.new))) }
-    ensures out_after { IfOk result (λ l. out.new ≡ sets out.old 0 (listing (take l.read file.new))) }
+    ensures len_value { IfOk result (λ l. l.len ≡ length (listing OfExact (take l.read file.new))) }
+    ensures out_after { IfOk result (λ l. out.new ≡ sets out.old 0 (listing OfExact (take l.read file.new))) }
     ensures prefix_len { IfOk result (λ l. IsPrefixLen l.len out.new) }
     ensures failed { OnErr result (out.new ≡ out.old) }
 {
     let read = input::read_file(from, file)?;
-    let len = listing::list_file(&file[..read], out);
+    let len = listing::list_file(Sine::OfExact, &file[..read], out);
     Ok(Listed { read, len })
 }

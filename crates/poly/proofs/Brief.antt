@@ -12,6 +12,7 @@ use Rattle.facts.specs.Cond.{either_way}
 use Rattle.facts.specs.Count.{count_up}
 use Rattle.float.specs.Literals.{inf64}
 use Rattle.float.specs.Methods.{is_finite_of}
+use Rattle.angle.specs.declared.Sine.{Sine}
 use Rattle.scaled.specs.declared.Scaled.{Scaled}
 use Rattle.scaled.specs.Scaled.{scaled_of, log_sizes_of, with_logs_of}
 use Rattle.split.specs.Hull.{hull_of, hull_step}
@@ -31,9 +32,9 @@ use Rattle.poly.specs.Brief.{Enough, other_logs, relogged}
 use Rattle.poly.specs.Solve.{candidates_of, finished_of}
 
 -- ---- the factors
-no_second : (sc : Scaled) → magnitude_split_of sc.lg sc.d ≡ None → factorize_of sc 0 ≡ out_of sc.g sc.d
+no_second : (sine : Sine) (sc : Scaled) → magnitude_split_of sc.lg sc.d ≡ None → factorize_of sine sc 0 ≡ out_of sine sc.g sc.d
 unfolding factorize_of factors_from second_of
-no_second sc e = rw e (either_way (λ (f : Factors). f ≡ out_of sc.g sc.d) (leb sc.d 2) refl refl)
+no_second sine sc e = rw e (either_way (λ (f : Factors). f ≡ out_of sine sc.g sc.d) (leb sc.d 2) refl refl)
 
 none_found : (d : ℕ) → d ≤ 4 → magnitude_split_of (replicate 5 (neg inf64)) d ≡ None
 unfolding magnitude_split_of hull_of hull_step count_up split_from is_finite_of neg of_bits
@@ -67,21 +68,22 @@ module _ (sc : Scaled) (lg : List Float) where
       go [] = refl
       go (a ∷ l) = same_joined tol [] a l
 
-  same_solved : (zeros : ℕ) (tol : Float) → factorize_of other 0 ≡ factorize_of sc 0 → finished_of other zeros tol ≡ relogged lg (finished_of sc zeros tol)
+  same_solved : (sine : Sine) (zeros : ℕ) (tol : Float) → factorize_of sine other 0 ≡ factorize_of sine sc 0
+      → finished_of sine other zeros tol ≡ relogged lg (finished_of sine sc zeros tol)
   unfolding finished_of
-  same_solved zeros tol e =
-      let c : candidates_of other zeros (factorize_of other 0) tol ≡ candidates_of sc zeros (factorize_of sc 0) tol =
-      ap (λ (f : Factors). candidates_of other zeros f tol) e ∙ same_candidates zeros (factorize_of sc 0) tol in
+  same_solved sine zeros tol e =
+      let c : candidates_of other zeros (factorize_of sine other 0) tol ≡ candidates_of sc zeros (factorize_of sine sc 0) tol =
+      ap (λ (f : Factors). candidates_of other zeros f tol) e ∙ same_candidates zeros (factorize_of sine sc 0) tol in
       let roots = ap (λ (x : List RealRoot × List Pair). roots_of (finish_of other x.0 tol)) c ∙ ap roots_of (same_finish _ tol) in
       λ i. record { poly = other; tol = tol; roots = roots i; pairs = pairs_of (c i).1 }
 
-pub brief_solved : (a : List Float) (d l zeros : ℕ) (tol : Float) → d ≤ 4 → Enough a d l
-    → (lg : List Float) × (finished_of (with_logs_of a d l) zeros tol ≡ relogged lg (finished_of (scaled_of a d) zeros tol))
+pub brief_solved : (sine : Sine) (a : List Float) (d l zeros : ℕ) (tol : Float) → d ≤ 4 → Enough a d l
+    → (lg : List Float) × (finished_of sine (with_logs_of a d l) zeros tol ≡ relogged lg (finished_of sine (scaled_of a d) zeros tol))
 unfolding with_logs_of scaled_of log_sizes_of finished_of
-brief_solved a d l zeros tol D = ⊎_elim full (λ h. brief h.0 h.1)
+brief_solved sine a d l zeros tol D = ⊎_elim full (λ h. brief h.0 h.1)
   where
     Brief : ℕ → Type 0
-    Brief n = (lg : List Float) × (finished_of (with_logs_of a d n) zeros tol ≡ relogged lg (finished_of (scaled_of a d) zeros tol))
+    Brief n = (lg : List Float) × (finished_of sine (with_logs_of a d n) zeros tol ≡ relogged lg (finished_of sine (scaled_of a d) zeros tol))
 
     full : l ≡ d → Brief l
     full h = subst Brief (sym h) ((scaled_of a d).lg, refl)
@@ -89,5 +91,5 @@ brief_solved a d l zeros tol D = ⊎_elim full (λ h. brief h.0 h.1)
     brief : l ≡ 0 → NoGap a d → Brief l
     brief h n =
         let lg = replicate 5 (neg inf64) in
-        let same = no_second (with_logs_of a d 0) (none_found d D) ∙ sym (no_second (scaled_of a d) n) in
-        subst Brief (sym h) (lg, same_solved (scaled_of a d) lg zeros tol same)
+        let same = no_second sine (with_logs_of a d 0) (none_found d D) ∙ sym (no_second sine (scaled_of a d) n) in
+        subst Brief (sym h) (lg, same_solved (scaled_of a d) lg sine zeros tol same)

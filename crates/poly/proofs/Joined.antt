@@ -11,6 +11,7 @@ use Rattle.facts.specs.Arrays.{fill_from}
 use Rattle.facts.specs.Lists.{all_at}
 use Rattle.facts.proofs.Sort.{length_sorted, all_sorted}
 use Rattle.float.specs.Methods.{total_le_of}
+use Rattle.angle.specs.declared.Sine.{Sine}
 use Rattle.scaled.specs.declared.Scaled.{Scaled}
 use Rattle.factors.specs.Factors.{degree_of}
 use Rattle.factorize.specs.Factorize.{factorize_of}
@@ -66,6 +67,6 @@ module _ (poly : Scaled) (tol : Float) where
       within_more (multiplicities l) (multiplicities c) (joined_of poly tol l) (omega (arith, sum_polished 4 poly c))
       (joined_within l (counted_polished 4 poly c h))
 
-pub degree_fits : (poly : Scaled) → poly.d ≤ 4 → degree_of (factorize_of poly 0) ≤ poly.d
+pub degree_fits : (sine : Sine) (poly : Scaled) → poly.d ≤ 4 → degree_of (factorize_of sine poly 0) ≤ poly.d
 unfolding factorize_of
-degree_fits poly h = le_of_eq (degrees_add 3 poly h)
+degree_fits sine poly h = le_of_eq (degrees_add sine 3 poly h)

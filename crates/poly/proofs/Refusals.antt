@@ -18,6 +18,7 @@ use Rattle.refusals.specs.declared.Refusal.{Refusal}
 use Rattle.refusals.specs.Refusals.{outcome_of, and_then}
 use Rattle.roots.specs.declared.Roots.{Roots}
 use Rattle.roots.specs.Roots.{no_roots}
+use Rattle.angle.specs.declared.Sine.{Sine}
 use Rattle.poly.specs.Coefficients.{trimmed_from, trimmed_of, zeros_of, counted_by, counted_of, refusal_of, poly_of}
 use Rattle.poly.specs.Solve.{finished_of, solve_of}
 use Rattle.poly.specs.RealRoots.{answer_of, real_roots_of, roots_in}
@@ -104,29 +105,29 @@ pub then_number : {A B : Type 0} (f : A → B) (r : Result A Refusal) → outcom
 then_number f (Ok a) = refl
 then_number f (Err refusal) = refl
 
-module _ (s : List Float) (tol : Float) where
-  pub solved_number : outcome_of (solve_of s tol) ≡ refusal_of s
+module _ (sine : Sine) (s : List Float) (tol : Float) where
+  pub solved_number : outcome_of (solve_of sine s tol) ≡ refusal_of s
   unfolding solve_of
-  solved_number = then_number (λ n. finished_of (poly_of s) (zeros_of s) (max_of tol zero64)) (counted_of s)
+  solved_number = then_number (λ n. finished_of sine (poly_of s) (zeros_of s) (max_of tol zero64)) (counted_of s)
 
   -- what is solved of a list that is not refused
-  pub answered_is : outcome_of (solve_of s tol) ≡ 0 → solve_of s tol ≡ Ok (finished_of (poly_of s) (zeros_of s) (max_of tol zero64))
+  pub answered_is : outcome_of (solve_of sine s tol) ≡ 0 → solve_of sine s tol ≡ Ok (finished_of sine (poly_of s) (zeros_of s) (max_of tol zero64))
   unfolding solve_of
   answered_is e = rw (counted_when s (sym solved_number ∙ e))
 
-  number_is : outcome_of (real_roots_of s tol) ≡ refusal_of s
+  number_is : outcome_of (real_roots_of sine s tol) ≡ refusal_of s
   unfolding real_roots_of
-  number_is = then_number answer_of (solve_of s tol) ∙ solved_number
+  number_is = then_number answer_of (solve_of sine s tol) ∙ solved_number
 
-  pub number_most : outcome_of (real_roots_of s tol) ≤ 3
+  pub number_most : outcome_of (real_roots_of sine s tol) ≤ 3
   number_most = rw number_is (refusal_most (all_finite_of s) (trimmed_of s))
 
-  pub has_no_root : 0 < outcome_of (real_roots_of s tol) → roots_in (real_roots_of s tol) ≡ no_roots
-  has_no_root = go (real_roots_of s tol)
+  pub has_no_root : 0 < outcome_of (real_roots_of sine s tol) → roots_in (real_roots_of sine s tol) ≡ no_roots
+  has_no_root = go (real_roots_of sine s tol)
     where
       go : (r : Result Roots Refusal) → 0 < outcome_of r → roots_in r ≡ no_roots
       go (Ok roots) h = absurd (omega (arith, h))
       go (Err refusal) h = refl
 
-  pub stands_for : (k : ℕ) → k ≤ 3 → Exactly (outcome_of (real_roots_of s tol) ≡ k) (Told s k)
+  pub stands_for : (k : ℕ) → k ≤ 3 → Exactly (outcome_of (real_roots_of sine s tol) ≡ k) (Told s k)
   stands_for k h = record { where_it_holds = λ t. number_is ∙ number_when s k h t; only_there = λ e. subst (Told s) (sym number_is ∙ e) (told s) }

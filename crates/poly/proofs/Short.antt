@@ -14,6 +14,7 @@ use Rattle.facts.specs.Cond.{either_way}
 use Rattle.facts.specs.Arrays.{fill_from}
 use Rattle.float.specs.Literals.{zero64}
 use Rattle.float.specs.Methods.{is_finite_of, max_of, all_finite_of}
+use Rattle.angle.specs.declared.Sine.{Sine}
 use Rattle.scaled.specs.Scaled.{scaled_of}
 use Rattle.std.specs.Prelude.{Result, Ok, Err}
 use Rattle.refusals.specs.declared.Refusal.{Refusal}
@@ -185,13 +186,13 @@ short_poly l h e =
     (ap (λ (a : List Float). scaled_of a (trimmed_of l - zeros_of l - 1)) (short_middle l (zeros_of l) (trimmed_of l) e (within l)))
 
 -- ---- the law
-module _ (coeffs : List Float) (tol : Float) where
-  pub short_solves : solve_of (short_of coeffs) tol ≡ solve_of coeffs tol
+module _ (sine : Sine) (coeffs : List Float) (tol : Float) where
+  pub short_solves : solve_of sine (short_of coeffs) tol ≡ solve_of sine coeffs tol
   unfolding solve_of
   short_solves = rw (short_counted coeffs) (go (counted_of coeffs) refl)
     where
       solved : List Float → ℕ → Result Solved Refusal
-      solved l n = Ok (finished_of (poly_of l) (zeros_of l) (max_of tol zero64))
+      solved l n = Ok (finished_of sine (poly_of l) (zeros_of l) (max_of tol zero64))
 
       go : (r : Result ℕ Refusal) → counted_of coeffs ≡ r → and_then r (solved (short_of coeffs)) ≡ and_then r (solved coeffs)
       go (Ok n) e =
@@ -201,6 +202,6 @@ module _ (coeffs : List Float) (tol : Float) where
           rw (short_poly coeffs some five, short_zeros 5 coeffs some five)
       go (Err refusal) e = refl
 
-  pub short_lists : real_roots_of (short_of coeffs) tol ≡ real_roots_of coeffs tol
+  pub short_lists : real_roots_of sine (short_of coeffs) tol ≡ real_roots_of sine coeffs tol
   unfolding real_roots_of
   short_lists = ap (λ (s : Result Solved Refusal). and_then s (λ x. Ok (answer_of x))) short_solves

@@ -9,6 +9,7 @@ use lib.ListN.{length, get_or}
 use lib.Ieee.{Float, nan, eq, ne}
 use Rattle.float.specs.Literals.{zero64, two64}
 use Rattle.float.specs.Units.{units_of, Finite}
+use Rattle.angle.specs.declared.Sine.{Sine}
 use Rattle.scaled.specs.Scaled.{scaled_of}
 use Rattle.scaled.proofs.Promise.{f_small}
 use Rattle.decode.proofs.Class.{some_units}
@@ -76,9 +77,9 @@ module _ (s : List Float) (H : AllDoubles s) (R : refusal_of s ≡ 0) where
   poly_small = (degree, f_small a (n - zeros - 1) degree middle_finite middle_last)
 
 -- the same of what is solved
-pub solved_small : (s : List Float) (tol : Float) → AllDoubles s → outcome_of (solve_of s tol) ≡ 0
-    → let poly = (solved_in (solve_of s tol)).poly in (poly.d ≤ 4) × AllAtMost two64 poly.f poly.d
+pub solved_small : (sine : Sine) (s : List Float) (tol : Float) → AllDoubles s → outcome_of (solve_of sine s tol) ≡ 0
+    → let poly = (solved_in (solve_of sine s tol)).poly in (poly.d ≤ 4) × AllAtMost two64 poly.f poly.d
 unfolding finished_of
-solved_small s tol H e =
-    subst (λ (r : Result Solved Refusal). ((solved_in r).poly.d ≤ 4) × AllAtMost two64 (solved_in r).poly.f (solved_in r).poly.d) (sym (answered_is s tol e))
-    (poly_small s H (sym (solved_number s tol) ∙ e))
+solved_small sine s tol H e =
+    subst (λ (r : Result Solved Refusal). ((solved_in r).poly.d ≤ 4) × AllAtMost two64 (solved_in r).poly.f (solved_in r).poly.d)
+    (sym (answered_is sine s tol e)) (poly_small s H (sym (solved_number sine s tol) ∙ e))

@@ -10,6 +10,7 @@ use Rattle.refusals.specs.Refusals.{number_of, outcome_of, and_then}
 use Rattle.refusals.proofs.Numbers.{number_bounds}
 use Rattle.float.specs.Literals.{zero64}
 use Rattle.float.specs.Methods.{max_of}
+use Rattle.angle.specs.declared.Sine.{Sine}
 use Rattle.horner.specs.declared.Polynomial.{Polynomial}
 use Rattle.scaled.specs.declared.Scaled.{Scaled}
 use Rattle.scaled.specs.Scaled.{scaled_of, with_logs_of}
@@ -31,12 +32,13 @@ use Rattle.poly.proofs.Coefficients.{room}
 use Rattle.poly.proofs.Brief.{brief_solved}
 use Rattle.poly.proofs.Sums.{solved_fits, answer_within}
 
-pub finished_is : (poly : Scaled) (zeros : ℕ) (tol : Float) (c : Found) (roots : Roots) → c ≡ found_of (candidates_of poly zeros (factorize_of poly 0) tol)
+pub finished_is : (sine : Sine) (poly : Scaled) (zeros : ℕ) (tol : Float) (c : Found) (roots : Roots)
+    → c ≡ found_of (candidates_of poly zeros (factorize_of sine poly 0) tol)
     → roots ≡ roots_of (finish_of poly (list_of c.roots) tol)
-    → record { poly = poly; tol = tol; roots = roots; pairs = c.pairs } ≡ finished_of poly zeros tol
+    → record { poly = poly; tol = tol; roots = roots; pairs = c.pairs } ≡ finished_of sine poly zeros tol
 unfolding finished_of
-finished_is poly zeros tol c roots e f =
-    let l = (candidates_of poly zeros (factorize_of poly 0) tol).0 in
+finished_is sine poly zeros tol c roots e f =
+    let l = (candidates_of poly zeros (factorize_of sine poly 0) tol).0 in
     let g : roots ≡ roots_of (finish_of poly l tol) =
     f ∙ ap (λ (s : Found). roots_of (finish_of poly (list_of s.roots) tol)) e ∙ ap (λ (m : List RealRoot). roots_of (finish_of poly m tol)) (list_roots l) in
     λ i. record { poly = poly; tol = tol; roots = g i; pairs = (e i).pairs }
@@ -46,17 +48,18 @@ unfolding scaled_of with_logs_of
 new_degree a d l poly e = ap (λ (s : Scaled). s.d) e
 
 -- ---- solved with the logarithms of some degree
-pub refused_by : (logs : Polynomial → ℕ → Type 0) (coeffs : List Float) (tol : Float) (refusal : Refusal) {r : Result Solved Refusal}
-    → counted_of coeffs ≡ Err refusal → r ≡ Err refusal → SolvedBy logs coeffs tol r
+pub refused_by : (sine : Sine) (logs : Polynomial → ℕ → Type 0) (coeffs : List Float) (tol : Float) (refusal : Refusal) {r : Result Solved Refusal}
+    → counted_of coeffs ≡ Err refusal → r ≡ Err refusal → SolvedBy sine logs coeffs tol r
 unfolding SolvedBy
-refused_by logs coeffs tol refusal e is =
+refused_by sine logs coeffs tol refusal e is =
     (0, is ∙ rw e, λ z. absurd (let n : number_of refusal ≡ 0 = sym (ap outcome_of e) ∙ z in omega (arith, (number_bounds refusal).0, n)))
 
-pub answered_by : (logs : Polynomial → ℕ → Type 0) (coeffs : List Float) (tol : Float) (p : Polynomial) (n zeros l : ℕ) (poly : Scaled) (t : Float) {s : Solved}
+pub answered_by : (sine : Sine) (logs : Polynomial → ℕ → Type 0) (coeffs : List Float) (tol : Float) (p : Polynomial) (n zeros l : ℕ) (poly : Scaled)
+    (t : Float) {s : Solved}
     → counted_of coeffs ≡ Ok n → zeros ≡ zeros_of coeffs → p.f ≡ middle_of coeffs zeros n → p.d ≡ n - zeros - 1 → logs p l
-    → poly ≡ with_logs_of p.f p.d l → t ≡ max_of tol zero64 → s ≡ finished_of poly zeros t → SolvedBy logs coeffs tol (Ok s)
+    → poly ≡ with_logs_of p.f p.d l → t ≡ max_of tol zero64 → s ≡ finished_of sine poly zeros t → SolvedBy sine logs coeffs tol (Ok s)
 unfolding SolvedBy
-answered_by logs coeffs tol p n zeros l poly t e z m D given P T is =
+answered_by sine logs coeffs tol p n zeros l poly t e z m D given P T is =
     let same : n ≡ trimmed_of coeffs = (room coeffs n zeros e z).0 in
     (l, rw (is, P, T, D, m, e, same, z), λ _. (p, (m ∙ rw (same, z), D ∙ rw (same, z)), given))
 
@@ -65,13 +68,14 @@ and_relogged : (c : Result ℕ Refusal) (s t : Solved) (lg : List Float) → s �
 and_relogged (Ok n) s t lg is = ap Ok is
 and_relogged (Err refusal) s t lg is = refl
 
-module _ {logs : Polynomial → ℕ → Type 0} (coeffs : List Float) (tol : Float) {r : Result Solved Refusal} (by : SolvedBy logs coeffs tol r) where
+module _ (sine : Sine) {logs : Polynomial → ℕ → Type 0} (coeffs : List Float) (tol : Float) {r : Result Solved Refusal}
+    (by : SolvedBy sine logs coeffs tol r) where
   -- with all of them
-  pub solved_all : ((p : Polynomial) (l : ℕ) → logs p l → l ≡ p.d) → r ≡ solve_of coeffs tol
+  pub solved_all : ((p : Polynomial) (l : ℕ) → logs p l → l ≡ p.d) → r ≡ solve_of sine coeffs tol
   unfolding SolvedBy solve_of poly_of scaled_of with_logs_of
   solved_all all = go (counted_of coeffs) refl
     where
-      go : (c : Result ℕ Refusal) → counted_of coeffs ≡ c → r ≡ solve_of coeffs tol
+      go : (c : Result ℕ Refusal) → counted_of coeffs ≡ c → r ≡ solve_of sine coeffs tol
       go (Ok n) e =
           let g = by.2 (ap outcome_of e) in
           let p = g.0 in
@@ -79,7 +83,7 @@ module _ {logs : Polynomial → ℕ → Type 0} (coeffs : List Float) (tol : Flo
       go (Err refusal) e = by.1 ∙ rw e
 
   -- with enough of them
-  pub solved_brief : ((p : Polynomial) (l : ℕ) → logs p l → Enough p.f p.d l) → ButLogs r (solve_of coeffs tol)
+  pub solved_brief : ((p : Polynomial) (l : ℕ) → logs p l → Enough p.f p.d l) → ButLogs r (solve_of sine coeffs tol)
   unfolding SolvedBy solve_of poly_of
   solved_brief enough = go (counted_of coeffs) refl
     where
@@ -92,39 +96,40 @@ module _ {logs : Polynomial → ℕ → Type 0} (coeffs : List Float) (tol : Flo
       d : ℕ
       d = trimmed_of coeffs - zeros - 1
 
-      go : (c : Result ℕ Refusal) → counted_of coeffs ≡ c → ButLogs r (solve_of coeffs tol)
+      go : (c : Result ℕ Refusal) → counted_of coeffs ≡ c → ButLogs r (solve_of sine coeffs tol)
       go (Ok n) e =
           let g = by.2 (ap outcome_of e) in
           let few : d ≤ 4 = omega (arith, room coeffs n zeros e refl) in
           let some : Enough a d by.0 = rw (g.1.0, g.1.1) at (enough g.0 by.0 g.2) in
-          let b = brief_solved a d by.0 zeros (max_of tol zero64) few some in
+          let b = brief_solved sine a d by.0 zeros (max_of tol zero64) few some in
           (b.0, by.1 ∙ and_relogged (counted_of coeffs) _ _ b.0 b.1)
       go (Err refusal) e = ([], by.1 ∙ rw e)
 
 -- ---- the roots in x, of what is solved but for its logarithms
-module _ (coeffs : List Float) (tol : Float) {r : Result Solved Refusal} (by : ButLogs r (solve_of coeffs tol)) where
-  same_answer : and_then r (λ s. Ok (answer_of s)) ≡ real_roots_of coeffs tol
+module _ (sine : Sine) (coeffs : List Float) (tol : Float) {r : Result Solved Refusal} (by : ButLogs r (solve_of sine coeffs tol)) where
+  same_answer : and_then r (λ s. Ok (answer_of s)) ≡ real_roots_of sine coeffs tol
   unfolding real_roots_of answer_of
-  same_answer = go (solve_of coeffs tol) by.1
+  same_answer = go (solve_of sine coeffs tol) by.1
     where
       go : (q : Result Solved Refusal) → r ≡ and_then q (λ s. Ok (relogged by.0 s)) → and_then r (λ s. Ok (answer_of s)) ≡ and_then q (λ s. Ok (answer_of s))
       go (Ok s) e = rw e
       go (Err refusal) e = rw e
 
-  with_demand : (a : Result Roots Refusal) → a ≡ real_roots_of coeffs tol → (a ≡ real_roots_of coeffs tol) × Within (degree_left coeffs) (list_of (roots_in a))
-  with_demand a is = (is, subst⁻¹ (λ (b : Result Roots Refusal). Within (degree_left coeffs) (list_of (roots_in b))) is (answer_within coeffs tol))
+  with_demand : (a : Result Roots Refusal) → a ≡ real_roots_of sine coeffs tol
+      → (a ≡ real_roots_of sine coeffs tol) × Within (degree_left coeffs) (list_of (roots_in a))
+  with_demand a is = (is, subst⁻¹ (λ (b : Result Roots Refusal). Within (degree_left coeffs) (list_of (roots_in b))) is (answer_within sine coeffs tol))
 
   pub lists_none : (refusal : Refusal) {a : Result Roots Refusal} → r ≡ Err refusal → a ≡ Err refusal
-      → (a ≡ real_roots_of coeffs tol) × Within (degree_left coeffs) (list_of (roots_in a))
+      → (a ≡ real_roots_of sine coeffs tol) × Within (degree_left coeffs) (list_of (roots_in a))
   lists_none refusal {a} e is = with_demand a (is ∙ rw e at same_answer)
 
   pub lists_all : (s : Solved) {l : Roots} → r ≡ Ok s → l ≡ roots_of (unscaled_all s.poly.e (list_of s.roots))
-      → (Ok l ≡ real_roots_of coeffs tol) × Within (degree_left coeffs) (list_of l)
+      → (Ok l ≡ real_roots_of sine coeffs tol) × Within (degree_left coeffs) (list_of l)
   unfolding answer_of
   lists_all s {l} e is = with_demand (Ok l) (ap Ok is ∙ rw e at same_answer)
 
   pub four_solved : (s : Solved) → r ≡ Ok s → s.roots.len ≤ 4
-  four_solved s e = go (solve_of coeffs tol) by.1 (solved_fits coeffs tol).0.1
+  four_solved s e = go (solve_of sine coeffs tol) by.1 (solved_fits sine coeffs tol).0.1
     where
       go : (q : Result Solved Refusal) → r ≡ and_then q (λ x. Ok (relogged by.0 x)) → (solved_in q).roots.len ≤ 4 → s.roots.len ≤ 4
       go (Ok x) i f = subst (λ (y : Result Solved Refusal). (solved_in y).roots.len ≤ 4) (sym i ∙ e) f

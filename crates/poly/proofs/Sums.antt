@@ -12,6 +12,7 @@ use lib.Ieee.{Float}
 use Rattle.facts.specs.Count.{count_up}
 use Rattle.float.specs.Literals.{zero64}
 use Rattle.float.specs.Methods.{is_finite_of, max_of}
+use Rattle.angle.specs.declared.Sine.{Sine}
 use Rattle.scaled.specs.declared.Scaled.{Scaled}
 use Rattle.scaled.specs.Scaled.{scaled_of}
 use Rattle.factors.specs.declared.Factors.{Factors}
@@ -76,30 +77,31 @@ module _ (poly : Scaled) (zeros : ℕ) (f : Factors) (tol : Float) where
       f.nquad f.nquad 0 (lins, []) (shared_more d (d + 2 * 0) lins [] (omega arith) (shared_none d lins lins_within)))
 
 -- ---- what the functions need
-pub counts_fit : (poly : Scaled) (f : Factors) → f ≡ factorize_of poly 0 → poly.d ≤ 4 → (f.nlin ≤ 4) × (f.nquad ≤ 2)
-counts_fit poly f e h = let d = subst (λ (g : Factors). degree_of g ≤ poly.d) (sym e) (degree_fits poly h) in (omega arith, omega arith)
+pub counts_fit : (sine : Sine) (poly : Scaled) (f : Factors) → f ≡ factorize_of sine poly 0 → poly.d ≤ 4 → (f.nlin ≤ 4) × (f.nquad ≤ 2)
+counts_fit sine poly f e h = let d = subst (λ (g : Factors). degree_of g ≤ poly.d) (sym e) (degree_fits sine poly h) in (omega arith, omega arith)
 
-pub candidates_fit : (poly : Scaled) (zeros : ℕ) (tol : Float) (r : Found) → r ≡ found_of (candidates_of poly zeros (factorize_of poly 0) tol)
+pub candidates_fit : (sine : Sine) (poly : Scaled) (zeros : ℕ) (tol : Float) (r : Found)
+    → r ≡ found_of (candidates_of poly zeros (factorize_of sine poly 0) tol)
     → poly.d + zeros ≤ 4
     → (r.roots.len ≤ 4) × (multiplicities (list_of r.roots) < 2 ^ 32)
-candidates_fit poly zeros tol r e h =
-    let c = candidates_of poly zeros (factorize_of poly 0) tol in
-    let s = candidates_shared poly zeros (factorize_of poly 0) tol in
+candidates_fit sine poly zeros tol r e h =
+    let c = candidates_of poly zeros (factorize_of sine poly 0) tol in
+    let s = candidates_shared poly zeros (factorize_of sine poly 0) tol in
     let t = s.sum in
-    let d = degree_fits poly (omega arith) in
+    let d = degree_fits sine poly (omega arith) in
     rw (e, list_roots c.0) (s.four, omega arith)
 
 -- ---- finished
-pub finished_shared : (poly : Scaled) (zeros : ℕ) (tol : Float) → poly.d ≤ 4
-    → Shared (zeros + poly.d) (list_of (finished_of poly zeros tol).roots) (pair_list_of (finished_of poly zeros tol).pairs)
+pub finished_shared : (sine : Sine) (poly : Scaled) (zeros : ℕ) (tol : Float) → poly.d ≤ 4
+    → Shared (zeros + poly.d) (list_of (finished_of sine poly zeros tol).roots) (pair_list_of (finished_of sine poly zeros tol).pairs)
 unfolding finished_of
-finished_shared poly zeros tol h =
-    let c = candidates_of poly zeros (factorize_of poly 0) tol in
-    let s = candidates_shared poly zeros (factorize_of poly 0) tol in
+finished_shared sine poly zeros tol h =
+    let c = candidates_of poly zeros (factorize_of sine poly 0) tol in
+    let s = candidates_shared poly zeros (factorize_of sine poly 0) tol in
     let t = s.sum in
     let w = finish_within poly tol c.0 (counted c.0 s.listed) in
     let u = w.sum in
-    let d = degree_fits poly h in
+    let d = degree_fits sine poly h in
     rw (list_roots (finish_of poly c.0 tol), list_pairs c.1)
     (record { four = w.four; listed = w.listed; two = s.two; sum = omega arith })
 
@@ -108,13 +110,13 @@ unfolding poly_of scaled_of
 poly_degree coeffs = refl
 
 -- ---- solved: the roots, and two for each pair
-pub solved_shared : (coeffs : List Float) (tol : Float) → Shared (degree_left coeffs) (list_of (solved_in (solve_of coeffs tol)).roots)
-    (pair_list_of (solved_in (solve_of coeffs tol)).pairs)
+pub solved_shared : (sine : Sine) (coeffs : List Float) (tol : Float) → Shared (degree_left coeffs) (list_of (solved_in (solve_of sine coeffs tol)).roots)
+    (pair_list_of (solved_in (solve_of sine coeffs tol)).pairs)
 unfolding solve_of
-solved_shared coeffs tol = go (counted_of coeffs) refl
+solved_shared sine coeffs tol = go (counted_of coeffs) refl
   where
     solved : Solved
-    solved = finished_of (poly_of coeffs) (zeros_of coeffs) (max_of tol zero64)
+    solved = finished_of sine (poly_of coeffs) (zeros_of coeffs) (max_of tol zero64)
 
     within : Solved → Type 0
     within s = Shared (degree_left coeffs) (list_of s.roots) (pair_list_of s.pairs)
@@ -124,16 +126,17 @@ solved_shared coeffs tol = go (counted_of coeffs) refl
         let r = room coeffs n (zeros_of coeffs) e refl in
         let d = poly_degree coeffs in
         shared_more (zeros_of coeffs + (poly_of coeffs).d) (degree_left coeffs) _ _ (omega (arith, r, d))
-        (finished_shared (poly_of coeffs) (zeros_of coeffs) _ (omega (arith, r, d)))
+        (finished_shared sine (poly_of coeffs) (zeros_of coeffs) _ (omega (arith, r, d)))
     go (Err refusal) e = shared_more 0 (degree_left coeffs) [] [] (omega arith) (shared_none 0 [] within_none)
 
 -- the arrays have room for them
-pub solved_fits : (coeffs : List Float) (tol : Float) → Fits (solved_in (solve_of coeffs tol)).roots × PairsFit (solved_in (solve_of coeffs tol)).pairs
+pub solved_fits : (sine : Sine) (coeffs : List Float) (tol : Float)
+    → Fits (solved_in (solve_of sine coeffs tol)).roots × PairsFit (solved_in (solve_of sine coeffs tol)).pairs
 unfolding solve_of finished_of
-solved_fits coeffs tol = go (counted_of coeffs)
+solved_fits sine coeffs tol = go (counted_of coeffs)
   where
     solved : Solved
-    solved = finished_of (poly_of coeffs) (zeros_of coeffs) (max_of tol zero64)
+    solved = finished_of sine (poly_of coeffs) (zeros_of coeffs) (max_of tol zero64)
 
     fit : Solved → Type 0
     fit s = Fits s.roots × PairsFit s.pairs
@@ -142,8 +145,8 @@ solved_fits coeffs tol = go (counted_of coeffs)
     go (Ok n) =
         let poly = poly_of coeffs in
         let t = max_of tol zero64 in
-        let c = candidates_of poly (zeros_of coeffs) (factorize_of poly 0) t in
-        let s = candidates_shared poly (zeros_of coeffs) (factorize_of poly 0) t in
+        let c = candidates_of poly (zeros_of coeffs) (factorize_of sine poly 0) t in
+        let s = candidates_shared poly (zeros_of coeffs) (factorize_of sine poly 0) t in
         let w = finish_within poly t c.0 (counted c.0 s.listed) in
         (roots_fit (finish_of poly c.0 t) w.four, pairs_fit c.1 s.two)
     go (Err refusal) = (roots_fit [] (omega arith), pairs_fit [] (omega arith))
@@ -174,9 +177,9 @@ unscaled_within e d l w =
         step i true t = (((t, h.0), i.0), let s = i.1 in omega arith)
         step i false t = (i.0, let s = i.1 in omega arith)
 
-pub answer_within : (coeffs : List Float) (tol : Float) → Within (degree_left coeffs) (list_of (roots_in (real_roots_of coeffs tol)))
+pub answer_within : (sine : Sine) (coeffs : List Float) (tol : Float) → Within (degree_left coeffs) (list_of (roots_in (real_roots_of sine coeffs tol)))
 unfolding real_roots_of answer_of
-answer_within coeffs tol = go (solve_of coeffs tol) (solved_shared coeffs tol)
+answer_within sine coeffs tol = go (solve_of sine coeffs tol) (solved_shared sine coeffs tol)
   where
     go : (r : Result Solved Refusal) → Shared (degree_left coeffs) (list_of (solved_in r).roots) (pair_list_of (solved_in r).pairs)
         → Within (degree_left coeffs) (list_of (roots_in (and_then r (λ s. Ok (answer_of s)))))
@@ -187,9 +190,9 @@ answer_within coeffs tol = go (solve_of coeffs tol) (solved_shared coeffs tol)
     go (Err refusal) h = within_more 0 (degree_left coeffs) [] (omega arith) within_none
 
 -- the array has room for them
-pub answer_fits : (coeffs : List Float) (tol : Float) → Fits (roots_in (real_roots_of coeffs tol))
+pub answer_fits : (sine : Sine) (coeffs : List Float) (tol : Float) → Fits (roots_in (real_roots_of sine coeffs tol))
 unfolding real_roots_of answer_of
-answer_fits coeffs tol = go (solve_of coeffs tol) (answer_within coeffs tol)
+answer_fits sine coeffs tol = go (solve_of sine coeffs tol) (answer_within sine coeffs tol)
   where
     go : (r : Result Solved Refusal) → Within (degree_left coeffs) (list_of (roots_in (and_then r (λ s. Ok (answer_of s)))))
         → Fits (roots_in (and_then r (λ s. Ok (answer_of s))))

@@ -4,6 +4,7 @@ use Rattle.refusals.specs.declared.Refusal.{Refusal}
 use Rattle.refusals.specs.Refusals.{and_then}
 use Rattle.float.specs.Literals.{zero64}
 use Rattle.float.specs.Methods.{max_of}
+use Rattle.angle.specs.declared.Sine.{Sine}
 use Rattle.horner.specs.declared.Polynomial.{Polynomial}
 use Rattle.scaled.specs.declared.Scaled.{Scaled}
 use Rattle.scaled.specs.Scaled.{with_logs_of}
@@ -24,15 +25,15 @@ Middle coeffs p =
     (p.f ≡ middle_of coeffs zeros n) × (p.d ≡ n - zeros - 1)
 
 -- solved with the logarithms of degree l
-abbrev pub solved_with : List Float → Float → ℕ → Result Solved Refusal
-solved_with coeffs tol l =
+abbrev pub solved_with : Sine → List Float → Float → ℕ → Result Solved Refusal
+solved_with sine coeffs tol l =
     let zeros = zeros_of coeffs in
     let n = trimmed_of coeffs in
-    and_then (counted_of coeffs) (λ k. Ok (finished_of (with_logs_of (middle_of coeffs zeros n) (n - zeros - 1) l) zeros (max_of tol zero64)))
+    and_then (counted_of coeffs) (λ k. Ok (finished_of sine (with_logs_of (middle_of coeffs zeros n) (n - zeros - 1) l) zeros (max_of tol zero64)))
 
 -- r is that, of a degree that `logs` gives of the polynomial
-unfoldable pub SolvedBy : (Polynomial → ℕ → Type 0) → List Float → Float → Result Solved Refusal → Type 0
-SolvedBy logs coeffs tol r = (l : ℕ) × (r ≡ solved_with coeffs tol l) × (refusal_of coeffs ≡ 0 → (p : Polynomial) × Middle coeffs p × logs p l)
+unfoldable pub SolvedBy : Sine → (Polynomial → ℕ → Type 0) → List Float → Float → Result Solved Refusal → Type 0
+SolvedBy sine logs coeffs tol r = (l : ℕ) × (r ≡ solved_with sine coeffs tol l) × (refusal_of coeffs ≡ 0 → (p : Polynomial) × Middle coeffs p × logs p l)
 
 -- the same with other logarithms
 abbrev pub other_logs : List Float → Scaled → Scaled

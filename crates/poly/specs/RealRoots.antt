@@ -7,6 +7,7 @@ use Rattle.ldexp.specs.Scale.{ldexp_of}
 use Rattle.roots.specs.declared.RealRoot.{RealRoot}
 use Rattle.roots.specs.declared.Roots.{Roots}
 use Rattle.roots.specs.Roots.{root, list_of, roots_of, no_roots}
+use Rattle.angle.specs.declared.Sine.{Sine}
 use Rattle.poly.specs.declared.Solved.{Solved}
 use Rattle.poly.specs.Solve.{solve_of}
 
@@ -27,8 +28,8 @@ unfoldable pub answer_of : Solved → Roots
 answer_of s = roots_of (unscaled_all s.poly.e (list_of s.roots))
 
 -- `fn real_roots(coeffs: &[f64], tol: f64) -> Vec<RealRoot>`, or the refusal
-unfoldable pub real_roots_of : List Float → Float → Result Roots Refusal
-real_roots_of coeffs tol = and_then (solve_of coeffs tol) (λ s. Ok (answer_of s))
+unfoldable pub real_roots_of : Sine → List Float → Float → Result Roots Refusal
+real_roots_of sine coeffs tol = and_then (solve_of sine coeffs tol) (λ s. Ok (answer_of s))
 
 -- the roots of an answer; of a refusal none
 abbrev pub roots_in : Result Roots Refusal → Roots

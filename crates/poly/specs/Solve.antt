@@ -5,6 +5,7 @@ use Rattle.refusals.specs.declared.Refusal.{Refusal}
 use Rattle.refusals.specs.Refusals.{value_or, and_then}
 use Rattle.float.specs.Literals.{zero64}
 use Rattle.float.specs.Methods.{max_of}
+use Rattle.angle.specs.declared.Sine.{Sine}
 use Rattle.scaled.specs.declared.Scaled.{Scaled}
 use Rattle.factors.specs.declared.Factors.{Factors}
 use Rattle.factors.specs.Factors.{lin_at, quad_at}
@@ -38,15 +39,15 @@ candidates_of poly zeros factors tol =
 
 -- ---- the finished roots, and the pairs
 -- `let factors = factorize(&poly, 0);`, the candidates, and `poly.finish(cands, tol.max(0.0))`
-unfoldable pub finished_of : Scaled → ℕ → Float → Solved
-finished_of poly zeros tol =
-    let factors = factorize_of poly 0 in
+unfoldable pub finished_of : Sine → Scaled → ℕ → Float → Solved
+finished_of sine poly zeros tol =
+    let factors = factorize_of sine poly 0 in
     let c = candidates_of poly zeros factors tol in
     record { poly = poly; tol = tol; roots = roots_of (finish_of poly c.0 tol); pairs = pairs_of c.1 }
 
 -- `Scaled::solve`, then `finish`; `None` is a refusal. The tolerance is `tol.max(0.0)`: 'A NaN or negative tolerance counts as 0'
-unfoldable pub solve_of : List Float → Float → Result Solved Refusal
-solve_of coeffs tol = and_then (counted_of coeffs) (λ n. Ok (finished_of (poly_of coeffs) (zeros_of coeffs) (max_of tol zero64)))
+unfoldable pub solve_of : Sine → List Float → Float → Result Solved Refusal
+solve_of sine coeffs tol = and_then (counted_of coeffs) (λ n. Ok (finished_of sine (poly_of coeffs) (zeros_of coeffs) (max_of tol zero64)))
 
 -- ---- what theorems say of a list that is refused too: that nothing is solved, zeros
 abbrev pub no_poly : Scaled

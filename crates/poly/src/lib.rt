@@ -15,6 +15,7 @@ ghost use Rattle.poly.specs.Found.{with_lin_in, with_quad_in};
 ghost use Rattle.poly.specs.Brief.{Enough, SolvedBy, ButLogs};
 ghost use Rattle.poly.specs.RealRoots.{unscaled_all, real_roots_of, roots_in};
 
+use angle::Sine;
 use horner::Polynomial;
 use refusals::Refusal;
 
@@ -122,10 +123,10 @@ impl Stripped {
     }
 
     // The candidates and the complex pairs.
-    fn candidates(self) -> push::Found
-        ensures { result ≡ found_of (candidates_of self.poly self.zeros (factorize_of self.poly 0) self.tol) }
+    fn candidates(self, sine: Sine) -> push::Found
+        ensures { result ≡ found_of (candidates_of self.poly self.zeros (factorize_of sine self.poly 0) self.tol) }
     {
-        let r = factorize::factorize_rooted(self.poly, 0);
+        let r = factorize::factorize_rooted(sine, self.poly, 0);
         let roots = with_lins(r.f, zero_roots(self.zeros));
         let pairs = roots::Pairs::default();
         self.with_quads(r, push::Found { roots, pairs })
@@ -133,12 +134,12 @@ impl Stripped {
 
     // Factored and finished.
     #[tactic(auto, using(crate::proofs::Steps::finished_is))]
-    fn finished(self) -> Solved
-        ensures { result ≡ finished_of self.poly self.zeros self.tol }
+    fn finished(self, sine: Sine) -> Solved
+        ensures { result ≡ finished_of sine self.poly self.zeros self.tol }
     {
         let poly = self.poly;
         let tol = self.tol;
-        let found = self.candidates();
+        let found = self.candidates(sine);
         let roots = finish::finish(poly, found.roots, tol);
         let pairs = found.pairs;
         Solved {
@@ -163,13 +164,14 @@ fn needed(p: Polynomial) -> usize
 // Solved with the logarithms of the degree that `logs` gives.
 #[tactic(auto, using(crate::proofs::Steps::new_degree, crate::proofs::Steps::refused_by))]
 fn solve_by<F: Fn(Polynomial) -> usize>(
+    sine: Sine,
     coeffs: &[f64],
     tol: f64,
     logs: F,
 ) -> Result<Solved, Refusal>
     requires callable { F.IsAlwaysCallable logs }
     requires small { (p : Polynomial) (l : ℕ) → F.post logs p l → l ≤ 4 }
-    ensures { SolvedBy (F.post logs) coeffs.now tol result }
+    ensures { SolvedBy sine (F.post logs) coeffs.now tol result }
 {
     let n = counted(coeffs)?;
     let zeros = leading_zeros(coeffs);
@@ -178,22 +180,22 @@ fn solve_by<F: Fn(Polynomial) -> usize>(
     let p = Polynomial { f: a, d };
     let poly = scaled::Scaled::with_logs(p, logs(p));
     let tol = float::max(tol, 0.0);
-    Ok(Stripped { poly, zeros, tol }.finished())
+    Ok(Stripped { poly, zeros, tol }.finished(sine))
 }
 
 #[tactic(auto, using(crate::proofs::Steps::solved_all))]
-pub fn solve(coeffs: &[f64], tol: f64) -> Result<Solved, Refusal>
-    ensures { result ≡ solve_of coeffs.now tol }
+pub fn solve(sine: Sine, coeffs: &[f64], tol: f64) -> Result<Solved, Refusal>
+    ensures { result ≡ solve_of sine coeffs.now tol }
 {
-    solve_by(coeffs, tol, |p| p.d)
+    solve_by(sine, coeffs, tol, |p| p.d)
 }
 
 // The same for those who never look at a logarithm.
 #[tactic(auto, using(crate::proofs::Steps::solved_brief))]
-pub fn solve_brief(coeffs: &[f64], tol: f64) -> Result<Solved, Refusal>
-    ensures { ButLogs result (solve_of coeffs.now tol) }
+pub fn solve_brief(sine: Sine, coeffs: &[f64], tol: f64) -> Result<Solved, Refusal>
+    ensures { ButLogs result (solve_of sine coeffs.now tol) }
 {
-    solve_by(coeffs, tol, needed)
+    solve_by(sine, coeffs, tol, needed)
 }
 
 // The roots in x = y * 2^e that are finite.
@@ -210,9 +212,10 @@ fn unscaled_all(s: roots::Roots, e: i32) -> roots::Roots
 }
 
 // Demand 1 holds of the answer: at most four finite roots, each counting at least once, together at most the degree left.
-pub fn real_roots(coeffs: &[f64], tol: f64) -> Result<roots::Roots, Refusal>
-    ensures { (result ≡ real_roots_of coeffs.now tol) × Within (degree_left coeffs.now) (list_of (roots_in result)) }
+// `sine` is the mode: the third angle's sine is that of the rounded cosine, as in the reference build, or of the exact one.
+pub fn real_roots(sine: Sine, coeffs: &[f64], tol: f64) -> Result<roots::Roots, Refusal>
+    ensures { (result ≡ real_roots_of sine coeffs.now tol) × Within (degree_left coeffs.now) (list_of (roots_in result)) }
 {
-    let s = solve_brief(coeffs, tol)?;
+    let s = solve_brief(sine, coeffs, tol)?;
     Ok(unscaled_all(s.roots, s.poly.e))
 }

@@ -6,6 +6,7 @@ use Prim.Native.Nat.{ℕ, ◌≤◌, ◌<◌}
 use native.Mathlib.Omega.{arith}
 use lib.Ieee.{Float}
 use Rattle.std.specs.Prelude.{Result, Ok, IfOk}
+use Rattle.angle.specs.declared.Sine.{Sine}
 use Rattle.refusals.specs.declared.Refusal.{Refusal}
 use Rattle.roots.specs.declared.Roots.{Roots}
 use Rattle.roots.specs.Listed.{Fits}
@@ -41,18 +42,18 @@ module _ {answer s : Result Roots Refusal} {x : Roots} (fits : Fits (roots_in an
   answered_fits = subst (λ (a : Result Roots Refusal). Fits (roots_in a)) (sym is ∙ e) fits
 
 module _ {s : Result Roots Refusal} {x : Roots} where
-  pub contact_fits : (confusion : Float) (path : Path) (circle : Circle) → s ≡ pin_contact_of confusion path circle → s ≡ Ok x → Fits x
-  contact_fits confusion path circle is e = answered_fits (contacts confusion path circle).array is e
+  pub contact_fits : (sine : Sine) (confusion : Float) (path : Path) (circle : Circle) → s ≡ pin_contact_of sine confusion path circle → s ≡ Ok x → Fits x
+  contact_fits sine confusion path circle is e = answered_fits (contacts sine confusion path circle).array is e
 
-  pub list_fits : (coeffs : List Float) (tol : Float) → s ≡ real_roots_of coeffs tol → s ≡ Ok x → Fits x
-  list_fits coeffs tol is e = answered_fits (answer_fits coeffs tol) is e
+  pub list_fits : (sine : Sine) (coeffs : List Float) (tol : Float) → s ≡ real_roots_of sine coeffs tol → s ≡ Ok x → Fits x
+  list_fits sine coeffs tol is e = answered_fits (answer_fits sine coeffs tol) is e
 
-  pub text_fits : (text : List ℕ) (tol : Float) → s ≡ formula_roots_of text tol → s ≡ Ok x → Fits x
-  text_fits text tol is e = answered_fits (formula_fits text tol) is e
+  pub text_fits : (sine : Sine) (text : List ℕ) (tol : Float) → s ≡ formula_roots_of sine text tol → s ≡ Ok x → Fits x
+  text_fits sine text tol is e = answered_fits (formula_fits sine text tol) is e
 
-pub list_short : (coeffs short : List Float) (tol : Float) {s : Result Roots Refusal} → short ≡ short_of coeffs → s ≡ real_roots_of short tol
-    → s ≡ real_roots_of coeffs tol
-list_short coeffs short tol h is = rw h at is ∙ short_lists coeffs tol
+pub list_short : (sine : Sine) (coeffs short : List Float) (tol : Float) {s : Result Roots Refusal} → short ≡ short_of coeffs
+    → s ≡ real_roots_of sine short tol → s ≡ real_roots_of sine coeffs tol
+list_short sine coeffs short tol h is = rw h at is ∙ short_lists sine coeffs tol
 
 pub few_coefficients : (text : List ℕ) {s : Result Expanded Refusal} {x : Expanded} → s ≡ expand_of text → s ≡ Ok x → x.len ≤ 5
 few_coefficients text is e = subst (λ (r : Result Expanded Refusal). IfOk r (λ (e : Expanded). e.len ≤ 5)) (sym is ∙ e) (few text)

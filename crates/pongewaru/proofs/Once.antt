@@ -8,6 +8,7 @@ use lib.ListN.{length, take, length-take}
 use lib.Ieee.{Float}
 use Rattle.std.specs.Prelude.{Some, Result, Ok, Err}
 use Rattle.facts.specs.Lists.{length_snoc}
+use Rattle.angle.specs.declared.Sine.{Sine}
 use Rattle.refusals.specs.declared.Refusal.{Refusal}
 use Rattle.refusals.specs.declared.Refusal.TheVariants.{NothingAsked}
 use Rattle.refusals.specs.Refusals.{outcome_of, number_in, value_or, and_then}
@@ -120,37 +121,38 @@ start_given : (r : Result Solved Refusal)
 start_given (Ok s) = refl
 start_given (Err refusal) = refl
 
-module _ (coeffs : List Float) (tol : Float) (rs : List ℕ) where
+module _ (sine : Sine) (coeffs : List Float) (tol : Float) (rs : List ℕ) where
   abbrev q : Inquiry
-  q = inquiry_in (start_of coeffs tol)
+  q = inquiry_in (start_of sine coeffs tol)
 
   q_given : q ≡ given q no_replies
   unfolding start_of
-  q_given = start_given (solve_of coeffs tol)
+  q_given = start_given (solve_of sine coeffs tol)
 
   fed_once : seen_numbers (seen_of (given q (first_replies rs))) ≡ inquiry_numbers (fed_all rs q)
   unfolding first_replies inquiry_numbers
   fed_once =
-      let t = real_roots_touching coeffs tol in
+      let t = real_roots_touching sine coeffs tol in
       sym (ap told_numbers
       (ap (λ (p : Inquiry). seen_after (each_reply next rs (fresh p))) q_given
-      ∙ once q t (start_room coeffs tol) rs 3 [] no_replies (subst (Has t []) q_given (start_has coeffs tol)) refl (none_left t)))
+      ∙ once q t (start_room sine coeffs tol) rs 3 [] no_replies (subst (Has t []) q_given (start_has sine coeffs tol)) refl (none_left t)))
 
 -- what `shown_after` gives for the six numbers in place of the coefficients
-module _ (coeffs : List Float) (tol : Float) (rs : List ℕ) (s : Result Seen Refusal) (is : s ≡ shown_after_of (short_of coeffs) tol (first_replies rs)) where
+module _ (sine : Sine) (coeffs : List Float) (tol : Float) (rs : List ℕ) (s : Result Seen Refusal)
+    (is : s ≡ shown_after_of sine (short_of coeffs) tol (first_replies rs)) where
   abbrev shows : Result Inquiry Refusal → Result Seen Refusal
   shows start = and_then start (λ p. Ok (seen_of (given p (first_replies rs))))
 
-  short_shows : s ≡ shows (start_of coeffs tol)
+  short_shows : s ≡ shows (start_of sine coeffs tol)
   unfolding shown_after_of
-  short_shows = is ∙ ap shows (short_starts coeffs tol)
+  short_shows = is ∙ ap shows (short_starts sine coeffs tol)
 
-  shown_number : outcome_of s ≡ outcome_of (start_of coeffs tol)
-  shown_number = ap outcome_of short_shows ∙ then_number (λ p. seen_of (given p (first_replies rs))) (start_of coeffs tol)
+  shown_number : outcome_of s ≡ outcome_of (start_of sine coeffs tol)
+  shown_number = ap outcome_of short_shows ∙ then_number (λ p. seen_of (given p (first_replies rs))) (start_of sine coeffs tol)
 
   module _ (x : Seen) (e : s ≡ Ok x) where
-    shown_is : x ≡ seen_of (given (inquiry_in (start_of coeffs tol)) (first_replies rs))
-    shown_is = go (start_of coeffs tol) (sym short_shows ∙ e)
+    shown_is : x ≡ seen_of (given (inquiry_in (start_of sine coeffs tol)) (first_replies rs))
+    shown_is = go (start_of sine coeffs tol) (sym short_shows ∙ e)
       where
         go : (start : Result Inquiry Refusal) → shows start ≡ Ok x → x ≡ seen_of (given (inquiry_in start) (first_replies rs))
         go (Ok p) h = cc
@@ -159,21 +161,21 @@ module _ (coeffs : List Float) (tol : Float) (rs : List ℕ) (s : Result Seen Re
     shown_fits : Fits (list_in x.asked)
     shown_fits = subst⁻¹ (λ (t : Seen). Fits (list_in t.asked)) shown_is (seen_fits _)
 
-    shown_numbers_are : seen_numbers x ≡ inquiry_numbers (fed_all rs (inquiry_in (start_of coeffs tol)))
-    shown_numbers_are = ap seen_numbers shown_is ∙ fed_once coeffs tol rs
+    shown_numbers_are : seen_numbers x ≡ inquiry_numbers (fed_all rs (inquiry_in (start_of sine coeffs tol)))
+    shown_numbers_are = ap seen_numbers shown_is ∙ fed_once sine coeffs tol rs
 
 -- for `using`: of the replies f that are put in at once, the six numbers in place of the coefficients
-module _ (coeffs short : List Float) (tol : Float) (rs : List ℕ) (f : Replies) (s : Result Seen Refusal) (h : short ≡ short_of coeffs)
-    (first : f ≡ first_replies rs) (is : s ≡ shown_after_of short tol f) where
-  in_short : s ≡ shown_after_of (short_of coeffs) tol (first_replies rs)
+module _ (sine : Sine) (coeffs short : List Float) (tol : Float) (rs : List ℕ) (f : Replies) (s : Result Seen Refusal) (h : short ≡ short_of coeffs)
+    (first : f ≡ first_replies rs) (is : s ≡ shown_after_of sine short tol f) where
+  in_short : s ≡ shown_after_of sine (short_of coeffs) tol (first_replies rs)
   in_short = rw (h, first) at is
 
   pub inquired_fits : {x : Seen} → s ≡ Ok x → Fits (list_in x.asked)
-  inquired_fits e = shown_fits coeffs tol rs s in_short _ e
+  inquired_fits e = shown_fits sine coeffs tol rs s in_short _ e
 
   pub inquired : (y : Result (List Float) Refusal) {l : List ℕ} {r : ℕ} {m : List ℕ} → Mapped seen_numbers s y → Answered (outcome_of y) (value_or [] y) l r m
-      → Answered (outcome_of (start_of coeffs tol)) (inquiry_numbers (fed_all rs (inquiry_in (start_of coeffs tol)))) l r m
-  inquired y same a = told_as seen_numbers s y same (shown_number coeffs tol rs s in_short) (shown_numbers_are coeffs tol rs s in_short) a
+      → Answered (outcome_of (start_of sine coeffs tol)) (inquiry_numbers (fed_all rs (inquiry_in (start_of sine coeffs tol)))) l r m
+  inquired y same a = told_as seen_numbers s y same (shown_number sine coeffs tol rs s in_short) (shown_numbers_are sine coeffs tol rs s in_short) a
 
 -- ---- a crank's inquiry, k beside it
 abbrev with : ℕ → Inquiry → CrankInquiry
@@ -193,19 +195,19 @@ crank_fed_is k [] p = refl
 crank_fed_is k (b ∷ rs) p =
     ap (each_reply next_crank rs) (crank_step k p.1 (replied_of p.1 (reply_at b))) ∙ crank_fed_is k rs (next p (reply_at b))
 
-module _ (confusion : Float) (trig : TrigEquation) (rs : List ℕ) (s : Result CrankShown Refusal)
-    (is : s ≡ crank_shown_of confusion trig (first_replies rs)) where
+module _ (sine : Sine) (confusion : Float) (trig : TrigEquation) (rs : List ℕ) (s : Result CrankShown Refusal)
+    (is : s ≡ crank_shown_of sine confusion trig (first_replies rs)) where
   abbrev shows_at : CrankInquiry → CrankShown
   shows_at c = record { k = c.k; seen = seen_of (given c.inquiry (first_replies rs)) }
 
-  crank_number : outcome_of s ≡ outcome_of (crank_start_of confusion trig)
+  crank_number : outcome_of s ≡ outcome_of (crank_start_of sine confusion trig)
   unfolding crank_shown_of
-  crank_number = ap outcome_of is ∙ then_number shows_at (crank_start_of confusion trig)
+  crank_number = ap outcome_of is ∙ then_number shows_at (crank_start_of sine confusion trig)
 
   module _ (x : CrankShown) (e : s ≡ Ok x) where
-    crank_is : x ≡ shows_at (crank_in (crank_start_of confusion trig))
+    crank_is : x ≡ shows_at (crank_in (crank_start_of sine confusion trig))
     unfolding crank_shown_of
-    crank_is = go (crank_start_of confusion trig) (sym is ∙ e)
+    crank_is = go (crank_start_of sine confusion trig) (sym is ∙ e)
       where
         go : (start : Result CrankInquiry Refusal) → and_then start (λ c. Ok (shows_at c)) ≡ Ok x → x ≡ shows_at (crank_in start)
         go (Ok c) h = cc
@@ -214,7 +216,7 @@ module _ (confusion : Float) (trig : TrigEquation) (rs : List ℕ) (s : Result C
     crank_fits : Fits (list_in x.seen.asked)
     crank_fits = subst⁻¹ (λ (t : CrankShown). Fits (list_in t.seen.asked)) crank_is (seen_fits _)
 
-    crank_numbers_are : crank_shown_numbers x ≡ shown_after rs (crank_start_of confusion trig)
+    crank_numbers_are : crank_shown_numbers x ≡ shown_after rs (crank_start_of sine confusion trig)
     unfolding crank_start_of crank_shown_of crank_numbers crank_asked_of inquiry_numbers
     crank_numbers_are = by_front (crank_front_of trig) (sym is ∙ e)
       where
@@ -224,29 +226,29 @@ module _ (confusion : Float) (trig : TrigEquation) (rs : List ℕ) (s : Result C
         started : Crank → Result Inquiry Refusal → Result CrankInquiry Refusal
         started front start = and_then start (λ i. Ok (with front.k i))
 
-        by_start : (front : Crank) (start : Result Inquiry Refusal) → start_of front.q confusion ≡ start → shows (started front start) ≡ Ok x
+        by_start : (front : Crank) (start : Result Inquiry Refusal) → start_of sine front.q confusion ≡ start → shows (started front start) ≡ Ok x
             → crank_shown_numbers x ≡ crank_numbers (crank_fed_all rs (crank_in (started front start)))
         by_start front (Ok i) h e =
             let is : x ≡ shows_at (with front.k i) = cc in
             let fed = subst (λ (st : Result Inquiry Refusal). seen_numbers (seen_of (given (inquiry_in st) (first_replies rs)))
-            ≡ inquiry_numbers (fed_all rs (inquiry_in st))) h (fed_once front.q confusion rs) in
+            ≡ inquiry_numbers (fed_all rs (inquiry_in st))) h (fed_once sine front.q confusion rs) in
             ap crank_shown_numbers is ∙ ap (λ (l : List Float). number front.k ∷ l) fed ∙ sym (ap crank_numbers (crank_fed_is front.k rs (fresh i)))
         by_start front (Err refusal) h e = absurd cc
 
-        by_front : (front : Result Crank Refusal) → shows (and_then front (λ front. started front (start_of front.q confusion))) ≡ Ok x
-            → crank_shown_numbers x ≡ crank_numbers (crank_fed_all rs (crank_in (and_then front (λ front. started front (start_of front.q confusion)))))
-        by_front (Ok front) e = by_start front (start_of front.q confusion) refl e
+        by_front : (front : Result Crank Refusal) → shows (and_then front (λ front. started front (start_of sine front.q confusion))) ≡ Ok x
+            → crank_shown_numbers x ≡ crank_numbers (crank_fed_all rs (crank_in (and_then front (λ front. started front (start_of sine front.q confusion)))))
+        by_front (Ok front) e = by_start front (start_of sine front.q confusion) refl e
         by_front (Err refusal) e = absurd cc
 
-module _ (confusion : Float) (trig : TrigEquation) (rs : List ℕ) (f : Replies) (s : Result CrankShown Refusal) (first : f ≡ first_replies rs)
-    (is : s ≡ crank_shown_of confusion trig f) where
-  cranked : s ≡ crank_shown_of confusion trig (first_replies rs)
+module _ (sine : Sine) (confusion : Float) (trig : TrigEquation) (rs : List ℕ) (f : Replies) (s : Result CrankShown Refusal) (first : f ≡ first_replies rs)
+    (is : s ≡ crank_shown_of sine confusion trig f) where
+  cranked : s ≡ crank_shown_of sine confusion trig (first_replies rs)
   cranked = rw first at is
 
   pub turned_fits : {x : CrankShown} → s ≡ Ok x → Fits (list_in x.seen.asked)
-  turned_fits e = crank_fits confusion trig rs s cranked _ e
+  turned_fits e = crank_fits sine confusion trig rs s cranked _ e
 
   pub turned : (y : Result (List Float) Refusal) {l : List ℕ} {r : ℕ} {m : List ℕ} → Mapped crank_shown_numbers s y
       → Answered (outcome_of y) (value_or [] y) l r m
-      → Answered (outcome_of (crank_start_of confusion trig)) (shown_after rs (crank_start_of confusion trig)) l r m
-  turned y same a = told_as crank_shown_numbers s y same (crank_number confusion trig rs s cranked) (crank_numbers_are confusion trig rs s cranked) a
+      → Answered (outcome_of (crank_start_of sine confusion trig)) (shown_after rs (crank_start_of sine confusion trig)) l r m
+  turned y same a = told_as crank_shown_numbers s y same (crank_number sine confusion trig rs s cranked) (crank_numbers_are sine confusion trig rs s cranked) a

@@ -1,5 +1,6 @@
 -- What the C functions for formulas store, and their refusals. Definitions only.
 use Rattle.std.specs.Prelude.{Bool, List, ◌∷◌, ℕ, ltb, length, Float}
+use Rattle.angle.specs.declared.Sine.{Sine}
 use Rattle.refusals.specs.declared.Refusal.TheVariants.{TextTooLong}
 use Rattle.refusals.specs.Refusals.{number_of, outcome_of}
 use Rattle.poly.specs.RealRoots.{roots_in}
@@ -16,11 +17,11 @@ abbrev pub too_long : List ℕ → Bool
 too_long s = ltb 255 (length s)
 
 -- the refusal of its roots, and their numbers
-abbrev pub formula_refusal : List ℕ → Float → ℕ
-formula_refusal s tol = unless (number_of TextTooLong) (too_long s) (outcome_of (formula_roots_of s tol))
+abbrev pub formula_refusal : Sine → List ℕ → Float → ℕ
+formula_refusal sine s tol = unless (number_of TextTooLong) (too_long s) (outcome_of (formula_roots_of sine s tol))
 
-abbrev pub formula_numbers : List ℕ → Float → List Float
-formula_numbers s tol = root_numbers (roots_in (formula_roots_of s tol))
+abbrev pub formula_numbers : Sine → List ℕ → Float → List Float
+formula_numbers sine s tol = root_numbers (roots_in (formula_roots_of sine s tol))
 
 -- how many coefficients there are, and all five
 abbrev pub expanded_numbers : Expanded → List Float

@@ -1,5 +1,6 @@
 -- What the export for inquiries stores, and its answer. Definitions only.
 use Rattle.std.specs.Prelude.{Bool, not, List, [], ◌∷◌, ℕ, eqb, take, Float, Result}
+use Rattle.angle.specs.declared.Sine.{Sine}
 use Rattle.refusals.specs.declared.Refusal.{Refusal}
 use Rattle.refusals.specs.declared.Refusal.TheVariants.{CutDouble}
 use Rattle.refusals.specs.Refusals.{number_of, outcome_of, number_in}
@@ -46,15 +47,15 @@ unfoldable pub inquiry_numbers : ℕ × Inquiry → List Float
 inquiry_numbers p = let a = asked_of p.1 in shown_numbers p.0 (is_question a) (place_of a) (list_in a)
 
 -- the inquiry about the doubles in the bytes
-unfoldable pub start_at : List ℕ → Float → Result Inquiry Refusal
-start_at s tol = start_of (coefficients_at s) tol
+unfoldable pub start_at : Sine → List ℕ → Float → Result Inquiry Refusal
+start_at sine s tol = start_of sine (coefficients_at s) tol
 
 -- the refusal of its start, which the bytes have where they are no doubles, and what it shows then
-abbrev pub inquiry_refusal : List ℕ → Float → ℕ
-inquiry_refusal s tol = unless (number_of CutDouble) (not_doubles s) (outcome_of (start_at s tol))
+abbrev pub inquiry_refusal : Sine → List ℕ → Float → ℕ
+inquiry_refusal sine s tol = unless (number_of CutDouble) (not_doubles s) (outcome_of (start_at sine s tol))
 
-abbrev pub shown_at : List ℕ → Float → List ℕ → List Float
-shown_at s tol rs = inquiry_numbers (fed_all rs (inquiry_in (start_at s tol)))
+abbrev pub shown_at : Sine → List ℕ → Float → List ℕ → List Float
+shown_at sine s tol rs = inquiry_numbers (fed_all rs (inquiry_in (start_at sine s tol)))
 
 -- ---- the same with the replies put in at once, which proofs/Once.antt shows
 -- at most three questions are asked, so that the fourth reply is refused, if it is there, and each after it

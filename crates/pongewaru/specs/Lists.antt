@@ -1,5 +1,6 @@
 -- What the export for lists stores, and its refusal. Definitions only.
 use Rattle.std.specs.Prelude.{Bool, List, ℕ, ◌*◌, ◌/◌, ltb, length, Float, Result}
+use Rattle.angle.specs.declared.Sine.{Sine}
 use Rattle.refusals.specs.declared.Refusal.{Refusal}
 use Rattle.refusals.specs.declared.Refusal.TheVariants.{CutDouble}
 use Rattle.refusals.specs.Refusals.{number_of, outcome_of}
@@ -14,12 +15,12 @@ abbrev pub not_doubles : List ℕ → Bool
 not_doubles s = ltb (8 * (length s / 8)) (length s)
 
 -- the answer to the doubles in the bytes
-unfoldable pub answer_at : List ℕ → Float → Result Roots Refusal
-answer_at s tol = real_roots_of (coefficients_at s) tol
+unfoldable pub answer_at : Sine → List ℕ → Float → Result Roots Refusal
+answer_at sine s tol = real_roots_of sine (coefficients_at s) tol
 
 -- its refusal, which the bytes have where they are no doubles, and its numbers
-abbrev pub list_refusal : List ℕ → Float → ℕ
-list_refusal s tol = unless (number_of CutDouble) (not_doubles s) (outcome_of (answer_at s tol))
+abbrev pub list_refusal : Sine → List ℕ → Float → ℕ
+list_refusal sine s tol = unless (number_of CutDouble) (not_doubles s) (outcome_of (answer_at sine s tol))
 
-abbrev pub list_numbers : List ℕ → Float → List Float
-list_numbers s tol = root_numbers (roots_in (answer_at s tol))
+abbrev pub list_numbers : Sine → List ℕ → Float → List Float
+list_numbers sine s tol = root_numbers (roots_in (answer_at sine s tol))

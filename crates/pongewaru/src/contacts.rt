@@ -2,16 +2,52 @@
 // of the refusal, or 0 where those lent are too few: nothing is stored then.
 ghost use Rattle.refusals.specs.Refusals.{outcome_of};
 ghost use Rattle.poly.specs.RealRoots.{roots_in};
+ghost use Rattle.angle.specs.declared.Sine.TheVariants.{OfExact};
+ghost use Rattle.angle.specs.Third.{sine_numbered};
 ghost use Rattle.lent_bytes.specs.Bytes.{Answered};
 ghost use Rattle.lent_bytes.specs.Lists.{root_numbers};
 ghost use Rattle.pongewaru.specs.Contacts.{contact_of};
 
+use crate::SINE_OF_EXACT;
+use angle::Sine;
 use contact::{Circle, Path};
 use lent_bytes::answer;
 use lent_bytes::lists::root_numbers;
 
 #[unsafe(no_mangle)]
 #[tactic(auto, using(crate::proofs::Listing::contact_told))]
+pub extern "C" fn pongewaru_pin_contact_by(
+    sine: u32,
+    confusion: f64,
+    x0: f64,
+    x1: f64,
+    x2: f64,
+    y0: f64,
+    y1: f64,
+    y2: f64,
+    cx: f64,
+    cy: f64,
+    r: f64,
+    out: &mut [u8],
+) -> u64
+    ensures { Answered (outcome_of (contact_of (sine_numbered sine) confusion x0 x1 x2 y0 y1 y2 cx cy r))
+        (root_numbers (roots_in (contact_of (sine_numbered sine) confusion x0 x1 x2 y0 y1 y2 cx cy r))) out.old result out.new }
+{
+    let path = Path {
+        x0,
+        x1,
+        x2,
+        y0,
+        y1,
+        y2,
+    };
+    let circle = Circle { cx, cy, r };
+    let list = contact::pin_contact(Sine::from(sine), confusion, path, circle);
+    answer(out, list.map(root_numbers))
+}
+
+#[unsafe(no_mangle)]
+#[tactic(auto, unfolding(angle::specs::Third::sine_numbered))]
 pub extern "C" fn pongewaru_pin_contact(
     confusion: f64,
     x0: f64,
@@ -25,18 +61,21 @@ pub extern "C" fn pongewaru_pin_contact(
     r: f64,
     out: &mut [u8],
 ) -> u64
-    ensures { Answered (outcome_of (contact_of confusion x0 x1 x2 y0 y1 y2 cx cy r))
-        (root_numbers (roots_in (contact_of confusion x0 x1 x2 y0 y1 y2 cx cy r))) out.old result out.new }
+    ensures { Answered (outcome_of (contact_of OfExact confusion x0 x1 x2 y0 y1 y2 cx cy r))
+        (root_numbers (roots_in (contact_of OfExact confusion x0 x1 x2 y0 y1 y2 cx cy r))) out.old result out.new }
 {
-    let path = Path {
+    pongewaru_pin_contact_by(
+        SINE_OF_EXACT,
+        confusion,
         x0,
         x1,
         x2,
         y0,
         y1,
         y2,
-    };
-    let circle = Circle { cx, cy, r };
-    let list = contact::pin_contact(confusion, path, circle);
-    answer(out, list.map(root_numbers))
+        cx,
+        cy,
+        r,
+        out,
+    )
 }

@@ -2,6 +2,8 @@
 // seventeen doubles. The answer is how many bytes are stored, 136, or the number of the refused start, or 0 where those lent are too few: nothing is stored
 // then.
 ghost use Rattle.std.specs.Prelude.{◌≡◌};
+ghost use Rattle.angle.specs.declared.Sine.TheVariants.{OfExact};
+ghost use Rattle.angle.specs.Third.{sine_numbered};
 ghost use Rattle.refusals.specs.Refusals.{outcome_of};
 ghost use Rattle.inquiry.specs.Inquiry.{list_in};
 ghost use Rattle.crank.specs.Crank.{crank_start_of};
@@ -10,7 +12,9 @@ ghost use Rattle.roots.specs.Listed.{Fits};
 ghost use Rattle.pongewaru.specs.Quadratics.{trig_of};
 ghost use Rattle.pongewaru.specs.Cranks.{crank_shown_numbers, shown_after};
 
+use crate::SINE_OF_EXACT;
 use crate::inquiries::{first_replies, seen_numbers};
+use angle::Sine;
 use crank::CrankShown;
 use lent_bytes::answer;
 use trig_quartic::TrigEquation;
@@ -26,6 +30,27 @@ fn crank_shown_numbers(s: CrankShown) -> [f64; 17]
 
 #[unsafe(no_mangle)]
 #[tactic(auto, using(crate::proofs::Once::turned_fits))]
+pub extern "C" fn pongewaru_crank_inquire_by(
+    sine: u32,
+    confusion: f64,
+    a2: f64,
+    b2: f64,
+    c1: f64,
+    d1: f64,
+    e: f64,
+    replies: &[u8],
+    out: &mut [u8],
+) -> u64
+    ensures { Answered (outcome_of (crank_start_of (sine_numbered sine) confusion (trig_of a2 b2 c1 d1 e)))
+        (shown_after replies.now (crank_start_of (sine_numbered sine) confusion (trig_of a2 b2 c1 d1 e))) out.old result out.new }
+{
+    let trig = TrigEquation { a2, b2, c1, d1, e };
+    let s = crank::shown_after(Sine::from(sine), confusion, trig, first_replies(replies));
+    answer(out, s.map(crank_shown_numbers))
+}
+
+#[unsafe(no_mangle)]
+#[tactic(auto, unfolding(angle::specs::Third::sine_numbered))]
 pub extern "C" fn pongewaru_crank_inquire(
     confusion: f64,
     a2: f64,
@@ -36,10 +61,8 @@ pub extern "C" fn pongewaru_crank_inquire(
     replies: &[u8],
     out: &mut [u8],
 ) -> u64
-    ensures { Answered (outcome_of (crank_start_of confusion (trig_of a2 b2 c1 d1 e)))
-        (shown_after replies.now (crank_start_of confusion (trig_of a2 b2 c1 d1 e))) out.old result out.new }
+    ensures { Answered (outcome_of (crank_start_of OfExact confusion (trig_of a2 b2 c1 d1 e)))
+        (shown_after replies.now (crank_start_of OfExact confusion (trig_of a2 b2 c1 d1 e))) out.old result out.new }
 {
-    let trig = TrigEquation { a2, b2, c1, d1, e };
-    let s = crank::shown_after(confusion, trig, first_replies(replies));
-    answer(out, s.map(crank_shown_numbers))
+    pongewaru_crank_inquire_by(SINE_OF_EXACT, confusion, a2, b2, c1, d1, e, replies, out)
 }

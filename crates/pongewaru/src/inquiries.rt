@@ -2,13 +2,17 @@
 // doubles: 0, or 4 where a reply was refused; 1 and the place where it asks, 0 and 0 where not; and the list as for `real_roots`. The answer is how many bytes
 // are stored, 128, or the number of the refused start, as for a list, or 0 where those lent are too few: nothing is stored then.
 ghost use Rattle.std.specs.Prelude.{◌≡◌};
+ghost use Rattle.angle.specs.declared.Sine.TheVariants.{OfExact};
+ghost use Rattle.angle.specs.Third.{sine_numbered};
 ghost use Rattle.refusals.specs.Refusals.{number_in};
 ghost use Rattle.roots.specs.Listed.{Fits};
 ghost use Rattle.inquiry.specs.Inquiry.{list_in};
 ghost use Rattle.lent_bytes.specs.Bytes.{Answered};
 ghost use Rattle.pongewaru.specs.Inquiries.{shown_numbers, first_replies, seen_numbers, inquiry_refusal, shown_at};
 
+use crate::SINE_OF_EXACT;
 use crate::lists::not_doubles;
+use angle::Sine;
 use inquiry::{Asked, Seen};
 use lent_bytes::answer;
 use lent_bytes::lists::root_numbers;
@@ -62,13 +66,33 @@ pub fn seen_numbers(s: Seen) -> [f64; 16]
 
 #[unsafe(no_mangle)]
 #[tactic(auto, using(crate::proofs::Listing::inquiry_told), unfolding(lent_bytes::specs::Bytes::unless))]
-pub extern "C" fn pongewaru_inquire(coeffs: &[u8], tol: f64, replies: &[u8], out: &mut [u8]) -> u64
-    ensures { Answered (inquiry_refusal coeffs.now tol) (shown_at coeffs.now tol replies.now)
-        out.old result out.new }
+pub extern "C" fn pongewaru_inquire_by(
+    sine: u32,
+    coeffs: &[u8],
+    tol: f64,
+    replies: &[u8],
+    out: &mut [u8],
+) -> u64
+    ensures { Answered (inquiry_refusal (sine_numbered sine) coeffs.now tol)
+        (shown_at (sine_numbered sine) coeffs.now tol replies.now) out.old result out.new }
 {
     if not_doubles(coeffs) {
         return answer::<0>(out, Err(Refusal::CutDouble));
     }
-    let s = inquiry::shown_after(&short_at(coeffs), tol, first_replies(replies));
+    let s = inquiry::shown_after(
+        Sine::from(sine),
+        &short_at(coeffs),
+        tol,
+        first_replies(replies),
+    );
     answer(out, s.map(seen_numbers))
+}
+
+#[unsafe(no_mangle)]
+#[tactic(auto, unfolding(angle::specs::Third::sine_numbered))]
+pub extern "C" fn pongewaru_inquire(coeffs: &[u8], tol: f64, replies: &[u8], out: &mut [u8]) -> u64
+    ensures { Answered (inquiry_refusal OfExact coeffs.now tol) (shown_at OfExact coeffs.now tol replies.now)
+        out.old result out.new }
+{
+    pongewaru_inquire_by(SINE_OF_EXACT, coeffs, tol, replies, out)
 }

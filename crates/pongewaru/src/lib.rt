@@ -3,6 +3,9 @@
 // It rests on the crates whose functions it hands out, on `lent_bytes` and on `lent_coefficients`; nothing rests on it.
 #![tactic(auto)]
 
+// The number of the mode that a function without `sine` uses; the functions `.._by` are told it.
+const SINE_OF_EXACT: u32 = 0;
+
 pub mod contacts;
 pub mod cranks;
 pub mod files;

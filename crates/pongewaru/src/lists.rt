@@ -2,9 +2,13 @@
 // after the last root. The answer is how many bytes are stored, 104, or the number of the refusal, that of the C functions where the bytes are no whole
 // doubles, or 0 where those lent are too few: nothing is stored then.
 ghost use Rattle.std.specs.Prelude.{◌≡◌};
+ghost use Rattle.angle.specs.declared.Sine.TheVariants.{OfExact};
+ghost use Rattle.angle.specs.Third.{sine_numbered};
 ghost use Rattle.lent_bytes.specs.Bytes.{Answered};
 ghost use Rattle.pongewaru.specs.Lists.{not_doubles, list_refusal, list_numbers};
 
+use crate::SINE_OF_EXACT;
+use angle::Sine;
 use lent_bytes::answer;
 use lent_bytes::lists::root_numbers;
 use lent_coefficients::short_at;
@@ -19,12 +23,21 @@ pub fn not_doubles(s: &[u8]) -> bool
 
 #[unsafe(no_mangle)]
 #[tactic(auto, using(crate::proofs::Listing::list_told), unfolding(crate::specs::Lists::answer_at, lent_bytes::specs::Bytes::unless))]
-pub extern "C" fn pongewaru_real_roots(coeffs: &[u8], tol: f64, out: &mut [u8]) -> u64
-    ensures { Answered (list_refusal coeffs.now tol) (list_numbers coeffs.now tol) out.old result out.new }
+pub extern "C" fn pongewaru_real_roots_by(sine: u32, coeffs: &[u8], tol: f64, out: &mut [u8]) -> u64
+    ensures { Answered (list_refusal (sine_numbered sine) coeffs.now tol) (list_numbers (sine_numbered sine) coeffs.now tol)
+        out.old result out.new }
 {
     if not_doubles(coeffs) {
         return answer::<0>(out, Err(Refusal::CutDouble));
     }
-    let list = poly::real_roots(&short_at(coeffs), tol);
+    let list = poly::real_roots(Sine::from(sine), &short_at(coeffs), tol);
     answer(out, list.map(root_numbers))
+}
+
+#[unsafe(no_mangle)]
+#[tactic(auto, unfolding(angle::specs::Third::sine_numbered))]
+pub extern "C" fn pongewaru_real_roots(coeffs: &[u8], tol: f64, out: &mut [u8]) -> u64
+    ensures { Answered (list_refusal OfExact coeffs.now tol) (list_numbers OfExact coeffs.now tol) out.old result out.new }
+{
+    pongewaru_real_roots_by(SINE_OF_EXACT, coeffs, tol, out)
 }

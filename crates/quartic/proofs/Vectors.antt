@@ -1,6 +1,7 @@
 -- Worked values: what the functions of poly.rs give in the reference build, computed from the definitions.
 use mathlib.Core.Path.{◌≡◌, refl}
 use Prim.Native.Nat.{ℕ}
+use Rattle.angle.specs.declared.Sine.TheVariants.{OfRounded}
 use Rattle.cubic.proofs.Vectors.{bits, computes as cubics}
 use Rattle.quartic.specs.Quartic.{largest_of, resolvent_of, is_clear_of, ferrari_of, quartic_factor_of}
 
@@ -9,7 +10,7 @@ unfoldable pub computes : ℕ
 unfolding cubics largest_of resolvent_of is_clear_of ferrari_of quartic_factor_of
 computes = 0
 
-quartic_ferrari : quartic_factor_of (bits 0x3fe0_0000_0000_0000) (bits 0xbff4_0000_0000_0000) (bits 0x3fd3_3333_3333_3333)
+quartic_ferrari : quartic_factor_of OfRounded (bits 0x3fe0_0000_0000_0000) (bits 0xbff4_0000_0000_0000) (bits 0x3fd3_3333_3333_3333)
     (bits 0x3fb9_9999_9999_999a) ≡ record {
       al = bits 0x3ffa_5be7_832b_b422;
       be = bits 0x3fd1_4961_dbf0_0bc7;
@@ -19,7 +20,7 @@ quartic_ferrari : quartic_factor_of (bits 0x3fe0_0000_0000_0000) (bits 0xbff4_00
 unfolding computes
 quartic_ferrari = refl
 
-quartic_biquadratic : quartic_factor_of (bits 0x0000_0000_0000_0000) (bits 0x4000_0000_0000_0000) (bits 0x0000_0000_0000_0000)
+quartic_biquadratic : quartic_factor_of OfRounded (bits 0x0000_0000_0000_0000) (bits 0x4000_0000_0000_0000) (bits 0x0000_0000_0000_0000)
     (bits 0x3fe8_0000_0000_0000) ≡ record {
       al = bits 0x0000_0000_0000_0000;
       be = bits 0x3ff8_0000_0000_0000;

@@ -7,6 +7,7 @@ use Rattle.float.specs.Rounded.{◌+ᶠ◌, ◌-ᶠ◌, ◌*ᶠ◌, ◌/ᶠ◌}
 use Rattle.float.specs.Literals.{zero64, tiny64, three256ths64, sixteenth64, eighth64, quarter64, three_eighths64, half64, one64, two64, four64, inf64}
 use Rattle.float.specs.Methods.{abs_of, is_finite_of, copysign_of, max_of}
 use Rattle.sqrt.specs.Root.{sqrt_of}
+use Rattle.angle.specs.declared.Sine.{Sine}
 use Rattle.refine.specs.Refine.{refine_of}
 use Rattle.refine.specs.Systems.{quartic_system}
 use Rattle.refine.specs.Newton.{newton_cubic_of}
@@ -20,14 +21,14 @@ unfoldable pub largest_of : List Float → ℕ → Float
 largest_of ms n = count_up n (λ i m. max_of m (get_or ms i nan)) n (neg inf64)
 
 -- `let m = newton_cubic(&resolvent, m_raw);`: the largest real root of the resolvent m^3 + 2p*m^2 + (p^2 - 4r)*m - q^2, which is -q^2 <= 0 at 0
-unfoldable pub resolvent_of : Float → Float → Float → Float
-resolvent_of p q r =
+unfoldable pub resolvent_of : Sine → Float → Float → Float → Float
+resolvent_of sine p q r =
     -- let resolvent = [-q * q, p * p - 4.0 * r, 2.0 * p, 1.0, 0.0];
     let m0 = neg q *ᶠ q in
     let m1 = p *ᶠ p -ᶠ four64 *ᶠ r in
     let m2 = two64 *ᶠ p in
     -- let (ms, n) = cubic_closed_form(resolvent[2], resolvent[1], resolvent[0]);
-    let s = cubic_closed_form_of m2 m1 m0 in
+    let s = cubic_closed_form_of sine m2 m1 m0 in
     newton_cubic_of (m0 ∷ m1 ∷ m2 ∷ one64 ∷ zero64 ∷ []) (largest_of (places_of s) (count_of s))
 
 -- `if m > 1e-8 * scale && m.is_finite()`: m is clear of 0, against the scale of p and r
@@ -55,8 +56,8 @@ ferrari_of p q r m =
     cond (is_clear_of p r m) (record { u = u; v = v; w = w }) (record { u = zero64; v = z; w = over_or r z zero64 })
 
 -- `quartic_factor`, which answers `[(x[0], x[1]), (x[2], x[3])]`: with y = t + shift the quartic is t^4 + p*t^2 + q*t + r
-unfoldable pub quartic_factor_of : Float → Float → Float → Float → QuarticFactor
-quartic_factor_of b c d e =
+unfoldable pub quartic_factor_of : Sine → Float → Float → Float → Float → QuarticFactor
+quartic_factor_of sine b c d e =
     -- let shift = -0.25 * b;
     let shift = neg quarter64 *ᶠ b in
     -- let b2 = b * b;
@@ -67,7 +68,7 @@ quartic_factor_of b c d e =
     let q = d -ᶠ half64 *ᶠ b *ᶠ c +ᶠ eighth64 *ᶠ b2 *ᶠ b in
     -- let r = e - 0.25 * b * d + 0.0625 * b2 * c - 0.01171875 * b2 * b2;
     let r = e -ᶠ quarter64 *ᶠ b *ᶠ d +ᶠ sixteenth64 *ᶠ b2 *ᶠ c -ᶠ three256ths64 *ᶠ b2 *ᶠ b2 in
-    let t = ferrari_of p q r (resolvent_of p q r) in
+    let t = ferrari_of p q r (resolvent_of sine p q r) in
     let u = t.u in
     let v = t.v in
     let w = t.w in

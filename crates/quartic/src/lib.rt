@@ -6,6 +6,7 @@ ghost use Rattle.std.specs.Prelude.{◌≡◌};
 ghost use Rattle.cubic.specs.Cubic.{places_of, count_of};
 ghost use Rattle.quartic.specs.Quartic.{largest_of, resolvent_of, is_clear_of, ferrari_of, quartic_factor_of};
 
+use angle::Sine;
 use cubic::CubicRoots;
 
 // (y^2 + al*y + be) * (y^2 + ga*y + de)
@@ -39,13 +40,13 @@ fn largest(roots: CubicRoots) -> f64
 // m^3 + 2p*m^2 + (p^2 - 4r)*m - q^2. (p, q and r by themselves, here and below: each function is a formula of poly.rs in these letters, and would take a
 // struct of them apart at once.)
 #[tactic(auto, unfolding(crate::specs::Quartic::resolvent_of))]
-fn resolvent(p: f64, q: f64, r: f64) -> f64
-    ensures { result ≡ resolvent_of p q r }
+fn resolvent(sine: Sine, p: f64, q: f64, r: f64) -> f64
+    ensures { result ≡ resolvent_of sine p q r }
 {
     let m2 = 2.0 * p;
     let m1 = p * p - 4.0 * r;
     let m0 = -q * q;
-    let start = largest(cubic::cubic_closed_form(m2, m1, m0));
+    let start = largest(cubic::cubic_closed_form(sine, m2, m1, m0));
     refine::newton_cubic([m0, m1, m2, 1.0, 0.0], start)
 }
 
@@ -81,15 +82,15 @@ fn ferrari(p: f64, q: f64, r: f64, m: f64) -> Depressed
 
 // With y = t + shift: t^4 + p*t^2 + q*t + r. (The coefficients one by one, as in poly.rs and as C hands them in.)
 #[tactic(auto, unfolding(crate::specs::Quartic::quartic_factor_of))]
-pub fn quartic_factor(b: f64, c: f64, d: f64, e: f64) -> QuarticFactor
-    ensures { result ≡ quartic_factor_of b c d e }
+pub fn quartic_factor(sine: Sine, b: f64, c: f64, d: f64, e: f64) -> QuarticFactor
+    ensures { result ≡ quartic_factor_of sine b c d e }
 {
     let shift = -0.25 * b;
     let b2 = b * b;
     let p = c - 0.375 * b2;
     let q = d - 0.5 * b * c + 0.125 * b2 * b;
     let r = e - 0.25 * b * d + 0.0625 * b2 * c - 0.01171875 * b2 * b2;
-    let m = resolvent(p, q, r);
+    let m = resolvent(sine, p, q, r);
     let t = ferrari(p, q, r, m);
     let s2 = shift * shift;
     let start = [

@@ -1,1 +1,2 @@
 pub mod Double
+pub mod Quad

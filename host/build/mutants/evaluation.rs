@@ -1,4 +1,5 @@
 //! Mistakes in evaluation, powers of two and the leaves.
+use crate::mutants::PAIR;
 use crate::patches::Variant;
 
 const P: &str = "poly.rs";
@@ -349,9 +350,8 @@ pub const ALL: &[Variant] = &[
         "s is the sine of a third of the angle",
         &[(
             P,
-            "let (cos, sin) = crate::truth::exact::third_angle(cos3);",
-            "let (cos, sin) = (crate::truth::exact::third_angle(cos3).0, ((1.0 - crate::truth::exact::third_angle(cos3).0) * (1.0 + \
-             crate::truth::exact::third_angle(cos3).0)).sqrt());",
+            PAIR,
+            "let cos = crate::truth::angle::third_angle(crate::runs::mutants::sine(), cos3).0; let sin = ((1.0 - cos) * (1.0 + cos)).sqrt();",
             1,
         )],
     ),
@@ -360,8 +360,8 @@ pub const ALL: &[Variant] = &[
         "the angle's third of the other end",
         &[(
             P,
-            "let (cos, sin) = crate::truth::exact::third_angle(cos3);",
-            "let (cos, sin) = crate::truth::exact::third_angle(-cos3);",
+            PAIR,
+            "let (cos, sin) = crate::truth::angle::third_angle(crate::runs::mutants::sine(), -cos3);",
             1,
         )],
     ),

@@ -1,4 +1,5 @@
 //! Mistakes in cubics, quartics, their refinement and the square systems.
+use crate::mutants::PAIR;
 use crate::patches::Variant;
 
 const P: &str = "poly.rs";
@@ -25,8 +26,8 @@ pub const ALL: &[Variant] = &[
         "s is the sine of the angle, not √(1 - c²) of the rounded c",
         &[(
             P,
-            "let (cos, sin) = crate::truth::exact::third_angle(cos3);",
-            "let (cos, sin) = (crate::truth::exact::third_angle(cos3).0, (cos3.acos() / 3.0).sin());",
+            PAIR,
+            "let (cos, sin) = (crate::truth::angle::third_angle(crate::runs::mutants::sine(), cos3).0, (cos3.acos() / 3.0).sin());",
             1,
         )],
     ),

@@ -1,4 +1,5 @@
 //! Plausible mistakes, and one for each operator of the definitions.
+mod angles;
 mod bands;
 mod contact_records;
 mod contacts;
@@ -25,9 +26,14 @@ mod totals;
 
 use crate::patches::Variant;
 
+/// Where the copy makes a pair.
+const PAIR: &str =
+    "let (cos, sin) = crate::truth::angle::third_angle(crate::runs::mutants::sine(), cos3);";
+
 pub fn all() -> Vec<Variant> {
     [
         evaluation::ALL,
+        angles::ALL,
         scaling::ALL,
         scales::ALL,
         factors::ALL,

@@ -1,16 +1,19 @@
-//! What was met in comparing the port with the reference build, and the untouched Rust beside it.
+//! What was met in comparing the port with the reference build, and another build beside it.
 use crate::compare::answer::Answer;
 use crate::compare::tally::Tally;
 use crate::compare::ways::{Counts, OF_LISTS, WAYS, named};
+use crate::truth::angle::Sine;
 use crate::truth::kind::Kind;
 use std::cell::Cell;
 
-/// Ways in which the untouched Rust departs from the reference build.
+/// Ways in which another build departs from the reference build.
 const DEPARTURES: [&str; 4] = ["in bits alone", "in count", "in multiplicity", "in questions"];
 
 pub struct Outcome {
     /// What the inputs are.
     pub name: &'static str,
+    /// None where no mode changes an answer.
+    sine: Option<Sine>,
     pub inputs: u64,
     pub wrong: u64,
     /// The first inputs on which port and reference build differ.
@@ -20,16 +23,25 @@ pub struct Outcome {
     pub kinds: [u64; 3],
     pub ways: Counts,
     departed: Tally,
-    /// How many of the untouched Rust's answers were looked at.
+    /// How many of the other build's answers were looked at.
     beside: Cell<u64>,
 }
 
+/// What stands beside: the untouched Rust, and in the mode of the exact c the other mode.
+fn other(sine: Option<Sine>) -> &'static str {
+    match sine {
+        Some(Sine::OfExact) => Sine::OfRounded.words(),
+        _ => "the untouched Rust",
+    }
+}
+
 impl Outcome {
-    pub fn new(name: &'static str, cases: &[&'static str]) -> Outcome {
+    pub fn new(name: &'static str, sine: Option<Sine>, cases: &[&'static str]) -> Outcome {
         let (met, departed) = (Tally::new(cases), Tally::new(&DEPARTURES));
         let ways = [0; WAYS.len()];
         let (shown, beside) = (Vec::new(), Cell::new(0));
-        Outcome { name, inputs: 0, wrong: 0, shown, met, kinds: [0; 3], ways, departed, beside }
+        let (inputs, wrong, kinds) = (0, 0, [0; 3]);
+        Outcome { name, sine, inputs, wrong, shown, met, kinds, ways, departed, beside }
     }
 
     pub fn join(&mut self, other: Outcome) {
@@ -69,14 +81,13 @@ impl Outcome {
         assert!(!self.kinds.contains(&0), "{}: of each kind {:?}", self.name, self.kinds);
     }
 
-    /// The untouched Rust's answer beside the reference build's, and whether its questions are the
+    /// The other build's answer beside the reference build's, and whether its questions are the
     /// same.
-    pub fn beside(&self, untouched: &Answer, wanted: &Answer, questions: bool) {
+    pub fn beside(&self, given: &Answer, wanted: &Answer, questions: bool) {
         self.beside.set(self.beside.get() + 1);
-        let other = !untouched.same_places(wanted);
-        let count = other && untouched.len != wanted.len;
-        let multiplicity =
-            other && !count && untouched.multiplicities().ne(wanted.multiplicities());
+        let other = !given.same_places(wanted);
+        let count = other && given.len != wanted.len;
+        let multiplicity = other && !count && given.multiplicities().ne(wanted.multiplicities());
         self.departed.add(&[other && !count && !multiplicity, count, multiplicity, !questions]);
     }
 
@@ -96,10 +107,11 @@ impl Outcome {
         };
         let departed = match self.beside.get() {
             0 => String::new(),
-            _ => format!("\nthe untouched Rust departs: {}", self.departed.text()),
+            _ => format!("\n{} departs: {}", other(self.sine), self.departed.text()),
         };
+        let mode = self.sine.map(|sine| format!(", {}", sine.words())).unwrap_or_default();
         format!(
-            "{} {}, {} differ\n{}{kinds}\nthe reference build's ways: {}{departed}",
+            "{} {}{mode}, {} differ\n{}{kinds}\nthe reference build's ways: {}{departed}",
             self.inputs,
             self.name,
             self.wrong,

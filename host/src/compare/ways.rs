@@ -95,6 +95,14 @@ pub fn counts() -> Counts {
     COUNTS.with(Cell::get)
 }
 
+/// A run that counts nothing.
+pub fn uncounted<R>(run: impl FnOnce() -> R) -> R {
+    let before = counts();
+    let result = run();
+    COUNTS.set(before);
+    result
+}
+
 /// Those counted since.
 pub fn since(before: &Counts) -> Counts {
     let now = counts();

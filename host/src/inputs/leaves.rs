@@ -1,6 +1,7 @@
 //! Inputs for the leaves: by chance, and at the places where an answer changes.
 use crate::compare::{Kind, kind};
 use crate::inputs::random::{EDGES, Random};
+use crate::truth::angle::{Sine, third_angle};
 use crate::truth::exact::{Digits, digits, ldexp, nearest, thresholds};
 
 /// The double `steps` patterns further on.
@@ -176,6 +177,32 @@ fn third_at(t: u64) -> f64 {
     if below { -v } else { v }
 }
 
+/// Doubles v at which s of the exact c changes from one double to the next, and neighbours: found by
+/// halving, as s falls where v grows.
+pub fn sine_middles(r: &mut Random, n: usize) -> Vec<f64> {
+    // the doubles from -1 to 1 in order
+    let ordered = |n: i64| match n {
+        0.. => f64::from_bits(n as u64),
+        _ => -f64::from_bits(-n as u64),
+    };
+    let place = |r: &mut Random| {
+        let v = 2.0 * r.unit() - 1.0;
+        let near = if r.below(4) == 0 { 1.0 - ldexp(v + 1.0, -(r.below(50) as i32)) } else { v };
+        let s = third_angle(Sine::OfExact, near).1;
+        let one = 1f64.to_bits() as i64;
+        let (mut low, mut high) = (-one, one);
+        while high - low > 1 {
+            let middle = low + (high - low) / 2;
+            match third_angle(Sine::OfExact, ordered(middle)).1 >= s {
+                true => low = middle,
+                false => high = middle,
+            }
+        }
+        ordered(low)
+    };
+    neighbours(many(n, || place(r)), 2)
+}
+
 /// Values of v for the third angle.
 pub fn third(r: &mut Random) -> Vec<Kind<f64>> {
     let signed = |r: &mut Random, x: f64| if r.below(2) == 0 { x } else { -x };
@@ -194,6 +221,7 @@ pub fn third(r: &mut Random) -> Vec<Kind<f64>> {
         kind("subnormal", many(50_000, || r.subnormal())),
         kind("where c changes", third_middles(r, 250_000)),
         kind("where c changes, about 0", third_middles_at_zero(5000)),
+        kind("where s changes", sine_middles(r, 50_000)),
         kind("edges", neighbours(edges(), 3)),
         kind("NaN", nans(r)),
     ]

@@ -2,6 +2,7 @@
 //! exactly.
 use crate::inputs::leaves::{cube_middles, square_middles, third_middles};
 use crate::inputs::random::Random;
+use crate::truth::angle::{self, Sine};
 use crate::truth::big::Big;
 use crate::truth::exact::{self, digits};
 
@@ -51,7 +52,7 @@ fn square_times(t: u64, n: u64) -> Big {
 /// For a v between -1 and 1, neither of them nor 0. With y = t - 2^53 as in `exact`: y²(y + 3 *
 /// 2^53) against 2^160 (1 + v), both times 2^914.
 fn third_margin(v: f64) -> f64 {
-    let c = exact::third_angle(v).0;
+    let c = angle::third_angle(Sine::OfRounded, v).0;
     let m = (c * (1u64 << 53) as f64) as u64;
     let one = Big::power_of_two(160 + 914);
     let size = crate::truth::plain::units(v);

@@ -6,6 +6,7 @@ use crate::inputs::lists::{KINDS, List, list, steps, tolerance};
 use crate::inputs::polynomials::{self, evaluated, monic, polynomial, quadratics, system};
 use crate::inputs::random::Random;
 use crate::port::{self, clustering as of_port, forty};
+use crate::truth::angle::Sine;
 use crate::truth::methods::max;
 
 type System<const N: usize> = ([[f64; N]; N], [f64; N], f64);
@@ -83,7 +84,7 @@ impl Pieces {
     }
 
     /// What the port answers.
-    pub fn by_port(&self) -> Vec<f64> {
+    pub fn by_port(&self, sine: Sine) -> Vec<f64> {
         let ((a, d), [lo, hi], [al, be]) = (self.list, self.ends, self.factor);
         let (bytes, given) = (forty(a), self.handed.bytes());
         let three = port::solve_square3(self.three.0, self.three.1, self.three.2);
@@ -91,7 +92,7 @@ impl Pieces {
         let lone = port::isolated_root(self.quads);
         let within = of_port::within_band(&bytes, d, self.half, self.y, self.tol);
         [
-            &port::factorize(a, d, self.depth)[..],
+            &port::factorize(sine, a, d, self.depth)[..],
             &[lone.0 as u8 as f64, lone.1, three.0 as u8 as f64],
             &three.1,
             &[four.0 as u8 as f64],
@@ -109,16 +110,16 @@ impl Pieces {
                 [self.handed.n, self.handed.m],
             ),
             &of_port::finish(&bytes, d, &given[..36], self.handed.n, self.tol),
-            &self.below_by_port(),
+            &self.below_by_port(sine),
         ]
         .concat()
     }
 
     /// The same of evaluation, factors and scaling.
-    fn below_by_port(&self) -> Vec<f64> {
+    fn below_by_port(&self, sine: Sine) -> Vec<f64> {
         let (p, d, y) = self.at;
         let ([c0, c1, c2, c3, c4], x) = self.start;
-        let (closed, n) = port::cubic_closed_form(self.cubic);
+        let (closed, n) = port::cubic_closed_form(sine, self.cubic);
         [
             &port::two_prod(p[0], y)[..],
             &[port::discriminant(self.quads[0], self.quads[1])],
@@ -128,8 +129,8 @@ impl Pieces {
             &port::taylor(p, d, y),
             &[port::newton_cubic(c0, c1, c2, c3, c4, x), n as f64],
             &closed,
-            &port::cubic_factor(self.cubic),
-            &port::quartic_factor(self.quartic),
+            &port::cubic_factor(sine, self.cubic),
+            &port::quartic_factor(sine, self.quartic),
             &port::peel_root(self.quartic, self.about),
             &port::scaled_new(self.list.0, self.list.1),
             &port::magnitude_split(self.logs, self.list.1),

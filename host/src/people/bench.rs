@@ -1,8 +1,10 @@
-//! What a call of each proved function costs, beside Rust's own and geomcore's.
+//! What a call of each proved function costs, beside Rust's own and geomcore's: in the mode of the
+//! exact c, where nothing else is said.
 use crate::compare::say;
 use crate::inputs::random::Random;
 use crate::people::progress::Progress;
 use crate::port;
+use crate::truth::angle::Sine;
 use crate::truth::reference;
 use std::hint::black_box;
 use std::time::Instant;
@@ -13,6 +15,10 @@ const VALUES: usize = 1_000_000;
 const FACTORED: usize = 100_000;
 const PASSES: usize = 9;
 const STRETCH: usize = 10_000;
+
+/// The number of the mode.
+#[cfg(geomcore)]
+const EXACT: u32 = Sine::OfExact.number();
 
 /// One line of the table: nanoseconds for a value by the port and by Rust's own, and the most that
 /// their ratio, or the port's time, should be.
@@ -83,12 +89,17 @@ fn roots(r: &mut Random) -> Vec<Row> {
 
 fn angles(r: &mut Random) -> Vec<Row> {
     let v: Vec<f64> = (0..VALUES).map(|_| 2.0 * r.unit() - 1.0).collect();
-    let pair = |v| sum::<2>(|out| port::leaf_third_angle(v, out));
+    let [rounded, exact] = Sine::BOTH
+        .map(|sine| move |v: f64| sum::<2>(|out| port::leaf_third_angle(sine.number(), v, out)));
     let both = |v: f64| {
         let (s, c) = (v.acos() / 3.0).sin_cos();
         s + c
     };
-    vec![row(("third_angle", "sin_cos(acos/3)"), Aim::Times(3.0), &v, pair, both)]
+    let names = ("third_angle, exact c", "of the rounded c");
+    vec![
+        row(("third_angle, rounded", "sin_cos(acos/3)"), Aim::Times(3.0), &v, rounded, both),
+        row(names, Aim::Times(1.5), &v, exact, rounded),
+    ]
 }
 
 fn logarithms(r: &mut Random) -> Vec<Row> {
@@ -146,13 +157,14 @@ fn factors(r: &mut Random) -> Vec<Row> {
         solve::solve_square(m, b, tol).map_or(0.0, |x: [f64; 4]| x.iter().sum())
     };
     let cubics: Vec<_> = (0..FACTORED).map(|_| monic::<3>(r, 1)).collect();
-    let line = |[b, c, d]: [f64; 3]| sum::<3>(|out| exported::cubic_factor(b, c, d, out));
+    let line = |[b, c, d]: [f64; 3]| sum::<3>(|out| exported::cubic_factor(EXACT, b, c, d, out));
     let cubic = |[b, c, d]: [f64; 3]| {
         let (r, e, f) = poly::cubic_factor(b, c, d);
         r + e + f
     };
     let quartics: Vec<_> = (0..FACTORED).map(|_| monic::<4>(r, 1)).collect();
-    let pairs = |[b, c, d, e]: [f64; 4]| sum::<4>(|out| exported::quartic_factor(b, c, d, e, out));
+    let pairs =
+        |[b, c, d, e]: [f64; 4]| sum::<4>(|out| exported::quartic_factor(EXACT, b, c, d, e, out));
     let quartic = |[b, c, d, e]: [f64; 4]| {
         let [(al, be), (ga, de)] = poly::quartic_factor(b, c, d, e);
         al + be + ga + de
@@ -179,6 +191,7 @@ fn lists(r: &mut Random) -> Vec<Row> {
     use crate::compare::answer::LIST;
     use crate::inputs::lists::with_small_roots;
     use crate::inputs::polynomials::polynomial;
+    use crate::port::exported;
     use reference::untouched::poly::real_roots;
     const NAMES: [&[&str]; 3] = [
         &["list 2, uniform", "list 2, whole", "list 2, real roots"],
@@ -205,7 +218,7 @@ fn lists(r: &mut Random) -> Vec<Row> {
             let inputs: Vec<_> = inputs.into_iter().map(|p| (p, port::forty(p))).collect();
             let port = |(_, bytes): ([f64; 5], [u8; 40])| {
                 let mut out = [0; 8 * LIST];
-                port::real_roots_bytes(&bytes[..8 * d + 8], tol, &mut out);
+                exported::real_roots(&bytes[..8 * d + 8], tol, &mut out);
                 port::double(&out, 1)
             };
             let rust = |(p, _): ([f64; 5], [u8; 40])| {
@@ -237,18 +250,20 @@ fn wanted(show: impl Fn(&[u8]) -> Result<port::inquiries::Shown, u64>) -> usize 
 /// replied no. The port begins anew for each reply, and gets all of them at once here.
 #[cfg(geomcore)]
 fn inquiries(r: &mut Random) -> Vec<Row> {
-    use crate::port::inquiries::{SHOWN, inquire, inquire_bytes};
+    use crate::port::exported;
+    use crate::port::inquiries::{SHOWN, inquire};
     use reference::untouched::poly::real_roots_touching;
     const NAMES: [&str; 3] = ["inquiry 2, uniform", "inquiry 3, uniform", "inquiry 4, uniform"];
     let tol = 1.0 / (1u64 << 30) as f64;
     let mut rows = Vec::new();
     for (d, name) in (2..).zip(NAMES) {
         let lists = (0..FACTORED).map(|_| -> [f64; 5] { [0; 5].map(|_| 2.0 * r.unit() - 1.0) });
-        let inputs = lists.map(|p| (p, port::forty(p), wanted(|no| inquire(&p[..=d], tol, no))));
+        let inputs = lists
+            .map(|p| (p, port::forty(p), wanted(|no| inquire(Sine::OfExact, &p[..=d], tol, no))));
         let inputs: Vec<_> = inputs.collect();
         let port = |(_, bytes, n): ([f64; 5], [u8; 40], usize)| {
             let mut out = [0; 8 * SHOWN];
-            inquire_bytes(&bytes[..8 * d + 8], tol, &NO[..n], &mut out);
+            exported::inquire(&bytes[..8 * d + 8], tol, &NO[..n], &mut out);
             port::double(&out, 4)
         };
         let rust = |(p, _, _): ([f64; 5], [u8; 40], usize)| {
@@ -268,10 +283,11 @@ fn cranks(r: &mut Random) -> Vec<Row> {
     use reference::untouched::{Tolerance, equation};
     let tol = Tolerance { confusion: TOL, angular: TOL, parametric: TOL };
     let terms = (0..FACTORED).map(|_| -> [f64; 5] { [0; 5].map(|_| 2.0 * r.unit() - 1.0) });
-    let inputs: Vec<_> = terms.map(|t| (t, wanted(|no| crank_inquire(TOL, t, no)))).collect();
+    let asked = |t| wanted(|no| crank_inquire(Sine::OfExact, TOL, t, no));
+    let inputs: Vec<_> = terms.map(|t| (t, asked(t))).collect();
     let port = |(terms, n): ([f64; 5], usize)| {
         let mut out = [0; 8 * CRANK_SHOWN];
-        crank_inquire_bytes(TOL, terms, &NO[..n], &mut out);
+        crank_inquire_bytes(Sine::OfExact, TOL, terms, &NO[..n], &mut out);
         port::double(&out, 5)
     };
     let rust = |([a2, b2, c1, d1, e], _): ([f64; 5], usize)| {
@@ -294,7 +310,7 @@ fn contacts(r: &mut Random) -> Vec<Row> {
         (0..FACTORED).map(|_| Contact { confusion: TOL, ..on_a_lane(r) }).collect();
     let port = |contact: Contact| {
         let mut out = [0; 8 * LIST];
-        pin_contact_bytes(contact.numbers(), &mut out);
+        pin_contact_bytes(Sine::OfExact, contact.numbers(), &mut out);
         port::double(&out, 1)
     };
     let rust = |contact: Contact| {
@@ -312,9 +328,8 @@ fn formulas(r: &mut Random) -> Vec<Row> {
     use crate::compare::answer::LIST;
     use crate::inputs::formulas::mechanics;
     use crate::inputs::quadratics::TOL;
-    use crate::port::formulas::{
-        COEFFICIENTS, formula_coefficients_bytes as by_port, formula_roots_bytes,
-    };
+    use crate::port::exported;
+    use crate::port::formulas::{COEFFICIENTS, formula_coefficients_bytes as by_port};
     use crate::truth::formula::coefficients;
     use reference::untouched::poly::real_roots;
     let made: Vec<Vec<u8>> = (0..FACTORED).map(|_| mechanics(r)).collect();
@@ -323,7 +338,7 @@ fn formulas(r: &mut Random) -> Vec<Row> {
     let plain = |text| coefficients(text).map_or(0.0, |all| all.iter().sum());
     let port = |text| {
         let mut out = [0; 8 * LIST];
-        formula_roots_bytes(text, TOL, &mut out);
+        exported::formula_roots(text, TOL, &mut out);
         port::double(&out, 1)
     };
     let rust = |text| match coefficients(text) {

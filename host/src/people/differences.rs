@@ -5,6 +5,7 @@ use crate::people::progress::Progress;
 use crate::people::show::{ListFile, of_records, whole_listing};
 use crate::people::table::{quoted, wrapped};
 use crate::people::{As, marked, question, text};
+use crate::truth::angle::Sine;
 use crate::truth::hall_file::{Item, Kind};
 use crate::truth::lister::{Answer, Line, Listed, Reference, Total, Untouched, line};
 use crate::truth::listing::lines_and_total;
@@ -31,7 +32,7 @@ pub fn compared(bytes: &[u8], list_file: ListFile) -> Result<(Vec<Compared>, Tot
     let mut progress = Progress::new("records", records.len());
     let by_all = |(item, port): (Item, Line)| {
         progress.step();
-        let reference = line(&item, &Reference).answer;
+        let reference = line(&item, &Reference(Sine::OfExact)).answer;
         let untouched = line(&item, &Untouched).answer;
         Compared { item, port: port.answer, reference, untouched }
     };
@@ -243,7 +244,7 @@ mod tests {
     }
 
     fn honest(bytes: &[u8], out: &mut [u8]) -> u64 {
-        let listing = listing(bytes, &Reference);
+        let listing = listing(bytes, &Reference(Sine::OfExact));
         let kept = listing.len().min(out.len());
         out[..kept].copy_from_slice(&listing[..kept]);
         listing.len() as u64

@@ -30,10 +30,11 @@ hall draw FILE RECORD     a picture of one record and its answer, in SVG, on sta
                           record
 hall text [FILE]          write a hall file back as lines of text, of which `hall make` makes the
                           same file. Status 1 where the file is not read to its end
-hall compare FILE [--csv] each record by port, reference build and untouched Rust; prints those that
-                          differ, places with their distance in doubles, how many were answered,
-                          refused and equal, and the three totals; with --csv all records. Status 1
-                          where port and reference build differ, 2 where nothing was compared
+hall compare FILE [--csv] each record by port, reference build (with the listing's sine) and
+                          untouched Rust; prints those that differ, places with their distance in
+                          doubles, how many were answered, refused and equal, and the three totals;
+                          with --csv all records. Status 1 where port and reference build differ, 2
+                          where nothing was compared
 hall compare FILE --differences
                           the untouched Rust's departures as rows of a table
 hall random N SEED        a hall file of N made records on standard output; the same SEED makes the
@@ -41,8 +42,10 @@ hall random N SEED        a hall file of N made records on standard output; the 
 hall random N SEED --damage
                           the same, and then cut, or with some byte changed
 hall bench                how long a call of each proved function takes, beside Rust's
-hall lists COUNT SEED     compare COUNT made lists with geomcore's Rust, on two threads. Status 1
-                          where one differs, 2 where nothing was compared; so for those below
+hall lists COUNT SEED     compare COUNT made lists with geomcore's Rust, on two threads, and as many
+                          in the mode of the exact sine, which the listings have, with a copy that
+                          has that sine. Status 1 where one differs, 2 where nothing was compared;
+                          so for those below
 hall inquiries COUNT SEED the same for inquiries: always no, always yes, and by a hash
 hall cranks COUNT SEED    the same for crank equations
 hall contacts COUNT SEED  the same for pin contacts, each question replied by the record
@@ -50,14 +53,15 @@ hall formulas COUNT SEED  the same for formulas, whole and damaged
 hall quadratics COUNT SEED
                           the same for quadratics, their centres, shifted and touching ones
 hall files COUNT SEED     the same for whole hall files, every other one damaged
-hall damage MINUTES SEED  damage stored and made files, those again that met something new
+hall damage MINUTES SEED  damage stored and made files, those again that met something new; a thread
+                          for each mode
 hall doubts COUNT SEED    how many good and how many false roots `hall show` marks as doubtful, over
                           COUNT made lists and cranks at the tolerance 2^-30
 hall coverage COUNT SEED  how often each branch of the reference build was taken, COUNT inputs of
                           each sort; with the feature `coverage`
 hall mutants COUNT SEED   after how many made inputs the comparison notices each mistake in a copy
-                          of the reference build; with the feature `mutants`. Status 1 where one of
-                          them is not noticed
+                          of the reference build, in either mode; with the feature `mutants`. Status
+                          1 where one of them is not noticed
 hall causes COUNT SEED    which leaf makes the untouched Rust depart, over COUNT made lists; with
                           the feature `causes`
 hall stored files DIR     write hall files to DIR/data, their names to DIR/args and the reference

@@ -257,11 +257,12 @@ mod tests {
     #[test]
     fn the_quartic_is_the_rusts() {
         use crate::compare::bits;
+        use crate::truth::angle::Sine;
         use crate::truth::lister::{Reference, Solver};
         let mut r = crate::inputs::random::Random::new(5);
         for n in 0..90_000 {
             let terms = crate::inputs::quadratics::crank(&mut r, n % 9);
-            let turned = Reference.crank(terms, 0.0);
+            let turned = Reference(Sine::OfExact).crank(terms, 0.0);
             assert_eq!(quartic(terms, turned.k).map(bits), turned.quartic.map(bits), "{terms:?}");
         }
     }

@@ -63,8 +63,8 @@ exported! {
     fn leaf_sqrt(x: f64) -> f64;
     fn leaf_cbrt(x: f64) -> f64;
     fn leaf_log2(x: f64) -> f64;
-    /// c and s.
-    fn leaf_third_angle(v: f64, out: &mut [u8]) -> u64;
+    /// c and s, by the number of the sine's mode.
+    fn leaf_third_angle(sine: u32, v: f64, out: &mut [u8]) -> u64;
     /// L of five doubles in 40 bytes.
     fn leaf_log2_five(a: &[u8], out: &mut [u8]) -> u64;
 }
@@ -81,11 +81,11 @@ exported! {
     fn taylor(p: &[u8], d: u64, y: f64, out: &mut [u8]) -> u64;
 
     /// How many roots there are, and three places.
-    fn cubic_closed_form(b: f64, c: f64, d: f64, out: &mut [u8]) -> u64;
+    fn cubic_closed_form(sine: u32, b: f64, c: f64, d: f64, out: &mut [u8]) -> u64;
     /// r, e and f.
-    fn cubic_factor(b: f64, c: f64, d: f64, out: &mut [u8]) -> u64;
+    fn cubic_factor(sine: u32, b: f64, c: f64, d: f64, out: &mut [u8]) -> u64;
     /// al, be, ga and de.
-    fn quartic_factor(b: f64, c: f64, d: f64, e: f64, out: &mut [u8]) -> u64;
+    fn quartic_factor(sine: u32, b: f64, c: f64, d: f64, e: f64, out: &mut [u8]) -> u64;
     /// 1 and the root, or 0 and NaN.
     fn isolated_root(al: f64, be: f64, ga: f64, de: f64, out: &mut [u8]) -> u64;
     /// r, h2, h1 and h0.
@@ -98,7 +98,7 @@ exported! {
     fn magnitude_split(lg: &[u8], d: u64, out: &mut [u8]) -> u64;
     /// nlin, lin, nquad and the al and be of quad, ten doubles, from a depth on for the polynomial
     /// that `Scaled::new` makes.
-    fn factorize(a: &[u8], d: u64, depth: u32, out: &mut [u8]) -> u64;
+    fn factorize(sine: u32, a: &[u8], d: u64, depth: u32, out: &mut [u8]) -> u64;
 
     /// 1 and the unknowns, or zeros, of a system row by row and its right-hand side, in 96 bytes.
     fn solve_square3(s: &[u8], tol: f64, out: &mut [u8]) -> u64;
@@ -131,27 +131,35 @@ exported! {
     fn finish(a: &[u8], d: u64, c: &[u8], n: u64, tol: f64, out: &mut [u8]) -> u64;
 }
 
-// ---- crates/pongewaru
+// ---- crates/pongewaru: each function that solves, in the mode of the exact c, and behind it the same
+// by the number of the mode.
 exported! {
     /// k of the crank equation, and then what its inquiry shows, as for a list, 17 doubles.
     fn crank_inquire(confusion: f64, a2: f64, b2: f64, c1: f64, d1: f64, e: f64, replies: &[u8],
         out: &mut [u8]) -> u64;
+    fn crank_inquire_by(sine: u32, confusion: f64, a2: f64, b2: f64, c1: f64, d1: f64, e: f64,
+        replies: &[u8], out: &mut [u8]) -> u64;
     /// The list of a path's contacts with a circle, every question replied as its numbers say; 13
     /// doubles as for `real_roots`.
     fn pin_contact(confusion: f64, x0: f64, x1: f64, x2: f64, y0: f64, y1: f64, y2: f64, cx: f64,
         cy: f64, r: f64, out: &mut [u8]) -> u64;
+    fn pin_contact_by(sine: u32, confusion: f64, x0: f64, x1: f64, x2: f64, y0: f64, y1: f64,
+        y2: f64, cx: f64, cy: f64, r: f64, out: &mut [u8]) -> u64;
     /// How many coefficients the polynomial of a formula has once zeros at its end are dropped, and
     /// five of them, ascending, 6 doubles; 21 where the text has more than 255 bytes.
     fn formula_coefficients(text: &[u8], out: &mut [u8]) -> u64;
     /// The list of these coefficients; 13 doubles as for `real_roots`, or the same 21.
     fn formula_roots(text: &[u8], tol: f64, out: &mut [u8]) -> u64;
+    fn formula_roots_by(sine: u32, text: &[u8], tol: f64, out: &mut [u8]) -> u64;
     /// What the inquiry about the doubles in `coeffs` shows after these replies, one byte each and 0
     /// for no: 0, or 4 where a reply was refused; 1 and the place where it asks, 0 and 0 where not;
     /// and the list as for `real_roots`; 16 doubles.
     fn inquire(coeffs: &[u8], tol: f64, replies: &[u8], out: &mut [u8]) -> u64;
+    fn inquire_by(sine: u32, coeffs: &[u8], tol: f64, replies: &[u8], out: &mut [u8]) -> u64;
     /// How many roots the list of the doubles in `coeffs` has, and four places with their
     /// multiplicities and kinds, 13 doubles; 20 where the bytes are no whole doubles.
     fn real_roots(coeffs: &[u8], tol: f64, out: &mut [u8]) -> u64;
+    fn real_roots_by(sine: u32, coeffs: &[u8], tol: f64, out: &mut [u8]) -> u64;
 
     /// A number, 0 to 4 for two, one, linear, degenerate and empty, and two places, NaN where there
     /// is none.
@@ -167,4 +175,5 @@ exported! {
     /// The listing of a hall file from the start of `out` on, as far as `out` reaches, and how many
     /// bytes the listing has.
     fn list_file(file: &[u8], out: &mut [u8]) -> u64;
+    fn list_file_by(sine: u32, file: &[u8], out: &mut [u8]) -> u64;
 }

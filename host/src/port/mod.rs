@@ -1,6 +1,9 @@
 //! The proved functions, called through plain C calls: on bytes, as `exported` declares them, and
 //! on numbers.
 use crate::compare::answer::{Answer, LIST};
+use crate::people::show::ListFile;
+use crate::truth::angle::Sine;
+use std::cell::Cell;
 
 pub mod clustering;
 pub mod contacts;
@@ -13,8 +16,47 @@ pub use exported::{
     discriminant, float_abs, float_clamp, float_copysign, float_floor, float_from_bits,
     float_is_finite, float_max, float_min, float_powi, float_to_bits, float_total_le, leaf_cbrt,
     leaf_exponent, leaf_ldexp, leaf_log2, leaf_log2_five, leaf_pow2, leaf_sqrt, leaf_third_angle,
-    list_file, newton_cubic, real_roots as real_roots_bytes,
+    list_file, newton_cubic,
 };
+
+thread_local! {
+    static CALLS: Cell<usize> = const { Cell::new(0) };
+}
+
+/// So many calls have their turn; no sort of inputs has as many kinds, or a multiple.
+const TURNS: usize = 7;
+
+/// The number to hand to a function's twin, or none for the function itself, which is in the mode
+/// of the exact c: there two calls of seven are the twin's. The other mode has every other number.
+pub fn twin(sine: Sine) -> Option<u32> {
+    let turn = CALLS.replace((CALLS.get() + 1) % TURNS);
+    match (sine, turn) {
+        (Sine::OfExact, 0..5) => None,
+        (Sine::OfRounded, 0) => Some(2),
+        (Sine::OfRounded, 1) => Some(u32::MAX),
+        _ => Some(sine.number()),
+    }
+}
+
+/// The same for a function that has none, and always takes the number.
+fn number(sine: Sine) -> u32 {
+    twin(sine).unwrap_or(Sine::OfExact.number())
+}
+
+/// The lister in this mode.
+pub fn lister(sine: Sine) -> ListFile {
+    match sine {
+        Sine::OfRounded => |file, out| list_file_in(Sine::OfRounded, file, out),
+        Sine::OfExact => |file, out| list_file_in(Sine::OfExact, file, out),
+    }
+}
+
+fn list_file_in(sine: Sine, file: &[u8], out: &mut [u8]) -> u64 {
+    match twin(sine) {
+        Some(number) => exported::list_file_by(number, file, out),
+        None => exported::list_file(file, out),
+    }
+}
 
 /// Doubles as bytes, lowest first.
 pub fn bytes(a: &[f64]) -> Vec<u8> {
@@ -68,8 +110,8 @@ fn numbers<const N: usize>(fill: impl FnOnce(&mut [u8]) -> u64) -> [f64; N] {
 }
 
 /// `third_angle`'s answer: c and s.
-pub fn third_angle(v: f64) -> (f64, f64) {
-    numbers::<2>(|out| leaf_third_angle(v, out)).into()
+pub fn third_angle(sine: Sine, v: f64) -> (f64, f64) {
+    numbers::<2>(|out| leaf_third_angle(number(sine), v, out)).into()
 }
 
 /// `two_prod`'s answer.
@@ -135,19 +177,19 @@ pub fn refine_peel([b, c, d, e]: [f64; 4], x: [f64; 4]) -> [f64; 4] {
 }
 
 /// `cubic_closed_form`'s answer: the roots, and how many they are.
-pub fn cubic_closed_form([b, c, d]: [f64; 3]) -> ([f64; 3], u64) {
-    let [n, x @ ..] = numbers::<4>(|out| exported::cubic_closed_form(b, c, d, out));
+pub fn cubic_closed_form(sine: Sine, [b, c, d]: [f64; 3]) -> ([f64; 3], u64) {
+    let [n, x @ ..] = numbers::<4>(|out| exported::cubic_closed_form(number(sine), b, c, d, out));
     (x, n as u64)
 }
 
 /// `cubic_factor`'s answer: r, e and f.
-pub fn cubic_factor([b, c, d]: [f64; 3]) -> [f64; 3] {
-    numbers(|out| exported::cubic_factor(b, c, d, out))
+pub fn cubic_factor(sine: Sine, [b, c, d]: [f64; 3]) -> [f64; 3] {
+    numbers(|out| exported::cubic_factor(number(sine), b, c, d, out))
 }
 
 /// `quartic_factor`'s answer: al, be, ga and de.
-pub fn quartic_factor([b, c, d, e]: [f64; 4]) -> [f64; 4] {
-    numbers(|out| exported::quartic_factor(b, c, d, e, out))
+pub fn quartic_factor(sine: Sine, [b, c, d, e]: [f64; 4]) -> [f64; 4] {
+    numbers(|out| exported::quartic_factor(number(sine), b, c, d, e, out))
 }
 
 /// `isolated_root`'s answer: whether there is one, and the root, NaN where there is none.
@@ -172,8 +214,8 @@ pub fn magnitude_split(lg: [f64; 5], d: u64) -> [f64; 3] {
 }
 
 /// `factorize`'s answer.
-pub fn factorize(a: [f64; 5], d: u64, depth: u32) -> [f64; 10] {
-    numbers(|out| exported::factorize(&forty(a), d, depth, out))
+pub fn factorize(sine: Sine, a: [f64; 5], d: u64, depth: u32) -> [f64; 10] {
+    numbers(|out| exported::factorize(number(sine), &forty(a), d, depth, out))
 }
 
 /// The list, or its refusal.
@@ -184,7 +226,14 @@ fn list(fill: impl FnOnce(&mut [u8]) -> u64) -> Answer {
     }
 }
 
+pub fn real_roots_bytes(sine: Sine, coeffs: &[u8], tol: f64, out: &mut [u8]) -> u64 {
+    match twin(sine) {
+        Some(number) => exported::real_roots_by(number, coeffs, tol, out),
+        None => exported::real_roots(coeffs, tol, out),
+    }
+}
+
 /// `real_roots`'s answer.
-pub fn real_roots(coeffs: &[f64], tol: f64) -> Answer {
-    list(|out| of_bytes(coeffs, |from| exported::real_roots(from, tol, out)))
+pub fn real_roots(sine: Sine, coeffs: &[f64], tol: f64) -> Answer {
+    list(|out| of_bytes(coeffs, |from| real_roots_bytes(sine, from, tol, out)))
 }

@@ -7,7 +7,8 @@ use crate::inputs::lists::{KINDS, handed_in, tolerance};
 use crate::inputs::quadratics::TOL;
 use crate::inputs::random::Random;
 use crate::people::differences::steps;
-use crate::runs::lists::{by_untouched, reference, shown};
+use crate::runs::lists::{beside, reference, shown};
+use crate::truth::angle::Sine;
 
 include!(concat!(env!("OUT_DIR"), "/causes.rs"));
 
@@ -97,7 +98,7 @@ pub fn run(count: u64, seed: u64) -> bool {
         handed_in(&mut r, (n % KINDS.len() as u64) as usize, n, &mut list);
         let tol = tolerance(&mut r);
         let before = ways::counts();
-        let wanted = reference(&list, tol);
+        let wanted = reference(Sine::OfRounded, &list, tol);
         if wanted.refusal != 0 {
             continue;
         }
@@ -105,7 +106,7 @@ pub fn run(count: u64, seed: u64) -> bool {
         if ways::since(&before)[11] > 0 {
             far_place(&mut beyond, &shown(&list, tol), &wanted);
         }
-        let untouched = by_untouched(&list, tol);
+        let untouched = beside(Sine::OfRounded, &list, tol);
         whole.add(&untouched, &wanted, &untouched, (&list, tol));
         let mut one = false;
         for (made, (_, _, _, tree)) in all.iter_mut().zip(&ALL) {

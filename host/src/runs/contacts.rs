@@ -9,31 +9,31 @@ use crate::people::text;
 use crate::port::contacts::pin_contact;
 use crate::runs::inquiries::{Ran, recorded, same_places};
 use crate::runs::parts;
+use crate::truth::angle::Sine;
 use crate::truth::contact::Contact;
 use crate::truth::hall_file::Record;
-use crate::truth::kind::Root;
-use crate::truth::lister::{Reference, Solver, Touches};
-use crate::truth::reference::untouched;
+use crate::truth::lister::{Reference, Solver, Touches, Untouched};
 
 /// The Rust's run of a record, by its `real_roots_touching`; what is refused is not run.
-fn run_by(contact: &Contact, touching: fn(&[f64], f64, Touches) -> Vec<Root>) -> Ran {
+fn run_by(contact: &Contact, solver: &impl Solver) -> Ran {
     let list = |touches: Touches| match contact.refusal() {
-        0 => Answer::new(0, &touching(&contact.coefficients(), contact.confusion, touches)),
+        0 => Answer::new(0, &solver.touching(&contact.coefficients(), contact.confusion, touches)),
         number => Answer::new(number.into(), &[]),
     };
     recorded(|touches| (0, list(touches)), &|t| contact.touches(t))
 }
 
 /// The reference build's.
-pub fn reference(contact: &Contact) -> Ran {
-    run_by(contact, |a, tol, touches| Reference.touching(a, tol, touches))
+pub fn reference(sine: Sine, contact: &Contact) -> Ran {
+    run_by(contact, &Reference(sine))
 }
 
-fn by_untouched(contact: &Contact) -> Ran {
-    run_by(contact, |a, tol, touches| {
-        let list = untouched::poly::real_roots_touching(a, tol, touches);
-        list.iter().map(|r| Root::new(r.value, r.multiplicity)).collect()
-    })
+/// What stands beside: the untouched Rust's, and in the mode of the exact c that of the other mode.
+fn beside(sine: Sine, contact: &Contact) -> Ran {
+    match sine {
+        Sine::OfRounded => run_by(contact, &Untouched),
+        Sine::OfExact => ways::uncounted(|| reference(Sine::OfRounded, contact)),
+    }
 }
 
 pub const CASES: [&str; 21] = [
@@ -98,11 +98,11 @@ fn cases(contact: &Contact, ran: &Ran) -> [bool; CASES.len()] {
 }
 
 /// One record, and what the others answer to it.
-pub fn add(outcome: &mut Outcome, contact: &Contact) {
-    let ran = reference(contact);
-    let other = by_untouched(contact);
+pub fn add(outcome: &mut Outcome, sine: Sine, contact: &Contact) {
+    let ran = reference(sine, contact);
+    let other = beside(sine, contact);
     outcome.beside(&other.list, &ran.list, same_places(&other.places, &ran.places));
-    let given = pin_contact(contact.numbers());
+    let given = pin_contact(sine, contact.numbers());
     outcome.inputs += 1;
     outcome.met.add(&cases(contact, &ran));
     outcome.add_roots(ran.list.kinds());
@@ -120,12 +120,12 @@ const EDGES: u64 = 8;
 
 /// The n-th made record, of the kinds in turn: now and then |D - R| at a place that is asked about
 /// is its confusion, or a double beside it.
-pub fn made_record(r: &mut Random, n: u64) -> Contact {
+pub fn made_record(r: &mut Random, sine: Sine, n: u64) -> Contact {
     let contact = contacts::contact(r, (n % KINDS.len() as u64) as usize);
     if r.below(EDGES) > 0 {
         return contact;
     }
-    let places = reference(&contact).places;
+    let places = reference(sine, &contact).places;
     match places.len() as u64 {
         0 => contact,
         asked => {
@@ -137,12 +137,12 @@ pub fn made_record(r: &mut Random, n: u64) -> Contact {
 }
 
 /// `count` made records, the kinds in turn.
-pub fn made(seed: u64, count: u64) -> Outcome {
+pub fn made(sine: Sine, seed: u64, count: u64) -> Outcome {
     let mut r = Random::new(seed);
     let before = ways::counts();
-    let mut outcome = Outcome::new("contacts", &CASES);
+    let mut outcome = Outcome::new("contacts", Some(sine), &CASES);
     for n in 0..count {
-        add(&mut outcome, &made_record(&mut r, n));
+        add(&mut outcome, sine, &made_record(&mut r, sine, n));
     }
     outcome.ways = ways::since(&before);
     outcome
@@ -150,5 +150,5 @@ pub fn made(seed: u64, count: u64) -> Outcome {
 
 /// The long run; whether all were equal.
 pub fn run(count: u64, seed: u64) -> bool {
-    parts::run(parts::RECORDS, (count, seed), &KINDS, made)
+    parts::run_both(parts::RECORDS, (count, seed), &KINDS, made)
 }

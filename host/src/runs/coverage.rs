@@ -10,6 +10,7 @@ use crate::runs::cranks;
 use crate::runs::inquiries::REPLIES;
 use crate::runs::lists::{reference, tolerance_for};
 use crate::runs::trees::{Tree, tree};
+use crate::truth::angle::Sine;
 use crate::truth::reference::covered::poly;
 use std::cell::Cell;
 
@@ -89,8 +90,9 @@ fn of_lists(count: u64, seed: u64) {
     let (mut r, mut a) = (Random::new(seed), Vec::new());
     for n in 0..count {
         handed_in(&mut r, (n % lists::KINDS.len() as u64) as usize, n, &mut a);
-        let tol = tolerance_for(&mut r, &a);
-        assert!((COVERED.list)(&a, tol).same(&reference(&a, tol)), "{a:?} at {tol:e}");
+        let tol = tolerance_for(&mut r, Sine::OfRounded, &a);
+        let wanted = reference(Sine::OfRounded, &a, tol);
+        assert!((COVERED.list)(&a, tol).same(&wanted), "{a:?} at {tol:e}");
         for touches in &REPLIES {
             (COVERED.touching)(&a, tol, touches);
         }

@@ -9,6 +9,7 @@ use crate::inputs::random::Random;
 use crate::port::inquiries::{Shown, crank_inquire};
 use crate::runs::inquiries::{Inquiry, MORE, add, cases};
 use crate::runs::parts;
+use crate::truth::angle::Sine;
 use crate::truth::kind::Root;
 use crate::truth::lister::{Touches, finite, trimmed};
 use crate::truth::reference::untouched;
@@ -33,40 +34,38 @@ const CASES: [&str; 11] = cases("refused 5");
 /// a2, b2, c1, d1, e, and confusion.
 pub struct Crank(pub [f64; 5], pub f64);
 
-impl Crank {
-    /// k and the list, with the number of the refusal by document 01.
-    pub fn answer(
-        &self,
-        k: usize,
-        quartic: &[f64; 5],
-        roots: impl Iterator<Item = Root>,
-    ) -> (u64, Answer) {
-        let refusal = match trimmed(quartic) {
-            _ if !finite(&self.0) => refusals::NOT_FINITE,
-            _ if !finite(quartic) => refusals::ANSWER_NOT_FINITE,
-            0 | 1 => refusals::TOO_FEW,
-            _ => 0,
-        };
-        let roots: Vec<Root> = roots.collect();
-        (k as u64, Answer::new(refusal.into(), &roots))
-    }
+/// k and the list, with the number of the refusal by document 01.
+pub fn answer(
+    terms: [f64; 5],
+    k: usize,
+    quartic: &[f64; 5],
+    roots: impl Iterator<Item = Root>,
+) -> (u64, Answer) {
+    let refusal = match trimmed(quartic) {
+        _ if !finite(&terms) => refusals::NOT_FINITE,
+        _ if !finite(quartic) => refusals::ANSWER_NOT_FINITE,
+        0 | 1 => refusals::TOO_FEW,
+        _ => 0,
+    };
+    let roots: Vec<Root> = roots.collect();
+    (k as u64, Answer::new(refusal.into(), &roots))
 }
 
 impl Inquiry for Crank {
-    fn port(&self, replies: &[u8]) -> Result<Shown, u64> {
-        crank_inquire(self.1, self.0, replies)
+    fn port(&self, sine: Sine, replies: &[u8]) -> Result<Shown, u64> {
+        crank_inquire(sine, self.1, self.0, replies)
     }
 
-    fn reference(&self, touches: Touches) -> (u64, Answer) {
-        let (k, quartic, list) = touching::crank(self.0, self.1, touches);
-        self.answer(k, &quartic, list.into_iter().map(Root::by))
+    fn reference(&self, sine: Sine, touches: Touches) -> (u64, Answer) {
+        let (k, quartic, list) = touching::crank(sine, self.0, self.1, touches);
+        answer(self.0, k, &quartic, list.into_iter().map(Root::by))
     }
 
     fn untouched(&self, touches: Touches) -> (u64, Answer) {
         let Crank([a2, b2, c1, d1, e], confusion) = *self;
         let tol = untouched::Tolerance { confusion, angular: 0.0, parametric: 0.0 };
         let (k, quartic, list) = untouched::equation::solve_trig(a2, b2, c1, d1, e, tol, touches);
-        self.answer(k, &quartic, list.iter().map(|r| Root::new(r.value, r.multiplicity)))
+        answer(self.0, k, &quartic, list.iter().map(|r| Root::new(r.value, r.multiplicity)))
     }
 
     fn text(&self) -> String {
@@ -94,13 +93,13 @@ pub fn terms(r: &mut Random, n: u64) -> [f64; 5] {
 }
 
 /// `count` made equations, the kinds in turn.
-pub fn made(seed: u64, count: u64) -> Outcome {
+pub fn made(sine: Sine, seed: u64, count: u64) -> Outcome {
     let mut r = Random::new(seed);
     let before = ways::counts();
-    let mut outcome = Outcome::new("cranks", &CASES);
+    let mut outcome = Outcome::new("cranks", Some(sine), &CASES);
     for n in 0..count {
         let terms = terms(&mut r, n);
-        add(&mut outcome, &Crank(terms, tolerance(&mut r)), n % MORE == 0);
+        add(&mut outcome, sine, &Crank(terms, tolerance(&mut r)), n % MORE == 0);
     }
     outcome.ways = ways::since(&before);
     outcome
@@ -108,5 +107,5 @@ pub fn made(seed: u64, count: u64) -> Outcome {
 
 /// The long run; whether all were equal.
 pub fn run(count: u64, seed: u64) -> bool {
-    parts::run(parts::RECORDS, (count, seed), &KINDS, made)
+    parts::run_both(parts::RECORDS, (count, seed), &KINDS, made)
 }

@@ -8,6 +8,7 @@ use crate::inputs::random::Random;
 use crate::people::table::in_columns;
 use crate::port;
 use crate::stored;
+use crate::truth::angle::Sine;
 use crate::truth::hall_file::{Item, Record, items};
 use crate::truth::kind::Root;
 use crate::truth::lister::{Answer, Line};
@@ -46,8 +47,8 @@ fn met(line: &Line, ways: &Counts) -> u64 {
 
 impl Hunt {
     /// Begins with the stored files.
-    pub fn new(seed: u64) -> Hunt {
-        let (r, files) = (Random::new(seed), Files::new(port::list_file));
+    pub fn new(sine: Sine, seed: u64) -> Hunt {
+        let (r, files) = (Random::new(seed), Files::new(sine, port::lister(sine)));
         let mut hunt = Hunt { r, files, kept: Vec::new(), seen: HashSet::new() };
         for (_, bytes) in stored::files::files() {
             hunt.add(&bytes);
@@ -148,8 +149,8 @@ const PAUSE: Duration = Duration::from_secs(10);
 const LOOK: u32 = 200;
 
 /// Turns for so long.
-fn hunted(seed: u64, time: Duration) -> (Outcome, usize) {
-    let (mut hunt, start) = (Hunt::new(seed), Instant::now());
+fn hunted(sine: Sine, seed: u64, time: Duration) -> (Outcome, usize) {
+    let (mut hunt, start) = (Hunt::new(sine, seed), Instant::now());
     let mut said = start;
     while start.elapsed() < time {
         (0..LOOK).for_each(|_| hunt.turn());
@@ -157,7 +158,8 @@ fn hunted(seed: u64, time: Duration) -> (Outcome, usize) {
             let [files, new, wrong] = hunt.so_far();
             let seconds = start.elapsed().as_secs();
             eprintln!(
-                "seed {seed}, {seconds} s: {files} files, {new} records met something new, {wrong} differ"
+                "{}, {seconds} s: {files} files, {new} records met something new, {wrong} differ",
+                sine.words()
             );
             said = Instant::now();
         }
@@ -165,17 +167,17 @@ fn hunted(seed: u64, time: Duration) -> (Outcome, usize) {
     hunt.outcome()
 }
 
-/// The long run on two threads, each with a seed of its own; whether all were equal.
+/// The long run on two threads, one for each mode; whether all were equal.
 pub fn run(minutes: u64, seed: u64) -> bool {
     let time = Duration::from_secs(60 * minutes);
-    let (first, second) = std::thread::scope(|scope| {
-        let second = scope.spawn(|| hunted(seed.wrapping_add(1 << 32), time));
-        (hunted(seed, time), second.join().expect("the second thread"))
+    let found = std::thread::scope(|scope| {
+        let hunts = Sine::BOTH.map(|sine| scope.spawn(move || hunted(sine, seed, time)));
+        hunts.map(|hunt| hunt.join().expect("a thread"))
     });
-    let ((mut all, new), (more, newer)) = (first, second);
-    all.join(more);
-    all.shown.iter().for_each(|line| say(line));
-    let line = format!("seed {seed}, two threads, {new} and {newer} records met something new");
-    say(&in_columns(&format!("{line}\n{}", all.text())));
-    all.wrong == 0
+    for (all, new) in &found {
+        all.shown.iter().for_each(|line| say(line));
+        let line = format!("seed {seed}, {new} records met something new");
+        say(&in_columns(&format!("{line}\n{}", all.text())));
+    }
+    found.iter().all(|(all, _)| all.wrong == 0)
 }

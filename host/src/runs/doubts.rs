@@ -5,6 +5,7 @@ use crate::inputs::quadratics::TOL;
 use crate::inputs::random::Random;
 use crate::people::doubt::Look;
 use crate::runs::{cranks, lists};
+use crate::truth::angle::Sine;
 use crate::truth::exact::{exponent, ldexp, scale_exponent};
 use crate::truth::hall_file::Record;
 use crate::truth::kind::Root;
@@ -77,6 +78,9 @@ const COLUMNS: [(&str, Class, bool); 9] = [
     ("false", Class::False, true),
 ];
 
+/// `hall show` shows the listing, which is in this mode.
+const REFERENCE: Reference = Reference(Sine::OfExact);
+
 /// So many inputs of each sort are shown.
 const SHOWN: usize = 5;
 
@@ -132,13 +136,13 @@ fn counted(count: u64, seed: u64) -> (Rows, Faults) {
         let (coeffs, roots, text) = if which < KINDS.len() {
             handed_in(&mut r, which, n, &mut list);
             let record = Record::List { tolerance: TOL, coeffs: list.clone() };
-            let Answer::List(roots) = answer(&record, &Reference) else { continue };
+            let Answer::List(roots) = answer(&record, &REFERENCE) else { continue };
             (list.clone(), roots, lists::shown(&list, TOL))
         } else {
             let terms = cranks::terms(&mut r, n / rows.len() as u64);
             let record = Record::Crank { confusion: TOL, terms };
-            let Answer::Crank(..) = answer(&record, &Reference) else { continue };
-            let Turned { quartic, roots, .. } = Reference.crank(terms, TOL);
+            let Answer::Crank(..) = answer(&record, &REFERENCE) else { continue };
+            let Turned { quartic, roots, .. } = REFERENCE.crank(terms, TOL);
             (quartic.to_vec(), roots, format!("crank {}", lists::shown(&terms, TOL)))
         };
         add(&mut rows[which], &mut faults, &text, &coeffs, &roots);

@@ -8,6 +8,7 @@ use crate::people::show::ListFile;
 use crate::people::text;
 use crate::port;
 use crate::runs::parts;
+use crate::truth::angle::Sine;
 use crate::truth::hall_file::{Item, Kind, MOST_BYTES, MOST_LISTED, file, items};
 use crate::truth::lister::{Answer, Line, Reference, Total, line};
 use std::fmt::Write;
@@ -55,6 +56,7 @@ const ROOM: usize = MOST_LISTED + UNTOUCHED.len();
 
 /// What was compared so far, and a buffer for the port's listing.
 pub(super) struct Files {
+    sine: Sine,
     port: ListFile,
     pub(super) outcome: Outcome,
     before: Counts,
@@ -62,9 +64,9 @@ pub(super) struct Files {
 }
 
 impl Files {
-    pub(super) fn new(port: ListFile) -> Files {
-        let outcome = Outcome::new("files", &CASES);
-        Files { port, outcome, before: ways::counts(), out: vec![0; ROOM] }
+    pub(super) fn new(sine: Sine, port: ListFile) -> Files {
+        let outcome = Outcome::new("files", Some(sine), &CASES);
+        Files { sine, port, outcome, before: ways::counts(), out: vec![0; ROOM] }
     }
 
     /// One file by both. `each` gets what it holds, the reference build's line for it, and the ways
@@ -74,7 +76,7 @@ impl Files {
         let (mut wanted, mut answers) = (String::new(), Vec::with_capacity(items.len()));
         for item in &items {
             let before = ways::counts();
-            let line = line(item, &Reference);
+            let line = line(item, &Reference(self.sine));
             writeln!(wanted, "{line}").expect("a line");
             self.outcome.met.add(&cases(&line));
             let listed = line.answer.roots().into_iter().filter_map(|(_, listed)| listed);
@@ -169,8 +171,8 @@ pub fn nth(r: &mut Random, n: u64) -> Vec<u8> {
 }
 
 /// `count` made files, the kinds in turn.
-pub fn made(seed: u64, count: u64) -> Outcome {
-    let (mut r, mut files) = (Random::new(seed), Files::new(port::list_file));
+pub fn made(sine: Sine, seed: u64, count: u64) -> Outcome {
+    let (mut r, mut files) = (Random::new(seed), Files::new(sine, port::lister(sine)));
     for n in 0..count {
         files.add(&nth(&mut r, n), |_, _, _| ());
     }
@@ -182,7 +184,7 @@ const PART: u64 = 50_000;
 
 /// The long run; whether all were equal.
 pub fn run(count: u64, seed: u64) -> bool {
-    parts::run(PART, (count, seed), &KINDS, made)
+    parts::run_both(PART, (count, seed), &KINDS, made)
 }
 
 #[cfg(test)]
@@ -192,7 +194,7 @@ mod tests {
 
     fn said(port: ListFile) -> Vec<String> {
         let records = text::read(DOCUMENT.as_bytes()).unwrap();
-        let mut files = Files::new(port);
+        let mut files = Files::new(Sine::OfExact, port);
         files.add(&file(&records), |_, _, _| ());
         files.outcome().shown
     }

@@ -9,6 +9,7 @@ use crate::inputs::random::Random;
 use crate::people::text;
 use crate::port::formulas::{COEFFICIENTS, formula_coefficients, formula_roots};
 use crate::runs::{lists, parts};
+use crate::truth::angle::Sine;
 use crate::truth::formula;
 use crate::truth::hall_file::Record;
 
@@ -25,10 +26,10 @@ pub fn expanded(coeffs: &Result<Vec<f64>, u8>) -> Expanded {
 }
 
 /// The coefficients by the host's own reader, and their list by the reference build.
-pub fn reference(text: &[u8], tol: f64) -> (Expanded, Answer) {
+pub fn reference(sine: Sine, text: &[u8], tol: f64) -> (Expanded, Answer) {
     let coeffs = formula::coefficients(text).map_err(|fault| fault.refusal());
     let list = match &coeffs {
-        Ok(coeffs) => lists::reference(coeffs, tol),
+        Ok(coeffs) => lists::reference(sine, coeffs, tol),
         Err(number) => Answer::new((*number).into(), &[]),
     };
     (expanded(&coeffs), list)
@@ -94,14 +95,14 @@ fn same(given: &Expanded, wanted: &Expanded) -> bool {
 }
 
 /// One text, and what is answered to it.
-pub fn add(outcome: &mut Outcome, text: &[u8], tol: f64) {
-    let (coeffs, list) = reference(text, tol);
-    let (expanded, roots) = (formula_coefficients(text), formula_roots(text, tol));
+pub fn add(outcome: &mut Outcome, sine: Sine, text: &[u8], tol: f64) {
+    let (coeffs, list) = reference(sine, text, tol);
+    let (expanded, roots) = (formula_coefficients(text), formula_roots(sine, text, tol));
     outcome.inputs += 1;
     outcome.met.add(&cases(text, &coeffs, &list));
     outcome.add_roots(list.kinds());
     if let Ok([count, all @ ..]) = &coeffs {
-        outcome.beside(&lists::by_untouched(&all[..*count as usize], tol), &list, true);
+        outcome.beside(&lists::beside(sine, &all[..*count as usize], tol), &list, true);
     }
     if !same(&expanded, &coeffs) || !roots.same(&list) {
         outcome.differs(|| {
@@ -113,9 +114,9 @@ pub fn add(outcome: &mut Outcome, text: &[u8], tol: f64) {
 }
 
 /// What `each` adds.
-pub fn outcome(each: impl FnOnce(&mut Outcome)) -> Outcome {
+pub fn outcome(sine: Sine, each: impl FnOnce(&mut Outcome)) -> Outcome {
     let before = ways::counts();
-    let mut outcome = Outcome::new("formulas", &CASES);
+    let mut outcome = Outcome::new("formulas", Some(sine), &CASES);
     each(&mut outcome);
     outcome.ways = ways::since(&before);
     outcome
@@ -129,17 +130,17 @@ pub fn made_record(r: &mut Random, n: u64) -> (Vec<u8>, f64) {
 }
 
 /// `count` made texts, the kinds in turn.
-pub fn made(seed: u64, count: u64) -> Outcome {
+pub fn made(sine: Sine, seed: u64, count: u64) -> Outcome {
     let mut r = Random::new(seed);
-    outcome(|all| {
+    outcome(sine, |all| {
         for n in 0..count {
             let (text, tol) = made_record(&mut r, n);
-            add(all, &text, tol);
+            add(all, sine, &text, tol);
         }
     })
 }
 
 /// The long run; whether all were equal.
 pub fn run(count: u64, seed: u64) -> bool {
-    parts::run(parts::RECORDS, (count, seed), &KINDS, made)
+    parts::run_both(parts::RECORDS, (count, seed), &KINDS, made)
 }

@@ -9,6 +9,7 @@ use crate::inputs::random::Random;
 use crate::port::inquiries::{Shown, inquire};
 use crate::runs::lists::{shown, tolerance_for};
 use crate::runs::parts;
+use crate::truth::angle::Sine;
 use crate::truth::kind::Root;
 use crate::truth::lister::{Touches, refusal};
 use crate::truth::reference::untouched;
@@ -24,12 +25,20 @@ pub struct Ran {
     pub places: Vec<f64>,
 }
 
-/// What can be asked of the port, with the replies so far, and of the Rust.
+/// What can be asked of the port, with the replies so far, and of the Rust, in either mode.
 pub trait Inquiry {
-    fn port(&self, replies: &[u8]) -> Result<Shown, u64>;
-    fn reference(&self, touches: Touches) -> (u64, Answer);
+    fn port(&self, sine: Sine, replies: &[u8]) -> Result<Shown, u64>;
+    fn reference(&self, sine: Sine, touches: Touches) -> (u64, Answer);
     fn untouched(&self, touches: Touches) -> (u64, Answer);
     fn text(&self) -> String;
+}
+
+/// What stands beside: the untouched Rust, and in the mode of the exact c the other mode.
+fn beside(sine: Sine, inquiry: &impl Inquiry, touches: Touches) -> (u64, Answer) {
+    match sine {
+        Sine::OfRounded => inquiry.untouched(touches),
+        Sine::OfExact => ways::uncounted(|| inquiry.reference(Sine::OfRounded, touches)),
+    }
 }
 
 /// A run, with the places asked about.
@@ -78,10 +87,15 @@ fn said(given: &Result<Shown, u64>) -> String {
 
 /// What differs where the replies are those of the Rust's run, one question after another; `more`
 /// gives replies after the end too, which are refused and change nothing.
-fn followed(inquiry: &impl Inquiry, ran: &Ran, touches: Touches, more: bool) -> Result<(), String> {
+fn followed(
+    (sine, inquiry): (Sine, &impl Inquiry),
+    ran: &Ran,
+    touches: Touches,
+    more: bool,
+) -> Result<(), String> {
     let mut replies = Vec::with_capacity(ran.places.len() + 1);
     let check = |replies: &[u8], number, asked| {
-        let given = inquiry.port(replies);
+        let given = inquiry.port(sine, replies);
         match shows(&given, number, ran, asked) {
             true => Ok(()),
             false => {
@@ -126,12 +140,12 @@ pub const fn cases(third: &'static str) -> [&'static str; 11] {
 }
 
 /// One inquiry under the three closures. Where nothing is asked they are one.
-pub fn add(outcome: &mut Outcome, inquiry: &impl Inquiry, more: bool) {
-    let run = |touches: Touches| recorded(|touches| inquiry.reference(touches), touches);
+pub fn add(outcome: &mut Outcome, sine: Sine, inquiry: &impl Inquiry, more: bool) {
+    let run = |touches: Touches| recorded(|touches| inquiry.reference(sine, touches), touches);
     let first = run(&REPLIES[0]);
     let kept = if first.places.is_empty() { 1 } else { REPLIES.len() };
     let others: Vec<Ran> = REPLIES[1..kept].iter().map(|touches| run(touches)).collect();
-    let other = recorded(|touches| inquiry.untouched(touches), &REPLIES[0]);
+    let other = recorded(|touches| beside(sine, inquiry, touches), &REPLIES[0]);
     outcome.beside(&other.list, &first.list, same_places(&other.places, &first.places));
     outcome.inputs += 1;
     let asked = others.iter().map(|ran| ran.places.len()).max();
@@ -153,7 +167,7 @@ pub fn add(outcome: &mut Outcome, inquiry: &impl Inquiry, more: bool) {
     ]);
     for (ran, touches) in [first].iter().chain(&others).zip(&REPLIES) {
         outcome.add_roots(ran.list.kinds());
-        if let Err(line) = followed(inquiry, ran, touches, more) {
+        if let Err(line) = followed((sine, inquiry), ran, touches, more) {
             return outcome.differs(|| line);
         }
     }
@@ -166,13 +180,17 @@ pub fn same_places(a: &[f64], b: &[f64]) -> bool {
 
 /// How many sequences of replies there are, all of which are given; the questions on the way and
 /// the list at the end are the Rust's.
-fn every_sequence(inquiry: &impl Inquiry, replies: &mut Vec<u8>, places: &mut Vec<f64>) -> u64 {
-    let given = inquiry.port(replies);
+fn every_sequence(
+    (sine, inquiry): (Sine, &impl Inquiry),
+    replies: &mut Vec<u8>,
+    places: &mut Vec<f64>,
+) -> u64 {
+    let given = inquiry.port(sine, replies);
     if let Ok(Shown { place: Some(x), .. }) = given {
         places.push(x);
         let both = [0, 1].map(|reply| {
             replies.push(reply);
-            let ends = every_sequence(inquiry, replies, places);
+            let ends = every_sequence((sine, inquiry), replies, places);
             replies.pop();
             ends
         });
@@ -184,7 +202,7 @@ fn every_sequence(inquiry: &impl Inquiry, replies: &mut Vec<u8>, places: &mut Ve
         let n = next.replace_with(|n| *n + 1);
         replies[n] != 0
     };
-    let ran = recorded(|touches| inquiry.reference(touches), &in_turn);
+    let ran = recorded(|touches| inquiry.reference(sine, touches), &in_turn);
     let asked = same_places(&ran.places, places);
     let (input, said) = (inquiry.text(), said(&given));
     assert!(
@@ -207,12 +225,12 @@ impl List<'_> {
 }
 
 impl Inquiry for List<'_> {
-    fn port(&self, replies: &[u8]) -> Result<Shown, u64> {
-        inquire(self.0, self.1, replies)
+    fn port(&self, sine: Sine, replies: &[u8]) -> Result<Shown, u64> {
+        inquire(sine, self.0, self.1, replies)
     }
 
-    fn reference(&self, touches: Touches) -> (u64, Answer) {
-        let list = touching::list(self.0, self.1, touches);
+    fn reference(&self, sine: Sine, touches: Touches) -> (u64, Answer) {
+        let list = touching::list(sine, self.0, self.1, touches);
         self.answer(list.into_iter().map(Root::by))
     }
 
@@ -232,34 +250,34 @@ pub const MORE: u64 = 8;
 const CASES: [&str; 11] = cases("refused 3");
 
 /// `count` made lists, the kinds in turn.
-pub fn made(seed: u64, count: u64) -> Outcome {
-    made_by(handed_in, seed, count)
+pub fn made(sine: Sine, seed: u64, count: u64) -> Outcome {
+    made_by(handed_in, sine, seed, count)
 }
 
 /// The same of long ones.
-pub fn made_long(seed: u64, count: u64) -> Outcome {
-    made_by(long, seed, count)
+pub fn made_long(sine: Sine, seed: u64, count: u64) -> Outcome {
+    made_by(long, sine, seed, count)
 }
 
 /// These lists at a tolerance.
-pub fn each(lists: &[Vec<f64>], tol: f64) -> Outcome {
+pub fn each(sine: Sine, lists: &[Vec<f64>], tol: f64) -> Outcome {
     let before = ways::counts();
-    let mut outcome = Outcome::new("inquiries", &CASES);
+    let mut outcome = Outcome::new("inquiries", Some(sine), &CASES);
     for list in lists {
-        add(&mut outcome, &List(list, tol), true);
+        add(&mut outcome, sine, &List(list, tol), true);
     }
     outcome.ways = ways::since(&before);
     outcome
 }
 
-fn made_by(make: Maker, seed: u64, count: u64) -> Outcome {
+fn made_by(make: Maker, sine: Sine, seed: u64, count: u64) -> Outcome {
     let (mut r, mut list) = (Random::new(seed), Vec::new());
     let before = ways::counts();
-    let mut outcome = Outcome::new("inquiries", &CASES);
+    let mut outcome = Outcome::new("inquiries", Some(sine), &CASES);
     for n in 0..count {
         make(&mut r, (n % KINDS.len() as u64) as usize, n, &mut list);
-        let tol = tolerance_for(&mut r, &list);
-        add(&mut outcome, &List(&list, tol), n % MORE == 0);
+        let tol = tolerance_for(&mut r, sine, &list);
+        add(&mut outcome, sine, &List(&list, tol), n % MORE == 0);
     }
     outcome.ways = ways::since(&before);
     outcome
@@ -267,14 +285,14 @@ fn made_by(make: Maker, seed: u64, count: u64) -> Outcome {
 
 /// Every sequence of replies for the first `count` made lists about which something is asked: how
 /// many lists were made, and how many have 2, 3, and so on up to 8 sequences.
-pub fn every_reply(seed: u64, count: u64) -> (u64, [u64; 7]) {
+pub fn every_reply(sine: Sine, seed: u64, count: u64) -> (u64, [u64; 7]) {
     let (mut r, mut list) = (Random::new(seed), Vec::new());
     let (mut made, mut ends) = (0, [0; 7]);
     while ends.iter().sum::<u64>() < count {
         handed_in(&mut r, (made % KINDS.len() as u64) as usize, made, &mut list);
         let inquiry = List(&list, tolerance(&mut r));
         made += 1;
-        match every_sequence(&inquiry, &mut Vec::new(), &mut Vec::new()) {
+        match every_sequence((sine, &inquiry), &mut Vec::new(), &mut Vec::new()) {
             1 => (),
             n => ends[n as usize - 2] += 1,
         }
@@ -284,5 +302,5 @@ pub fn every_reply(seed: u64, count: u64) -> (u64, [u64; 7]) {
 
 /// The long run; whether all were equal.
 pub fn run(count: u64, seed: u64) -> bool {
-    parts::run(parts::RECORDS, (count, seed), &KINDS, made)
+    parts::run_both(parts::RECORDS, (count, seed), &KINDS, made)
 }

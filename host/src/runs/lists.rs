@@ -7,24 +7,23 @@ use crate::inputs::lists::{KINDS, Maker, handed_in, long, tolerance};
 use crate::inputs::random::Random;
 use crate::port;
 use crate::runs::parts;
-use crate::truth::kind::Root;
-use crate::truth::lister::refusal;
-use crate::truth::reference::{patched, untouched};
+use crate::truth::angle::Sine;
+use crate::truth::lister::{Reference, Solver, Untouched, refusal};
 
 /// The reference build's answer. A refused list is run too: the Rust's is empty then.
-pub fn reference(coeffs: &[f64], tol: f64) -> Answer {
-    let list = patched::poly::real_roots(coeffs, tol);
-    let roots: Vec<Root> = list.iter().map(|r| Root::new(r.value, r.multiplicity)).collect();
+pub fn reference(sine: Sine, coeffs: &[f64], tol: f64) -> Answer {
+    let roots = Reference(sine).list(coeffs, tol);
     let refusal = refusal(coeffs);
     assert!(refusal == 0 || roots.is_empty(), "the Rust lists roots of {coeffs:?}");
     Answer::new(refusal.into(), &roots)
 }
 
-/// The untouched Rust's.
-pub fn by_untouched(coeffs: &[f64], tol: f64) -> Answer {
-    let list = untouched::poly::real_roots(coeffs, tol);
-    let roots: Vec<Root> = list.iter().map(|r| Root::new(r.value, r.multiplicity)).collect();
-    Answer::new(refusal(coeffs).into(), &roots)
+/// What stands beside: the untouched Rust's, and in the mode of the exact c that of the other mode.
+pub fn beside(sine: Sine, coeffs: &[f64], tol: f64) -> Answer {
+    match sine {
+        Sine::OfRounded => Answer::new(refusal(coeffs).into(), &Untouched.list(coeffs, tol)),
+        Sine::OfExact => ways::uncounted(|| reference(Sine::OfRounded, coeffs, tol)),
+    }
 }
 
 pub const CASES: [&str; 24] = [
@@ -89,9 +88,9 @@ fn cases(coeffs: &[f64], tol: f64, answer: &Answer) -> [bool; CASES.len()] {
 }
 
 /// One list, and what the others answer to it.
-fn add(outcome: &mut Outcome, coeffs: &[f64], tol: f64) {
-    let wanted = reference(coeffs, tol);
-    let given = port::real_roots(coeffs, tol);
+fn add(outcome: &mut Outcome, sine: Sine, coeffs: &[f64], tol: f64) {
+    let wanted = reference(sine, coeffs, tol);
+    let given = port::real_roots(sine, coeffs, tol);
     outcome.inputs += 1;
     outcome.met.add(&cases(coeffs, tol, &wanted));
     outcome.add_roots(wanted.kinds());
@@ -101,7 +100,7 @@ fn add(outcome: &mut Outcome, coeffs: &[f64], tol: f64) {
             format!("{}: port {given}, reference {wanted}", shown(coeffs, tol))
         });
     }
-    outcome.beside(&by_untouched(coeffs, tol), &wanted, true);
+    outcome.beside(&beside(sine, coeffs, tol), &wanted, true);
 }
 
 /// A tolerance and a list in bits.
@@ -115,11 +114,11 @@ const EDGES: u64 = 128;
 
 /// A tolerance for this list: by chance, or now and then the last double before the answer changes,
 /// or the first at which it does, where band and noise radius decide by their last digits.
-pub fn tolerance_for(r: &mut Random, coeffs: &[f64]) -> f64 {
+pub fn tolerance_for(r: &mut Random, sine: Sine, coeffs: &[f64]) -> f64 {
     if r.below(EDGES) > 0 {
         return tolerance(r);
     }
-    let at = |bits: u64| port::real_roots(coeffs, f64::from_bits(bits));
+    let at = |bits: u64| port::real_roots(sine, coeffs, f64::from_bits(bits));
     let most = [f64::MAX, 16.0, 1.0, 1e-6][r.below(4) as usize];
     let (mut below, mut above, first) = (0, most.to_bits(), at(0));
     while above - below > 1 {
@@ -133,49 +132,49 @@ pub fn tolerance_for(r: &mut Random, coeffs: &[f64]) -> f64 {
 }
 
 /// `count` made lists, the kinds in turn.
-pub fn made(seed: u64, count: u64) -> Outcome {
-    made_by(handed_in, seed, count)
+pub fn made(sine: Sine, seed: u64, count: u64) -> Outcome {
+    made_by(handed_in, sine, seed, count)
 }
 
 /// The same of long ones.
-pub fn made_long(seed: u64, count: u64) -> Outcome {
-    made_by(long, seed, count)
+pub fn made_long(sine: Sine, seed: u64, count: u64) -> Outcome {
+    made_by(long, sine, seed, count)
 }
 
-fn made_by(make: Maker, seed: u64, count: u64) -> Outcome {
+fn made_by(make: Maker, sine: Sine, seed: u64, count: u64) -> Outcome {
     let (mut r, mut list) = (Random::new(seed), Vec::new());
     let before = ways::counts();
-    let mut outcome = Outcome::new("lists", &CASES);
+    let mut outcome = Outcome::new("lists", Some(sine), &CASES);
     for n in 0..count {
         make(&mut r, (n % KINDS.len() as u64) as usize, n, &mut list);
-        let tol = tolerance_for(&mut r, &list);
-        add(&mut outcome, &list, tol);
+        let tol = tolerance_for(&mut r, sine, &list);
+        add(&mut outcome, sine, &list, tol);
     }
     outcome.ways = ways::since(&before);
     outcome
 }
 
 /// These lists at a tolerance.
-pub fn each(lists: &[Vec<f64>], tol: f64) -> Outcome {
+pub fn each(sine: Sine, lists: &[Vec<f64>], tol: f64) -> Outcome {
     let before = ways::counts();
-    let mut outcome = Outcome::new("lists", &CASES);
+    let mut outcome = Outcome::new("lists", Some(sine), &CASES);
     for list in lists {
-        add(&mut outcome, list, tol);
+        add(&mut outcome, sine, list, tol);
     }
     outcome.ways = ways::since(&before);
     outcome
 }
 
 /// All lists of up to five coefficients over these, at both tolerances.
-pub fn every_short_list(over: &[f64], tols: [f64; 2]) -> Outcome {
+pub fn every_short_list(sine: Sine, over: &[f64], tols: [f64; 2]) -> Outcome {
     let before = ways::counts();
-    let mut outcome = Outcome::new("lists", &CASES);
+    let mut outcome = Outcome::new("lists", Some(sine), &CASES);
     for len in 0..=5 {
         for n in 0..over.len().pow(len) {
             let at = |i| over[n / over.len().pow(i) % over.len()];
             let list: Vec<f64> = (0..len).map(at).collect();
             for tol in tols {
-                add(&mut outcome, &list, tol);
+                add(&mut outcome, sine, &list, tol);
             }
         }
     }
@@ -185,5 +184,5 @@ pub fn every_short_list(over: &[f64], tols: [f64; 2]) -> Outcome {
 
 /// The long run; whether all were equal.
 pub fn run(count: u64, seed: u64) -> bool {
-    parts::run(parts::RECORDS, (count, seed), &KINDS, made)
+    parts::run_both(parts::RECORDS, (count, seed), &KINDS, made)
 }

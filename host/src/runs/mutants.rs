@@ -1,5 +1,5 @@
 //! Mistakes in a copy of the reference build (build/mutants) and in the refusals: after how many
-//! inputs a comparison with the port notices each.
+//! inputs a comparison with the port notices each, in either mode.
 use crate::compare::answer::Answer;
 use crate::compare::{bits, say};
 use crate::inputs::lists::{KINDS, handed_in, tolerance};
@@ -19,12 +19,13 @@ use crate::runs::files;
 use crate::runs::formulas::{self, Expanded};
 use crate::runs::inquiries::{Inquiry, List, REPLIES, Ran, recorded, same_places};
 use crate::runs::lists::{shown, tolerance_for};
-use crate::runs::trees::{REFERENCE, Tree, tree};
+use crate::runs::trees::{Tree, reference, tree};
 use crate::stored::telling::{self, Telling};
+use crate::truth::angle::Sine;
 use crate::truth::contact::Contact;
 use crate::truth::lister::{Touches, finite, refusal, trimmed};
 use crate::truth::reference::own;
-use std::sync::atomic::{AtomicUsize, Ordering};
+use std::sync::atomic::{AtomicBool, AtomicUsize, Ordering};
 use std::{panic, process};
 
 include!(concat!(env!("OUT_DIR"), "/mutants.rs"));
@@ -36,6 +37,27 @@ static CHOSEN: AtomicUsize = AtomicUsize::new(0);
 /// What the copy asks for in each function that a mistake changes.
 pub fn chosen() -> usize {
     CHOSEN.load(Ordering::Relaxed)
+}
+
+/// Whether the copy has s of the exact c now.
+static EXACT: AtomicBool = AtomicBool::new(false);
+
+fn choose(sine: Sine) {
+    EXACT.store(sine == Sine::OfExact, Ordering::Relaxed);
+}
+
+/// What the copy asks for where it makes a pair.
+pub fn sine() -> Sine {
+    if EXACT.load(Ordering::Relaxed) { Sine::OfExact } else { Sine::OfRounded }
+}
+
+/// A mistake: what is run here has s of the rounded c, whatever the mode.
+pub fn of_rounded<R>(run: impl FnOnce() -> R) -> R {
+    let before = sine();
+    choose(Sine::OfRounded);
+    let result = run();
+    choose(before);
+    result
 }
 
 /// The sorts of inputs.
@@ -79,10 +101,10 @@ impl Given {
 }
 
 /// The port's run with the replies of a closure.
-fn asked(inquiry: &impl Inquiry, touches: Touches) -> Ran {
+fn asked(sine: Sine, inquiry: &impl Inquiry, touches: Touches) -> Ran {
     let (mut replies, mut places) = (Vec::new(), Vec::new());
     loop {
-        match inquiry.port(&replies) {
+        match inquiry.port(sine, &replies) {
             Err(refusal) => return Ran { k: 0, list: Answer::new(refusal, &[]), places },
             Ok(Shown { place: Some(x), .. }) => {
                 places.push(x);
@@ -93,8 +115,8 @@ fn asked(inquiry: &impl Inquiry, touches: Touches) -> Ran {
     }
 }
 
-fn all_asked(inquiry: &impl Inquiry) -> Given {
-    Given::Runs(REPLIES.iter().map(|touches| asked(inquiry, touches)).collect())
+fn all_asked(sine: Sine, inquiry: &impl Inquiry) -> Given {
+    Given::Runs(REPLIES.iter().map(|touches| asked(sine, inquiry, touches)).collect())
 }
 
 fn all_runs(run: impl Fn(Touches) -> (u64, Answer)) -> Given {
@@ -125,7 +147,7 @@ impl Input {
             return Input::File(files::nth(r, n));
         }
         if sort == 6 {
-            return Input::Contact(contacts::made_record(r, n));
+            return Input::Contact(contacts::made_record(r, Sine::OfExact, n));
         }
         if sort == 7 {
             let (text, tol) = formulas::made_record(r, n);
@@ -138,15 +160,15 @@ impl Input {
         }
         let mut a = Vec::new();
         handed_in(r, (n % KINDS.len() as u64) as usize, n, &mut a);
-        let tol = tolerance_for(r, &a);
+        let tol = tolerance_for(r, Sine::OfExact, &a);
         if sort == 0 { Input::List(a, tol) } else { Input::Inquiry(a, tol) }
     }
 
-    fn by_port(&self) -> Given {
+    fn by_port(&self, sine: Sine) -> Given {
         match self {
-            Input::List(a, tol) => Given::List(port::real_roots(a, *tol)),
-            Input::Inquiry(a, tol) => all_asked(&List(a, *tol)),
-            Input::Crank(terms, tol) => all_asked(&Crank(*terms, *tol)),
+            Input::List(a, tol) => Given::List(port::real_roots(sine, a, *tol)),
+            Input::Inquiry(a, tol) => all_asked(sine, &List(a, *tol)),
+            Input::Crank(terms, tol) => all_asked(sine, &Crank(*terms, *tol)),
             Input::Quadratic(abc, tol, s, x) => {
                 let moved = [
                     quadratics::solve_quadratic(*abc, *tol),
@@ -156,19 +178,21 @@ impl Input {
                 ];
                 all_bits(&moved, quadratics::quadratic_centre(abc[0], abc[1], tol[1]))
             }
-            Input::Pieces(p) => Given::Bits(p.by_port().into_iter().map(bits).collect()),
-            Input::File(bytes) => Given::Listing(whole_listing(bytes, port::list_file)),
+            Input::Pieces(p) => Given::Bits(p.by_port(sine).into_iter().map(bits).collect()),
+            Input::File(bytes) => Given::Listing(whole_listing(bytes, port::lister(sine))),
             Input::Contact(contact) => {
-                Given::Listing(pin_contact(contact.numbers()).text().into_bytes())
+                Given::Listing(pin_contact(sine, contact.numbers()).text().into_bytes())
             }
             Input::Formula(text, tol) => {
-                let (coeffs, roots) = (formula_coefficients(text), formula_roots(text, *tol));
+                let (coeffs, roots) = (formula_coefficients(text), formula_roots(sine, text, *tol));
                 all_of(&coeffs, &roots.text())
             }
         }
     }
 
-    fn by(&self, tree: &Tree) -> Given {
+    fn by(&self, sine: Sine, tree: &Tree) -> Given {
+        choose(sine);
+        let own = own::lister::Reference(sine);
         match self {
             Input::List(a, tol) => Given::List((tree.list)(a, *tol)),
             Input::Inquiry(a, tol) => all_runs(|touches| (0, (tree.touching)(a, *tol, touches))),
@@ -183,20 +207,18 @@ impl Input {
                 all_bits(&moved, (tree.centre)(abc[0], abc[1], tol[1]))
             }
             Input::Pieces(p) => Given::Bits((tree.pieces)(p).into_iter().map(bits).collect()),
-            Input::File(bytes) => {
-                Given::Listing(own::lister::listing(bytes, &own::lister::Reference))
-            }
+            Input::File(bytes) => Given::Listing(own::lister::listing(bytes, &own)),
             Input::Contact(contact) => {
                 let copy = own::contact::Contact::new(contact.numbers());
                 let record = own::hall_file::Record::Contact(copy);
-                let answer = own::lister::answer(&record, &own::lister::Reference);
+                let answer = own::lister::answer(&record, &own);
                 Given::Listing(answer.to_string().into_bytes())
             }
             Input::Formula(text, tol) => {
                 let coeffs = own::formula::coefficients(text).map_err(|fault| fault.refusal());
                 let record =
                     own::hall_file::Record::Formula { tolerance: *tol, text: text.clone() };
-                let answer = own::lister::answer(&record, &own::lister::Reference);
+                let answer = own::lister::answer(&record, &own);
                 all_of(&formulas::expanded(&coeffs), &answer.to_string())
             }
         }
@@ -231,15 +253,15 @@ struct Mutant {
     what: &'static str,
     file: &'static str,
     number: usize,
-    noticed: Option<(&'static str, u64, String)>,
+    noticed: Option<(&'static str, Sine, u64, String)>,
     told: Option<&'static str>,
 }
 
 impl Mutant {
     /// Whether it answers what the port answers. It may also panic.
-    fn same(&self, input: &Input, given: &Given) -> bool {
+    fn same(&self, sine: Sine, input: &Input, given: &Given) -> bool {
         CHOSEN.store(self.number, Ordering::Relaxed);
-        let by = || input.by(&COPY).same(given);
+        let by = || input.by(sine, &COPY).same(given);
         panic::catch_unwind(panic::AssertUnwindSafe(by)).unwrap_or(false)
     }
 
@@ -258,8 +280,13 @@ impl Mutant {
 
     fn row(&self) -> String {
         let (by, after, input) = match &self.noticed {
-            Some((sort, n, input)) => (*sort, n.to_string(), format!("`{input}`")),
-            None => ("not noticed", String::new(), String::new()),
+            Some((sort, Sine::OfRounded, n, input)) => {
+                (sort.to_string(), n.to_string(), format!("`{input}`"))
+            }
+            Some((sort, sine, n, input)) => {
+                (format!("{sort}, {}", sine.words()), n.to_string(), format!("`{input}`"))
+            }
+            None => ("not noticed".to_string(), String::new(), String::new()),
         };
         let told = self.told.unwrap_or("");
         format!("| {}: {} | {by} | {after} | {told} | {input} |", self.title, self.what)
@@ -277,19 +304,22 @@ fn try_sort(all: &mut [Mutant], sort: usize, count: u64, seed: u64) {
             break;
         }
         let input = Input::made(&mut r, sort, n);
-        let given = input.by_port();
-        CHOSEN.store(0, Ordering::Relaxed);
-        if !input.by(&REFERENCE).same(&given) {
-            eprintln!("{}: the reference build itself differs at {}", SORTS[sort], input.text());
-            process::exit(2);
-        }
-        live.retain_mut(|mutant| {
-            let same = mutant.same(&input, &given);
-            if !same {
-                mutant.noticed = Some((SORTS[sort], n + 1, input.text()));
+        for sine in Sine::BOTH {
+            let given = input.by_port(sine);
+            CHOSEN.store(0, Ordering::Relaxed);
+            if !input.by(sine, reference(sine)).same(&given) {
+                let (mode, text) = (sine.words(), input.text());
+                eprintln!("{}, {mode}: the reference build itself differs at {text}", SORTS[sort]);
+                process::exit(2);
             }
-            same
-        });
+            live.retain_mut(|mutant| {
+                let same = mutant.same(sine, &input, &given);
+                if !same {
+                    mutant.noticed = Some((SORTS[sort], sine, n + 1, input.text()));
+                }
+                same
+            });
+        }
     }
 }
 
@@ -308,10 +338,12 @@ fn stored() -> impl Iterator<Item = (&'static str, Input)> {
 
 fn try_stored(all: &mut [Mutant]) {
     for (name, input) in stored() {
-        let given = input.by_port();
-        for mutant in all.iter_mut().filter(|m| m.told.is_none()) {
-            if !mutant.same(&input, &given) {
-                mutant.told = Some(name);
+        for sine in Sine::BOTH {
+            let given = input.by_port(sine);
+            for mutant in all.iter_mut().filter(|m| m.told.is_none()) {
+                if !mutant.same(sine, &input, &given) {
+                    mutant.told = Some(name);
+                }
             }
         }
     }
@@ -360,7 +392,7 @@ const REFUSALS: [Refusal; 6] = [
 
 /// The refusal of a crank equation by document 01.
 fn refused(terms: [f64; 5], tol: f64) -> u64 {
-    Crank(terms, tol).reference(&REPLIES[0]).1.refusal
+    Crank(terms, tol).reference(Sine::OfRounded, &REPLIES[0]).1.refusal
 }
 
 /// After how many inputs another reading of the refusals is noticed.
@@ -370,7 +402,7 @@ fn try_refusals(count: u64, seed: u64) {
         let number = SORTS.iter().position(|s| *s == sort).unwrap_or(0);
         let found = (0..count).find_map(|n| {
             let input = Input::made(&mut r, number, n);
-            let given = match input.by_port() {
+            let given = match input.by_port(Sine::OfExact) {
                 Given::List(answer) => answer.refusal,
                 Given::Runs(runs) => runs[0].list.refusal,
                 Given::Bits(_) | Given::Listing(_) => 0,

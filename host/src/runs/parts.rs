@@ -2,6 +2,7 @@
 use crate::compare::outcome::Outcome;
 use crate::compare::say;
 use crate::people::table::in_columns;
+use crate::truth::angle::Sine;
 use std::sync::atomic::{AtomicU64, Ordering};
 use std::sync::mpsc;
 use std::thread;
@@ -42,6 +43,17 @@ fn in_parts(
         }
         all
     })
+}
+
+/// The same in both modes, so many inputs each.
+pub fn run_both(
+    size: u64,
+    (count, seed): (u64, u64),
+    kinds: &[&str],
+    made: impl Fn(Sine, u64, u64) -> Outcome + Sync,
+) -> bool {
+    let equal = |sine| run(size, (count, seed), kinds, |seed, count| made(sine, seed, count));
+    Sine::BOTH.map(equal) == [true; 2]
 }
 
 /// The long run in parts of this size, and its lines; whether all were equal.

@@ -66,7 +66,7 @@ fn add(outcome: &mut Outcome, (abc, tol): Quadratic, (handed, x): (Solution, f64
 pub fn made(seed: u64, count: u64) -> Outcome {
     let mut r = Random::new(seed);
     let before = ways::counts();
-    let mut outcome = Outcome::new("quadratics", &CASES);
+    let mut outcome = Outcome::new("quadratics", None, &CASES);
     for n in 0..count {
         let q = quadratic(&mut r, (n % KINDS.len() as u64) as usize);
         add(&mut outcome, q, solution(&mut r));

@@ -2,6 +2,7 @@
 use crate::compare::answer::Answer;
 use crate::inputs::pieces::Pieces;
 use crate::port::quadratics::Solution;
+use crate::truth::angle::Sine;
 use crate::truth::lister::Touches;
 
 /// What a copy answers. Refusals are the host's own, by document 01.
@@ -61,8 +62,7 @@ macro_rules! tree {
                 let [a2, b2, c1, d1, e] = terms;
                 let (k, quartic, list) =
                     equation::solve_trig(a2, b2, c1, d1, e, tolerance(tol, 0.0), touches);
-                let roots = list.iter().map(root);
-                crate::runs::cranks::Crank(terms, tol).answer(k, &quartic, roots)
+                crate::runs::cranks::answer(terms, k, &quartic, list.iter().map(root))
             },
             quadratic: |[a, b, c], [con, ang]| {
                 told(equation::solve_quadratic(a, b, c, tolerance(con, ang)))
@@ -77,5 +77,17 @@ macro_rules! tree {
 #[cfg(any(feature = "causes", feature = "coverage", feature = "mutants"))]
 pub(crate) use tree;
 
-pub const REFERENCE: Tree = tree!(patched_kinds);
+const OF_ROUNDED: Tree = tree!(patched_kinds);
+const OF_EXACT: Tree = tree!(sharp_kinds);
 pub const UNTOUCHED: Tree = tree!(untouched_kinds);
+
+/// The reference build in this mode.
+pub fn reference(sine: Sine) -> &'static Tree {
+    match sine {
+        Sine::OfRounded => &OF_ROUNDED,
+        Sine::OfExact => &OF_EXACT,
+    }
+}
+
+/// What no mode changes is answered by the one of document 01.
+pub const REFERENCE: Tree = OF_ROUNDED;

@@ -1,11 +1,13 @@
 //! Stored hall files for the crate `hallcases`, and what it prints for them: of each file its name
-//! behind `== `, then its listing by the host's own lister over the reference build.
+//! behind `== `, then its listing by the host's own lister over the reference build in the mode of
+//! the exact c.
 use crate::inputs::hall_files::{damage, records};
 use crate::inputs::quadratics::TOL;
 use crate::inputs::random::Random;
 use crate::people::progress::Progress;
 use crate::people::text;
-use crate::stored::{telling, totals};
+use crate::stored::{modes, telling, totals};
+use crate::truth::angle::Sine;
 use crate::truth::hall_file::{MOST_BYTES, Record, file};
 use crate::truth::lister::{Reference, listing};
 use std::fs;
@@ -407,6 +409,7 @@ pub fn files() -> Vec<Named> {
         named("formulas", formulas()),
         named("deep_brackets", deep_brackets()),
         named("kinds", of_text(KINDS)),
+        named("modes", file(&modes::records())),
         named("tolerances", tolerances()),
         named("long_lists", long_lists()),
     ];
@@ -430,7 +433,7 @@ pub fn write_files(dir: &Path) -> Result<usize> {
         write(&data.join(name), bytes)?;
         args += &format!("{name}\n");
         stdout.extend(format!("== {name}\n").into_bytes());
-        stdout.extend(listing(bytes, &Reference));
+        stdout.extend(listing(bytes, &Reference(Sine::OfExact)));
         progress.step();
     }
     write(&dir.join("args"), args.as_bytes())?;

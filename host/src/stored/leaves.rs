@@ -4,6 +4,7 @@ use crate::compare::bits;
 use crate::inputs::leaves::{self, step};
 use crate::inputs::near_ties;
 use crate::inputs::random::Random;
+use crate::truth::angle::{Sine, third_angle};
 use crate::truth::exact;
 use std::fs;
 use std::path::Path;
@@ -37,14 +38,16 @@ impl Record {
         let Record { leaf, x, k } = *self;
         let hex = |x: f64| format!("{:016X}", bits(x));
         let of_x = |name: &str, r: f64| format!("{name} {} {}", hex(x), hex(r));
+        let pair = |name: &str, sine| {
+            let (c, s) = third_angle(sine, x);
+            format!("{name} {} {} {}", hex(x), hex(c), hex(s))
+        };
         match leaf {
             b's' => of_x("sqrt", exact::sqrt(x)),
             b'c' => of_x("cbrt", exact::cbrt(x)),
             b'l' => of_x("log2", exact::log2(x)),
-            b'a' => {
-                let (c, s) = exact::third_angle(x);
-                format!("third {} {} {}", hex(x), hex(c), hex(s))
-            }
+            b'a' => pair("third", Sine::OfRounded),
+            b'b' => pair("exact", Sine::OfExact),
             b'd' => format!("ldexp {} {k} {}", hex(x), hex(exact::ldexp(x, k))),
             b'e' => format!("exponent {} {}", hex(x), exact::exponent(x)),
             _ => format!("pow2 {k} {}", hex(exact::pow2(k))),
@@ -71,15 +74,59 @@ fn cube_roots(r: &mut Random) -> Vec<Record> {
     of(b'c', x)
 }
 
-/// The edges of v: ±0, ±1 and their neighbours, tiny ones; the middles about v = 0 and elsewhere.
-fn thirds(r: &mut Random) -> Vec<Record> {
+/// The edges of v: ±0, ±1 and their neighbours, and tiny ones.
+fn third_edges() -> Vec<f64> {
     let mut v = vec![0.0, -0.0, 0.5, -0.5, 2.0, f64::NAN, f64::INFINITY, f64::NEG_INFINITY];
     v.extend((-6..=2).flat_map(|s| [step(1.0, s), step(-1.0, s)]));
     v.extend([1, 2, 1 << 51, (1 << 52) - 1, 1 << 52].map(f64::from_bits));
     v.extend([-60, -54, -53, -52, -30, -1].map(|k| -exact::ldexp(1.0, k)));
+    v
+}
+
+/// The middles about v = 0 and elsewhere.
+fn thirds(r: &mut Random) -> Vec<Record> {
+    let mut v = third_edges();
     v.extend(leaves::third_middles_at_zero(2));
     v.extend(near_ties::third(r, TRIED, 16));
     of(b'a', v)
+}
+
+/// Of 100,000,000 values of v from -1 to 1, those whose s of the exact c lies nearest a middle of two
+/// doubles: from within 2^-85 of it, by its size, to within 2^-75.
+const HARD: [u64; 20] = [
+    0xBFE1_5715_F7CF_1D70,
+    0x3FBF_02B3_871E_B3D0,
+    0xBFCC_9654_C82A_6A68,
+    0xBFD3_C123_E1D6_EE54,
+    0x3FDA_DC3B_4537_F8D4,
+    0xBFCF_DFDE_AC92_7F90,
+    0x3FEC_6244_C2B7_224C,
+    0x3FC7_9C9C_D532_D9E8,
+    0x3FBC_DA40_906B_2DD0,
+    0xBFD6_5881_236E_BB20,
+    0xBFE3_FF99_534C_F296,
+    0xBFD2_2D15_DBFF_7A08,
+    0xBF73_E342_324A_DA00,
+    0x3FD6_B398_BC54_8198,
+    0x3FE8_28DB_5277_3652,
+    0x3FB0_6BC7_F9B6_30E0,
+    0xBFEE_0DF0_DC64_4090,
+    0x3FE1_0557_C2D2_B928,
+    0x3FED_0D85_40B1_FBA8,
+    0xBFE2_BAE6_1F47_FDB4,
+];
+
+/// With s of the exact c: just below 1, where c is 1 or nearly; about 0, where s is a half or
+/// nearly; and the hard ones.
+fn exact_thirds(_: &mut Random) -> Vec<Record> {
+    let mut v = third_edges();
+    v.extend((-20..-6).map(|s| step(1.0, s)));
+    v.extend([-50, -45, -40, -30, -20, -10].map(|k| 1.0 - exact::ldexp(1.0, k)));
+    v.extend((-56..=-50).flat_map(|k| [exact::ldexp(1.0, k), -exact::ldexp(1.5, k)]));
+    v.extend([1, 2, 1 << 51, (1 << 52) - 1, 1 << 52].map(|n| -f64::from_bits(n)));
+    v.extend(leaves::third_middles_at_zero(2));
+    v.extend(HARD.map(f64::from_bits));
+    of(b'b', v)
 }
 
 /// L at thresholds and just below, at 1 and 3, and at the edges.
@@ -145,7 +192,8 @@ fn powers(r: &mut Random) -> Vec<Record> {
 /// All records, the same at every call.
 pub fn leaves() -> Vec<Record> {
     let mut r = Random::new(SEED);
-    let kinds = [square_roots, cube_roots, thirds, logarithms, scales, exponents, powers];
+    let kinds =
+        [square_roots, cube_roots, thirds, logarithms, scales, exponents, powers, exact_thirds];
     kinds.into_iter().flat_map(|kind| kind(&mut r)).collect()
 }
 

@@ -2,6 +2,7 @@
 #[cfg(geomcore)]
 pub mod files;
 pub mod leaves;
+pub mod modes;
 pub mod telling;
 #[cfg(geomcore)]
 pub mod totals;

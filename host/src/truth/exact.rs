@@ -94,7 +94,7 @@ pub fn exponent(x: f64) -> i32 {
 
 /// The whole number nearest to √n, for 2^104 ≤ n < 2^106. Never a tie: (2m + 1)² is odd, 4n is
 /// even.
-fn near_root(n: u128) -> u64 {
+pub(super) fn near_root(n: u128) -> u64 {
     let square = |t: u64| t as u128 * t as u128;
     let mut m = (n as f64).sqrt() as u64;
     while square(2 * m + 1) <= 4 * n {
@@ -120,14 +120,14 @@ pub fn sqrt(x: f64) -> f64 {
 
 /// A whole number below 2^256, in two halves.
 #[derive(Clone, Copy, PartialEq, Eq, PartialOrd, Ord)]
-struct Wide {
+pub(super) struct Wide {
     high: u128,
     low: u128,
 }
 
 impl Wide {
     /// n * 2^k, where that is below 2^256.
-    fn shifted(n: u64, k: i32) -> Wide {
+    pub(super) fn shifted(n: u64, k: i32) -> Wide {
         match k {
             0..=63 => Wide { high: 0, low: (n as u128) << k },
             64..=127 => Wide { high: n as u128 >> (128 - k), low: (n as u128) << k },
@@ -135,7 +135,7 @@ impl Wide {
         }
     }
 
-    fn product(a: u128, b: u64) -> Wide {
+    pub(super) fn product(a: u128, b: u64) -> Wide {
         let (top, bottom) = ((a >> 64) * b as u128, (a as u64) as u128 * b as u128);
         let (low, carry) = (top << 64).overflowing_add(bottom);
         Wide { high: (top >> 64) + carry as u128, low }
@@ -145,12 +145,12 @@ impl Wide {
         Wide::product(t as u128 * t as u128, t)
     }
 
-    fn plus(self, other: Wide) -> Wide {
+    pub(super) fn plus(self, other: Wide) -> Wide {
         let (low, carry) = self.low.overflowing_add(other.low);
         Wide { high: self.high + other.high + carry as u128, low }
     }
 
-    fn minus(self, other: Wide) -> Wide {
+    pub(super) fn minus(self, other: Wide) -> Wide {
         let (low, borrow) = self.low.overflowing_sub(other.low);
         Wide { high: self.high - other.high - borrow as u128, low }
     }
@@ -176,60 +176,6 @@ pub fn cbrt(x: f64) -> f64 {
 }
 
 const ONE: u64 = 1 << 53;
-
-/// 2^160 * (1 + v), rounded down, for |v| ≤ 1.
-fn third_bound(v: f64) -> Wide {
-    let one = Wide::shifted(1, 160);
-    let Some(d) = digits(v) else { return one };
-    let up = d.k + 160;
-    if up >= 0 {
-        let size = Wide::shifted(d.w, up);
-        return if d.negative { one.minus(size) } else { one.plus(size) };
-    }
-    let down = (-up).min(63);
-    let size = d.w >> down;
-    if d.negative {
-        one.minus(Wide::shifted(size + (size << down != d.w) as u64, 0))
-    } else {
-        one.plus(Wide::shifted(size, 0))
-    }
-}
-
-/// 2^53 * c rounded to a whole number, where c is the greatest solution of 4c³ - 3c = v. With t =
-/// 2^53 + y, t / 2^54 is at most c where y²(y + 3 * 2^53) ≤ 2^160 (1 + v); c is 1/2 at least.
-fn third_cos_digits(v: f64) -> u64 {
-    let bound = third_bound(v);
-    let at_most = |t: u64| {
-        let y = t - ONE;
-        Wide::product(y as u128 * y as u128, y + 3 * ONE) <= bound
-    };
-    let guess = ((v.acos() / 3.0).cos() * ONE as f64) as u64;
-    let mut m = guess.clamp(ONE / 2, ONE);
-    while m < ONE && at_most(2 * m + 1) {
-        m += 1;
-    }
-    while m > ONE / 2 && !at_most(2 * m - 1) {
-        m -= 1;
-    }
-    m
-}
-
-/// c and s: c nearest to the greatest real solution of 4c³ - 3c = v, s nearest to √(1 - c²) for
-/// that c. NaN twice where v is not from -1 to 1.
-pub fn third_angle(v: f64) -> (f64, f64) {
-    if !(-1.0..=1.0).contains(&v) {
-        return (f64::NAN, f64::NAN);
-    }
-    let m = third_cos_digits(v);
-    // 1 - c² is n / 2^106.
-    let n = (ONE - m) as u128 * (ONE + m) as u128;
-    let half = (n.leading_zeros() as i32 - 22) / 2;
-    let s = match n {
-        0 => 0.0,
-        _ => nearest(near_root(n << (2 * half)), -53 - half),
-    };
-    (nearest(m, -53), s)
-}
 
 /// The 256 thresholds: entry n is the smallest whole t with t^256 ≥ 2^(n + 13312).
 pub fn thresholds() -> &'static [u64; 256] {

@@ -1,6 +1,8 @@
 //! The host's own lister: the bytes of a hall file to the bytes of its listing, as documents 01 and 02
 //! say, over any solver. Nothing here calls the port.
 use crate::compare::bits;
+#[cfg(geomcore)]
+use crate::truth::angle::Sine;
 use crate::truth::formula;
 use crate::truth::hall_file::{Item, Kind, Record, items};
 use crate::truth::kind::{self, Root};
@@ -232,9 +234,9 @@ pub fn refusal(coeffs: &[f64]) -> u8 {
     }
 }
 
-/// The reference build of document 01.
+/// The reference build of document 01, or its copy in the mode of the exact c.
 #[cfg(geomcore)]
-pub struct Reference;
+pub struct Reference(pub Sine);
 
 /// The Rust as it is.
 #[cfg(geomcore)]
@@ -242,11 +244,11 @@ pub struct Untouched;
 
 #[cfg(geomcore)]
 macro_rules! solver {
-    ($name:ident, $tree:ident, $crank:expr, $touching:expr) => {
+    ($name:ident, $tree:ident, $plain:expr, $crank:expr, $touching:expr) => {
         impl Solver for $name {
             fn list(&self, coeffs: &[f64], tolerance: f64) -> Vec<Root> {
-                let roots = crate::truth::reference::$tree::poly::real_roots(coeffs, tolerance);
-                roots.iter().map(|r| Root::new(r.value, r.multiplicity)).collect()
+                let roots = $plain(self, coeffs, tolerance);
+                roots.into_iter().map(|(x, times)| Root::new(x, times)).collect()
             }
 
             fn quadratic(&self, [a, b, c]: [f64; 3], confusion: f64, angular: f64) -> Solution {
@@ -262,21 +264,33 @@ macro_rules! solver {
             }
 
             fn crank(&self, terms: [f64; 5], confusion: f64) -> Turned {
-                let (k, quartic, roots) = $crank(terms, confusion, &|_| false);
+                let (k, quartic, roots) = $crank(self, terms, confusion, &|_| false);
                 Turned { k, quartic, roots: roots.into_iter().map(Root::by).collect() }
             }
 
             fn touching(&self, coeffs: &[f64], tolerance: f64, touches: Touches) -> Vec<Root> {
-                $touching(coeffs, tolerance, touches).into_iter().map(Root::by).collect()
+                $touching(self, coeffs, tolerance, touches).into_iter().map(Root::by).collect()
             }
         }
     };
 }
 
 #[cfg(geomcore)]
-solver!(Reference, patched, touching::crank, touching::list);
+solver!(
+    Reference,
+    patched,
+    |r: &Reference, a, tol| touching::plain(r.0, a, tol),
+    |r: &Reference, terms, tol, touches| touching::crank(r.0, terms, tol, touches),
+    |r: &Reference, a, tol, touches| touching::list(r.0, a, tol, touches)
+);
 #[cfg(geomcore)]
-solver!(Untouched, untouched, touching::untouched::crank, touching::untouched::list);
+solver!(
+    Untouched,
+    untouched,
+    |_: &Untouched, a, tol| touching::untouched::plain(a, tol),
+    |_: &Untouched, terms, tol, touches| touching::untouched::crank(terms, tol, touches),
+    |_: &Untouched, a, tol, touches| touching::untouched::list(a, tol, touches)
+);
 
 #[cfg(test)]
 mod tests {

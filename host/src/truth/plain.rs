@@ -21,7 +21,7 @@ fn greatest(digits: usize, passes: impl Fn(&Big) -> bool) -> Big {
 }
 
 /// The double nearest to n * 2^-(1074 + below); of two equally near, the even one.
-fn nearest(n: &Big, below: usize) -> f64 {
+pub fn nearest(n: &Big, below: usize) -> f64 {
     let n = n.shl(1);
     // 53 digits are kept, or down to the unit.
     let drop = n.size().saturating_sub(53).max(below + 1);
@@ -80,6 +80,30 @@ pub fn third_cos(v: f64) -> f64 {
 pub fn third_sin(c: f64) -> f64 {
     let u = units(c);
     root_of(&Big::power_of_two(2148).sub(&u.mul(&u)), 1)
+}
+
+/// √(1 - c²) for the c before it is rounded, of a v from -1 to 1: t is at most s where it is at most
+/// √3/2 and v at most √(1 - t²)(1 - 4t²). A number below 0 counts by its square, turned round.
+pub fn third_sin_of_exact(v: f64) -> f64 {
+    let one = Big::power_of_two(2148);
+    let size = units(v).mul(&units(v)).shl(4 * 1074);
+    let squared = |t: &Big| {
+        let square = t.mul(t);
+        let (four, rest) = (square.shl(2), one.sub(&square));
+        let (below, part) = match four > one {
+            true => (true, four.sub(&one)),
+            false => (false, one.sub(&four)),
+        };
+        (below, rest.mul(&part.mul(&part)))
+    };
+    let inside = |t: &Big| t.mul(t).shl(2) <= one.mul(&Big::from(3u64));
+    let at_most = |t: &Big| match (v < 0.0, squared(t)) {
+        (false, (false, right)) => size <= right,
+        (true, (true, right)) => right <= size,
+        (negative, _) => negative,
+    };
+    let t = greatest(1075, |t| inside(t) && at_most(t));
+    nearest_root(&t, squared(&t).1 == size)
 }
 
 /// 256 times L(x), for an x above 0: n units to the power of 256 have one digit more, counted from

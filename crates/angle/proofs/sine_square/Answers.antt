@@ -1,5 +1,5 @@
 -- The product has 107 digits.
-use Rattle.angle.proofs.Sine.{square_long}
+use Rattle.angle.proofs.Rounded.{square_long}
 use Rattle.angle.proofs.sine_square.Goals as goal
 
 pub returns-then-p-ge4398046511104 : goal.returns-then-p-ge4398046511104

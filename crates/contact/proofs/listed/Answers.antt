@@ -12,21 +12,21 @@ use Rattle.contact.proofs.Answer.{listed_is, listed_refused}
 use Rattle.contact.proofs.listed.Goals as goal
 
 pub returns-in_err-s : goal.returns-in_err-s
-returns-in_err-s c = listed_refused _ _ _ _ _ c.in_err-s.ensures (search rules)
+returns-in_err-s c = listed_refused _ _ _ _ _ _ c.in_err-s.ensures (search rules)
 
 pub loop-t-init : goal.loop-t-init
-loop-t-init c = let s = c.in_ok-s in rw c.default-replies.ensures (along_start _ _ s.s (brief_has _ _ (Ok s.s) s.ensures))
+loop-t-init c = let s = c.in_ok-s in rw c.default-replies.ensures (along_start _ _ s.s (brief_has _ _ _ (Ok s.s) s.ensures))
 
 pub with-replies-requires : goal.with-replies-requires
 with-replies-requires c =
     let at = c.in-Question in
-    let room = along_room _ _ (start_few _ _ _) _ (Question at.t) at.ensures c.loop-t.invariant refl in
+    let room = along_room _ _ (start_few _ _ _ _) _ (Question at.t) at.ensures c.loop-t.invariant refl in
     omega (arith, room)
 
 pub loop-t-smaller : goal.loop-t-smaller
 loop-t-smaller c =
     let at = c.in-Question in
-    let room = along_room _ _ (start_few _ _ _) _ (Question at.t) at.ensures c.loop-t.invariant refl in
+    let room = along_room _ _ (start_few _ _ _ _) _ (Question at.t) at.ensures c.loop-t.invariant refl in
     let more = ap (λ (rs : Replies). rs.count) c.with-replies.ensures in
     omega (arith, room, more)
 
@@ -34,10 +34,10 @@ pub loop-t-preserved : goal.loop-t-preserved
 loop-t-preserved c =
     let at = c.in-Question in
     rw (c.with-replies.ensures, c.touches.ensures)
-    (along_next _ _ (start_few _ _ _) _ (Question at.t) at.ensures c.loop-t.invariant refl)
+    (along_next _ _ (start_few _ _ _ _) _ (Question at.t) at.ensures c.loop-t.invariant refl)
 
 pub returns-in-Finished : goal.returns-in-Finished
 returns-in-Finished c =
     let at = c.in-Finished in
-    ap (λ (l : Roots). Ok l) (along_end _ _ (start_few _ _ _) _ (Finished at.roots) at.ensures c.loop-t.invariant refl)
-    ∙ listed_is _ _ _ _ (Ok c.in_ok-s.s) c.in_ok-s.ensures
+    ap (λ (l : Roots). Ok l) (along_end _ _ (start_few _ _ _ _) _ (Finished at.roots) at.ensures c.loop-t.invariant refl)
+    ∙ listed_is _ _ _ _ _ (Ok c.in_ok-s.s) c.in_ok-s.ensures

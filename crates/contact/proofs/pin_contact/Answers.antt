@@ -5,4 +5,4 @@ use Rattle.contact.proofs.pin_contact.Goals as goal
 
 pub returns : goal.returns
 returns c =
-    holds _ _ _ (listed_so _ _ _ _ _ c.seen-p.ensures c.coefficients-coeffs.ensures (search rules) (search rules) (search rules) c.listed.ensures)
+    holds _ _ _ _ (listed_so _ _ _ _ _ _ c.seen-p.ensures c.coefficients-coeffs.ensures (search rules) (search rules) (search rules) c.listed.ensures)

@@ -5,10 +5,10 @@ use borrow.Author.Rules.{rules}
 use Rattle.crank.proofs.crank.Goals as goal
 
 pub returns-in_err-s : goal.returns-in_err-s
-returns-in_err-s c = with_demand _ _ (answer_refused _ _ _ c.in_err-s.ensures (search rules))
+returns-in_err-s c = with_demand _ _ _ (answer_refused _ _ _ _ c.in_err-s.ensures (search rules))
 
 pub unreachable-requires : goal.unreachable-requires
-unreachable-requires c = never_asks _ _ _ c.in_ok-s.ensures _ c.in-Question.is
+unreachable-requires c = never_asks _ _ _ _ c.in_ok-s.ensures _ c.in-Question.is
 
 pub returns : goal.returns
-returns c = with_demand _ _ (answer_listed _ _ _ c.in_ok-s.ensures _ c.in-Finished.is)
+returns c = with_demand _ _ _ (answer_listed _ _ _ _ c.in_ok-s.ensures _ c.in-Finished.is)

@@ -12,16 +12,16 @@ use Rattle.listing.proofs.put_lines.Goals as goal
 
 pub returns-then-s-gt65536-clause-text : goal.returns-then-s-gt65536-clause-text
 returns-then-s-gt65536-clause-text c =
-    written_as (ap (line_of 0 c.args.s.now 0) c.ended-none.ensures ∙ too_long c.args.s.now c.if-s-gt65536.true) c.put_line.ensures.text
+    written_as (ap (line_of c.args.sine 0 c.args.s.now 0) c.ended-none.ensures ∙ too_long _ c.args.s.now c.if-s-gt65536.true) c.put_line.ensures.text
 
 pub returns-then-s-gt65536-clause-total : goal.returns-then-s-gt65536-clause-total
 returns-then-s-gt65536-clause-total c =
-    c.put_line.ensures.total ∙ ap (record_total c.args.s.now 0) c.ended-none.ensures ∙ too_long_total c.args.s.now c.if-s-gt65536.true
+    c.put_line.ensures.total ∙ ap (record_total c.args.sine c.args.s.now 0) c.ended-none.ensures ∙ too_long_total _ c.args.s.now c.if-s-gt65536.true
 
 pub loop-at-init : goal.loop-at-init
 loop-at-init c =
     let zeros = c.default-total.ensures in
-    sofar_none _ c.args.s.now (same_total zeros.0 zeros.1.0 zeros.1.1)
+    sofar_none _ _ c.args.s.now (same_total zeros.0 zeros.1.0 zeros.1.1)
 
 pub loop-at-preserved : goal.loop-at-preserved
 loop-at-preserved c =
@@ -37,7 +37,7 @@ put_line-line-requires c =
 pub add_assign-requires : goal.add_assign-requires
 add_assign-requires c =
     sofar_fits c.loop-at.invariant c.if-s-gt65536.false c.loop-at-test.true
-    (c.put_line-line.ensures.total ∙ ap (record_total c.args.s.now c.loop-at.at) c.record_at-found.ensures)
+    (c.put_line-line.ensures.total ∙ ap (record_total c.args.sine c.args.s.now c.loop-at.at) c.record_at-found.ensures)
 
 pub loop-at-smaller : goal.loop-at-smaller
 loop-at-smaller c =

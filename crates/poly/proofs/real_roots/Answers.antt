@@ -4,10 +4,10 @@ use borrow.Author.Rules.{rules}
 use Rattle.poly.proofs.real_roots.Goals as goal
 
 pub returns-in_err-s : goal.returns-in_err-s
-returns-in_err-s c = lists_none _ _ c.solve_brief.ensures _ c.in_err-s.was (search rules)
+returns-in_err-s c = lists_none _ _ _ c.solve_brief.ensures _ c.in_err-s.was (search rules)
 
 pub unscaled_all-requires : goal.unscaled_all-requires
-unscaled_all-requires c = four_solved _ _ c.solve_brief.ensures _ c.in_ok-s.was
+unscaled_all-requires c = four_solved _ _ _ c.solve_brief.ensures _ c.in_ok-s.was
 
 pub returns : goal.returns
-returns c = lists_all _ _ c.solve_brief.ensures _ c.in_ok-s.was (search rules)
+returns c = lists_all _ _ _ c.solve_brief.ensures _ c.in_ok-s.was (search rules)

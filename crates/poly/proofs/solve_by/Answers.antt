@@ -5,5 +5,5 @@ use Rattle.poly.proofs.solve_by.Goals as goal
 
 pub returns : goal.returns
 returns g c =
-    answered_by _ _ _ _ _ _ _ _ _ (sym c.counted.ensures.value ∙ c.in_ok-n.was) c.leading_zeros-zeros.ensures c.middle-a.ensures refl c.logs.ensures
+    answered_by _ _ _ _ _ _ _ _ _ _ (sym c.counted.ensures.value ∙ c.in_ok-n.was) c.leading_zeros-zeros.ensures c.middle-a.ensures refl c.logs.ensures
     c.with_logs-poly.ensures c.max-tol.ensures c.finished.ensures

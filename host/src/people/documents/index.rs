@@ -34,7 +34,7 @@ const OTHERWISE: [(&str, Parts); 6] = [
         &[
             ("factorize", ""),
             ("large", ""),
-            ("product", ""),
+            ("quotient::product", ""),
             ("quotient", ""),
             ("usable", ""),
             ("merged", ""),

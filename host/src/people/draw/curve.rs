@@ -5,6 +5,7 @@ use super::figures::{figures, rough, ticks};
 use super::{Mark, places};
 use crate::people::svg::WIDTH;
 use crate::port;
+use crate::truth::angle::Sine;
 use crate::truth::lister::trimmed;
 
 /// Pixels across the curve, each of which is looked at.
@@ -73,7 +74,7 @@ fn less(x: f64, m: f64) -> Scaled {
 pub fn lowest(p: &[f64]) -> f64 {
     // a quarter of the slope, so that nothing is beyond the largest double
     let slope: Vec<f64> = (1..p.len()).map(|i| p[i] * (i as f64 / 4.0)).collect();
-    let flat = port::real_roots(&slope, 0.0);
+    let flat = port::real_roots(Sine::OfExact, &slope, 0.0);
     let height = |x: f64| around(p, x).first().map_or(0.0, |a| a.log2());
     let places = flat.roots().iter().map(|root| root.value);
     places.min_by(|a, b| height(*a).total_cmp(&height(*b))).unwrap_or(0.0)

@@ -7,12 +7,12 @@ use borrow.Author.Rules.{rules}
 use Rattle.poly.proofs.Stripped.candidates.Goals as goal
 
 pub with_lins-roots-requires : goal.with_lins-roots-requires
-with_lins-roots-requires c = (counts_fit c.args.self.poly _ (the_factors c.factorize_rooted-r.ensures) (search rules)).0
+with_lins-roots-requires c = (counts_fit _ c.args.self.poly _ (the_factors c.factorize_rooted-r.ensures) (search rules)).0
 
 pub with_quads-requires : goal.with_quads-requires
 with_quads-requires c =
     let is = c.factorize_rooted-r.ensures in
-    ((counts_fit c.args.self.poly _ (the_factors is) (search rules)).1, handed_on_is _ is refl)
+    ((counts_fit _ c.args.self.poly _ (the_factors is) (search rules)).1, handed_on_is _ is refl)
 
 pub returns : goal.returns
 returns c =
