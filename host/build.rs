@@ -1,9 +1,9 @@
 //! Links the proved archives that .ci/archives names, and writes geomcore's Rust to OUT_DIR:
 //! `untouched`, and `patched`, the reference build of document 01, and `sharp`, the same in the mode
-//! of the exact c (document 02), and of each a copy that tells kinds. EXPORTS names another folder for the archives, GEOMCORE another one for geomcore.
-//! Features write more copies, which tell kinds too: `coverage` the reference build with a counter
-//! at each branch, `mutants` one with every mistake to choose from, `causes` one for each leaf put
-//! back.
+//! of the exact c (document 02), and of each a copy that tells kinds. EXPORTS names another folder
+//! for the archives, GEOMCORE another one for geomcore. Features write more copies, which tell kinds
+//! too: `coverage` the reference build with a counter at each branch, `mutants` one with every
+//! mistake to choose from, `causes` one for each leaf put back.
 #[path = "build/branches.rs"]
 mod branches;
 #[path = "build/causes.rs"]

@@ -122,12 +122,12 @@ struct pongewaru_coefficients {
 /* No listing is longer. */
 #define PONGEWARU_LISTING_MOST 524328
 
-/* ---- The mode, `sine`: three roots of a cubic begin from the sine that belongs to the exact cosine of a third of an angle, as they do where no `sine` is handed
- * in; or, for every other number, to the rounded cosine */
+/* ---- The mode. A cubic with three real roots starts from the cosine and the sine of a third of an angle: with 0 for `sine` the sine is that of the exact
+ * cosine, with every other number that of the rounded one. The functions of the first part without `sine` have 0. */
 #define PONGEWARU_SINE_OF_EXACT 0
 #define PONGEWARU_SINE_OF_ROUNDED 1
 
-/* ---- First part: libpongewaru.a. A function `.._by` is the one before it, by that sine. */
+/* ---- First part: libpongewaru.a. A function `.._by` is the one before it, in the mode `sine`. */
 
 /* The real roots of c0 + c1*x + c2*x^2 + .. for the doubles in `coeffs`, the lowest power first, as many as there are; a NaN or negative `tol` counts as 0.
  * Stores pongewaru_list; refuses 1, 2, 3, 20. */
@@ -210,7 +210,7 @@ double pongewaru_leaf_sqrt(double x);
 double pongewaru_leaf_cbrt(double x);
 double pongewaru_leaf_log2(double x);
 
-/* 16 bytes: cosine and sine of a third of acos v. */
+/* 16 bytes: cosine and sine of a third of acos v, in the mode `sine`. */
 uint64_t pongewaru_leaf_third_angle(uint32_t sine, double v, void *out, size_t out_len);
 
 /* 40 bytes: the logarithms of five doubles. */

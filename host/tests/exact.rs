@@ -59,6 +59,18 @@ fn third_angle() {
     compare("s of the exact c by digits of c", 203, &kinds, exactly, by_digits_of_c);
 }
 
+/// The last whole number that passes, and the next one, where `low` passes and `high` does not.
+fn halved(mut low: Big, mut high: Big, passes: impl Fn(&Big) -> bool) -> (Big, Big) {
+    while high.sub(&low) > Big::from(1u64) {
+        let middle = low.add(&high).shr(1);
+        match passes(&middle) {
+            true => low = middle,
+            false => high = middle,
+        }
+    }
+    (low, high)
+}
+
 /// √(1 - c²) from 400 digits of c, the greatest solution of 4c³ - 3c = v, found by halving: from
 /// either end of what c lies in.
 fn by_digits_of_c(v: f64) -> f64 {
@@ -75,25 +87,10 @@ fn by_digits_of_c(v: f64) -> f64 {
         };
         left <= right
     };
-    let (mut low, mut high) = (Big::power_of_two(DIGITS - 1), one.add(&Big::from(1u64)));
-    while high.sub(&low) > Big::from(1u64) {
-        let middle = low.add(&high).shr(1);
-        match at_most(&middle) {
-            true => low = middle,
-            false => high = middle,
-        }
-    }
+    let (low, high) = halved(Big::power_of_two(DIGITS - 1), one.add(&Big::from(1u64)), &at_most);
     let sine = |c: &Big| {
         let square = Big::power_of_two(2 * DIGITS).sub(&c.mul(c));
-        let (mut low, mut high) = (Big::from(0u64), Big::power_of_two(DIGITS));
-        while high.sub(&low) > Big::from(1u64) {
-            let middle = low.add(&high).shr(1);
-            match middle.mul(&middle) <= square {
-                true => low = middle,
-                false => high = middle,
-            }
-        }
-        low
+        halved(Big::from(0u64), Big::power_of_two(DIGITS), |s| s.mul(s) <= square).0
     };
     // units of 2^-1074, as `nearest` takes them
     let double = |s: &Big| plain::nearest(&s.shl(1074), DIGITS);

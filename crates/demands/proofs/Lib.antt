@@ -11,6 +11,7 @@ pub mod Once
 pub mod Brushes
 pub mod Roots
 pub mod Cosine
+pub mod Beside
 pub mod ExactSine
 pub mod Sharper
 pub mod Digits

@@ -1,9 +1,11 @@
 -- The proof of specs/Demands, from the laws beside it.
 use mathlib.Core.Path.{◌≡◌, refl, sym, ap, ◌∙◌}
 use mathlib.Core.Logic.{⊎_elim}
+use mathlib.Core.Bool.{Bool, cond}
 use mathlib.Core.List.{List}
-use Prim.Native.Nat.{◌-◌}
+use Prim.Native.Nat.{ℕ, ◌-◌, ◌<◌}
 use native.Mathlib.Omega.{arith}
+use borrow.Author.Tests.{ne_eqb}
 use lib.Dec.{lit≤}
 use lib.Ieee.{nan, lt, eq, is_nan, of_bits}
 use Rattle.std.specs.Prelude.{Result}
@@ -16,7 +18,7 @@ use Rattle.sqrt.specs.Root.{sqrt_of}
 use Rattle.cbrt.proofs.Cases.{root_special}
 use Rattle.angle.specs.declared.Sine.{Sine}
 use Rattle.angle.specs.declared.Sine.TheVariants.{OfRounded, OfExact}
-use Rattle.angle.specs.Third.{cos_of, sin_of, exact_sin_of, sine_of, third_angle_of}
+use Rattle.angle.specs.Third.{cos_of, sin_of, exact_sin_of, sine_numbered, sine_of, third_angle_of}
 use Rattle.log2.specs.Log.{grid_of, log2_grid_of}
 use Rattle.scaled.specs.Scaled.{scaled_of}
 use Rattle.scaled.proofs.Smallest.{exponent_holds, exponent_least, exponent_of_constant}
@@ -216,8 +218,12 @@ closing_total sine = record {
   fits = fit sine;
 }
 
+other_number : (n : ℕ) → 0 < n → sine_numbered n ≡ OfRounded
+unfolding sine_numbered
+other_number n h = ap (λ (b : Bool). cond b OfExact OfRounded) (ne_eqb n 0 (λ e. omega (arith, h, e)))
+
 sharper_sine : SharperSine
-unfolding sine_of third_angle_of
+unfolding sine_of third_angle_of sine_numbered
 sharper_sine = record {
   nearest = exact_sine;
   merged = merged;
@@ -226,6 +232,7 @@ sharper_sine = record {
   range = sine_range;
   one_start = one_start;
   two_starts = two_starts;
+  numbered = (refl, other_number);
   list = modes.list;
   inquiry = modes.inquiry;
   crank = modes.crank;

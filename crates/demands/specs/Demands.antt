@@ -21,7 +21,7 @@ use Rattle.sqrt.specs.Root.{sqrt_of}
 use Rattle.cbrt.specs.Root.{cbrt_of}
 use Rattle.angle.specs.declared.Sine.{Sine}
 use Rattle.angle.specs.declared.Sine.TheVariants.{OfRounded, OfExact}
-use Rattle.angle.specs.Third.{third_angle_of}
+use Rattle.angle.specs.Third.{sine_numbered, third_angle_of}
 use Rattle.log2.specs.Log.{log2_grid_of}
 use Rattle.cubic.specs.declared.CubicRoots.TheVariants.{Three}
 use Rattle.cubic.specs.Cubic.{cubic_closed_form_of}
@@ -87,7 +87,8 @@ use Rattle.demands.specs.ByHand.{closing_line}
 -- ---- words
 
 -- `-` is that of whole numbers from 0 on and stops at 0: the degree left of a list of zeros, 0 - 1, is 0.
--- `sine` is the mode of request Six. The reference build's is `OfRounded`, the lanes' `OfExact`; what takes a mode holds in every one.
+-- `sine` is the mode of request Six. The reference build's is `OfRounded`, the lanes' `OfExact`; what takes a mode holds in every one, and 'the Rust's' is there
+-- the Rust with that sine.
 
 -- No double is nearer than r to a number of y units with the sign s, where `under h` says h / 2 ≤ y, and `over h` y ≤ h / 2: the middle of r and a smaller
 -- double is not above y, and the middle of r and a larger one is not below y. Sizes are enough: of two doubles that differ in the sign alone, the one with
@@ -200,15 +201,15 @@ pub record CubeRoot : Type 0 where
 -- 'c is the double nearest the greatest real solution of 4c³ − 3c = v, for v in [−1, 1]; s is the double nearest √(1 − c²) for that rounded c; NaN gives NaN
 -- twice.' Like that solution, c lies from 1/2 to 1. This s is that of the old mode, `OfRounded`; that of the new one is in `SharperSine`, and c is the same.
 pub record Third : Type 0 where
-  pub cosine : (sine : Sine) (v : Float) → Finite v → units_of v ≤ 2 ^ 1074
-      → let s = is_sign_negative_of v in let n = units_of v in Nearest false (AtMostSolution s n) (AtLeastSolution s n) (third_angle_of sine v).cos
+  pub cosine : (mode : Sine) (v : Float) → Finite v → units_of v ≤ 2 ^ 1074
+      → let s = is_sign_negative_of v in let n = units_of v in Nearest false (AtMostSolution s n) (AtLeastSolution s n) (third_angle_of mode v).cos
   pub same : (v : Float) → (third_angle_of OfExact v).cos ≡ (third_angle_of OfRounded v).cos
-  pub range : (sine : Sine) (v : Float) → Finite v → units_of v ≤ 2 ^ 1074
-      → let c = units_of (third_angle_of sine v).cos in (2 ^ 1073 ≤ c) × (c ≤ 2 ^ 1074)
+  pub range : (mode : Sine) (v : Float) → Finite v → units_of v ≤ 2 ^ 1074
+      → let c = units_of (third_angle_of mode v).cos in (2 ^ 1073 ≤ c) × (c ≤ 2 ^ 1074)
   pub sine : (v : Float) → Finite v → units_of v ≤ 2 ^ 1074
       → let c = units_of (third_angle_of OfRounded v).cos in
       Nearest false (λ h. h * h + 4 * (c * c) ≤ 4 * 2 ^ 2148) (λ h. 4 * 2 ^ 2148 ≤ h * h + 4 * (c * c)) (third_angle_of OfRounded v).sin
-  pub twice : (sine : Sine) → ((third_angle_of sine nan).cos ≡ nan) × ((third_angle_of sine nan).sin ≡ nan)
+  pub twice : (mode : Sine) → ((third_angle_of mode nan).cos ≡ nan) × ((third_angle_of mode nan).sin ≡ nan)
 
 -- 'L(a), the greatest multiple of 1/256 not above the exact logarithm; minus infinity for 0': z / 256 where 2^z ≤ a^256 < 2^(z + 1).
 pub record Logarithm : Type 0 where
@@ -520,12 +521,13 @@ below_one k = of_bits binary64 (0x3FF0_0000_0000_0000 - k)
 
 -- `nearest`: 'A new mode beside the old defines s as the double nearest √(1 − c²) for the exact c, before c is rounded.' No double is nearer, c being the
 -- solution of the cubic itself. 'A path with two nearly equal contacts starts its refinement from one place instead of two, since c rounds to 1 and s to 0':
--- `merged`, so it is for the four doubles next below 1, in the old mode. In the new one, `apart`, s is at least 2^-26/3, rounded, for every v from −1 to below
--- 1; `zero`, it is 0 for v = 1 alone. `range`: it lies from 0 to √3/2, rounded, which is 0.8660254037844386. `one_start` and `two_starts`: of a cubic for which
--- v is the double next below 1, y³ − 3y − (2 − 2^-52), two roots are near −1, about 1.7·10^-8 apart; the closed form's places for them are one double, −1, in
--- the old mode, and in the new one −0.9999999913968106 and −1.0000000086031895. 'Errors: no additions': what is refused is refused under the same number in
--- both modes. `count` and `line`: two listings of a file have as many lines, and a line that says a refusal is the same in both. 'The accuracy rule covers both
--- modes, being shown over whichever start is used': `SimpleRoots`, which `Demands` has of every mode.
+-- `merged`: in the old mode it is so at the four doubles next below 1. In the new one, `apart`, s is at least 2^-26/3, rounded, for every v from −1 on that is
+-- below 1; `zero`, it is 0 for v = 1 alone. `range`: it lies from 0 to √3/2, rounded, which is 0.8660254037844386. `one_start` and `two_starts`: of a cubic for
+-- which v is the double next below 1, y³ − 3y − (2 − 2^-52), two roots are near −1, about 1.7·10^-8 apart; the closed form's places for them are one double, −1,
+-- in the old mode, and in the new one −0.9999999913968106 and −1.0000000086031895. 'The lanes and `hallroots` use the new mode; the old one remains':
+-- `numbered`, which mode a number is; that `hallroots` and the C functions that take no number have `OfExact` is their contracts. 'Errors: no additions': what
+-- is refused is refused under the same number in both modes. `count` and `line`: two listings of a file have as many lines, and a line that says a refusal is
+-- the same in both. 'The accuracy rule covers both modes, being shown over whichever start is used': `SimpleRoots`, which `Demands` has of every mode.
 pub record SharperSine : Type 0 where
   pub nearest : (v : Float) → Finite v → units_of v ≤ 2 ^ 1074
       → let s = is_sign_negative_of v in let n = units_of v in Nearest false (AtMostSine s n) (AtLeastSine s n) (third_angle_of OfExact v).sin
@@ -538,6 +540,7 @@ pub record SharperSine : Type 0 where
       ≡ Three (1 *2^ 1 ∷ neg (1 /2^ 0) ∷ neg (1 /2^ 0) ∷ [])
   pub two_starts : cubic_closed_form_of OfExact (0 /2^ 0) (neg (3 /2^ 0)) (neg (9007199254740991 /2^ 52))
       ≡ Three (1 *2^ 1 ∷ neg (9007199177250351 /2^ 53) ∷ neg (4503599666115817 /2^ 52) ∷ [])
+  pub numbered : (sine_numbered 0 ≡ OfExact) × ((n : ℕ) → 0 < n → sine_numbered n ≡ OfRounded)
   pub list : (a b : Sine) (coeffs : List Float) (tol : Float) → outcome_of (real_roots_of a coeffs tol) ≡ outcome_of (real_roots_of b coeffs tol)
   pub inquiry : (a b : Sine) (coeffs : List Float) (tol : Float) → outcome_of (start_of a coeffs tol) ≡ outcome_of (start_of b coeffs tol)
   pub crank : (a b : Sine) (confusion : Float) (trig : TrigEquation)

@@ -191,6 +191,7 @@ fn lists(r: &mut Random) -> Vec<Row> {
     use crate::compare::answer::LIST;
     use crate::inputs::lists::with_small_roots;
     use crate::inputs::polynomials::polynomial;
+    use crate::inputs::quadratics::TOL;
     use crate::port::exported;
     use reference::untouched::poly::real_roots;
     const NAMES: [&[&str]; 3] = [
@@ -198,7 +199,6 @@ fn lists(r: &mut Random) -> Vec<Row> {
         &["list 3, uniform", "list 3, whole", "list 3, real roots", "list 3, small roots"],
         &["list 4, uniform", "list 4, whole", "list 4, real roots", "list 4, small roots"],
     ];
-    let tol = 1.0 / (1u64 << 30) as f64;
     let make = |r: &mut Random, mix, d: usize| -> [f64; 5] {
         let mut p = match mix {
             0 => std::array::from_fn(|_| 2.0 * r.unit() - 1.0),
@@ -214,15 +214,15 @@ fn lists(r: &mut Random) -> Vec<Row> {
         let most = if d == 4 { 1.4 } else { 2.0 };
         for (mix, name) in names.iter().enumerate() {
             let aim = if mix < 3 { Aim::Times(most) } else { Aim::Open };
-            let inputs: Vec<_> = (0..FACTORED).map(|_| make(r, mix, d)).collect();
-            let inputs: Vec<_> = inputs.into_iter().map(|p| (p, port::forty(p))).collect();
+            let made = (0..FACTORED).map(|_| make(r, mix, d));
+            let inputs: Vec<_> = made.map(|p| (p, port::forty(p))).collect();
             let port = |(_, bytes): ([f64; 5], [u8; 40])| {
                 let mut out = [0; 8 * LIST];
-                exported::real_roots(&bytes[..8 * d + 8], tol, &mut out);
+                exported::real_roots(&bytes[..8 * d + 8], TOL, &mut out);
                 port::double(&out, 1)
             };
             let rust = |(p, _): ([f64; 5], [u8; 40])| {
-                real_roots(&p[..=d], tol).first().map_or(0.0, |root| root.value)
+                real_roots(&p[..=d], TOL).first().map_or(0.0, |root| root.value)
             };
             rows.push(row((name, "geomcore's"), aim, &inputs, port, rust));
         }

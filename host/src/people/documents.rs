@@ -101,14 +101,27 @@ pub fn facts(clauses: &[String]) -> String {
     clauses.iter().map(|fact| format!("`{fact}`")).collect::<Vec<_>>().join("; ")
 }
 
+/// Whether a function's body begins here: behind its contract, or behind its name where it has none.
+fn opens_body(line: &str) -> bool {
+    let line = line.trim();
+    line.starts_with('{') || line.ends_with('{') && !line.starts_with("ensures")
+}
+
+/// The modules of a crate that no other crate sees.
+fn hidden(root: &str) -> Vec<String> {
+    let own = root.lines().filter_map(|line| line.strip_prefix("mod ")?.strip_suffix(';'));
+    let own = own.filter(|name| !root.contains(&format!("pub use {name}::")));
+    own.map(|name| format!("{name}.rt")).collect()
+}
+
 /// The public functions of one file.
 fn of_file(name: &str, text: &str) -> Vec<Function> {
     let lines: Vec<&str> = text.lines().collect();
     let mut found = Vec::new();
     for (at, line) in lines.iter().enumerate() {
         let Some(function) = public_name(line) else { continue };
-        let header = lines[at..].iter().take_while(|line| !line.trim().starts_with('{'));
-        let header = header.copied().collect::<Vec<_>>().join("\n");
+        let length = lines[at..].iter().position(|line| opens_body(line));
+        let header = lines[at..at + length.unwrap_or(0).max(1)].join("\n");
         found.push(Function {
             name: format!("{name}::{function}"),
             exported: line.contains("extern \"C\""),
@@ -123,8 +136,12 @@ fn of_file(name: &str, text: &str) -> Vec<Function> {
 pub fn functions(root: &Path) -> io::Result<Vec<Function>> {
     let mut found = Vec::new();
     for name in crates(root)? {
-        for path in files(&root.join("crates").join(&name).join("src"), ".rt")? {
-            found.extend(of_file(&name, &fs::read_to_string(path)?));
+        let folder = root.join("crates").join(&name).join("src");
+        let hidden = hidden(&fs::read_to_string(folder.join("lib.rt")).unwrap_or_default());
+        for path in files(&folder, ".rt")? {
+            if !hidden.iter().any(|file| path.ends_with(file)) {
+                found.extend(of_file(&name, &fs::read_to_string(path)?));
+            }
         }
     }
     Ok(found)

@@ -42,10 +42,9 @@ hall random N SEED        a hall file of N made records on standard output; the 
 hall random N SEED --damage
                           the same, and then cut, or with some byte changed
 hall bench                how long a call of each proved function takes, beside Rust's
-hall lists COUNT SEED     compare COUNT made lists with geomcore's Rust, on two threads, and as many
-                          in the mode of the exact sine, which the listings have, with a copy that
-                          has that sine. Status 1 where one differs, 2 where nothing was compared;
-                          so for those below
+hall lists COUNT SEED     compare COUNT made lists in each mode of the sine with geomcore's Rust and
+                          a copy that has the exact sine, on two threads. Status 1 where one
+                          differs, 2 where nothing was compared; so for those below
 hall inquiries COUNT SEED the same for inquiries: always no, always yes, and by a hash
 hall cranks COUNT SEED    the same for crank equations
 hall contacts COUNT SEED  the same for pin contacts, each question replied by the record
@@ -64,8 +63,9 @@ hall mutants COUNT SEED   after how many made inputs the comparison notices each
                           1 where one of them is not noticed
 hall causes COUNT SEED    which leaf makes the untouched Rust depart, over COUNT made lists; with
                           the feature `causes`
-hall stored files DIR     write hall files to DIR/data, their names to DIR/args and the reference
-                          build's listings to DIR/stdout: what the crate hallcases reads and prints
+hall stored files DIR     write hall files to DIR/data, their names to DIR/args and their listings in
+                          the mode of the exact sine to DIR/stdout: what the crate hallcases reads
+                          and prints
 hall stored leaves DIR    write inputs of the leaves to DIR/data/leaves, and the exact answers to
                           DIR/stdout: what the crate leafcases reads and prints
 hall documents            write the documents that are made from the repository's own text

@@ -86,8 +86,8 @@ const TINY: f64 = 1.0 / (1u64 << 60) as f64;
 const LEAST: f64 = 1.0 / (1u64 << 28) as f64;
 
 /// The double nearest to √(1 - c²) for the c before it is rounded. Never a tie: with m of 54 digits
-/// and v² = (1 - m²)(1 - 4m²)², 1 - m² were a square of digits that end, which it is for m = 0
-/// alone.
+/// and v² = (1 - m²)(1 - 4m²)², 1 - m² would be the square of a finite binary fraction, which it is
+/// for m = 0 alone.
 fn sin_of_exact(v: f64) -> f64 {
     if v == 1.0 || v.abs() < TINY {
         return if v == 1.0 { 0.0 } else { 0.5 };
