@@ -63,9 +63,9 @@ hall mutants COUNT SEED   after how many made inputs the comparison notices each
                           1 where one of them is not noticed
 hall causes COUNT SEED    which leaf makes the untouched Rust depart, over COUNT made lists; with
                           the feature `causes`
-hall stored files DIR     write hall files to DIR/data, their names to DIR/args and their listings in
-                          the mode of the exact sine to DIR/stdout: what the crate hallcases reads
-                          and prints
+hall stored files DIR     write hall files to DIR/data, their names to DIR/args and their listings
+                          to DIR/stdout, in the mode of the exact sine: what the crate hallcases
+                          reads and prints
 hall stored leaves DIR    write inputs of the leaves to DIR/data/leaves, and the exact answers to
                           DIR/stdout: what the crate leafcases reads and prints
 hall documents            write the documents that are made from the repository's own text
