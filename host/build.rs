@@ -17,7 +17,7 @@ mod patches;
 
 use patches::{
     CHAINS, COUNTED, CUT, FILES, LIST_STARTS, LIST_USES, OF_CHOSEN, OF_EXACT, OF_ROUNDED, OPENED,
-    OWN, OWN_OPENED, PUT_IN, Patch, Variant, YES,
+    OWN, OWN_OPENED, PUT_IN, Patch, SYSTEMS, Variant, YES,
 };
 use std::path::{Path, PathBuf};
 use std::{env, fs};
@@ -82,10 +82,10 @@ fn write_rust(folder: &Path, here: &Path, out: &Path) {
     let trees: [(&str, &[&[Patch]]); 6] = [
         ("untouched", &[OPENED, CUT]),
         ("untouched_kinds", &[OPENED, CUT, YES]),
-        ("patched", &[OPENED, CUT, PUT_IN, OF_ROUNDED, COUNTED]),
-        ("patched_kinds", &[OPENED, CUT, PUT_IN, OF_ROUNDED, YES, CHAINS]),
-        ("sharp", &[OPENED, CUT, PUT_IN, OF_EXACT, COUNTED]),
-        ("sharp_kinds", &[OPENED, CUT, PUT_IN, OF_EXACT, YES, CHAINS]),
+        ("patched", &[OPENED, CUT, PUT_IN, OF_ROUNDED, SYSTEMS, COUNTED]),
+        ("patched_kinds", &[OPENED, CUT, PUT_IN, OF_ROUNDED, SYSTEMS, YES, CHAINS]),
+        ("sharp", &[OPENED, CUT, PUT_IN, OF_EXACT, SYSTEMS, COUNTED]),
+        ("sharp_kinds", &[OPENED, CUT, PUT_IN, OF_EXACT, SYSTEMS, YES, CHAINS]),
     ];
     for (tree, patches) in trees {
         modules += &write_tree(folder, out, tree, |text, copy| patched(text, copy, patches));
@@ -93,7 +93,7 @@ fn write_rust(folder: &Path, here: &Path, out: &Path) {
     if chosen("COVERAGE") {
         let mut all = Vec::new();
         modules += &write_tree(folder, out, "covered", |text, copy| {
-            let text = in_place(text, copy, &[OPENED, CUT, PUT_IN, OF_ROUNDED, YES]);
+            let text = in_place(text, copy, &[OPENED, CUT, PUT_IN, OF_ROUNDED, SYSTEMS, YES]);
             match copy {
                 "solve.rs" => branches::counted(copy, &text, Some("solve_square"), &mut all),
                 "poly.rs" | "equation.rs" => branches::counted(copy, &text, None, &mut all),
@@ -147,7 +147,11 @@ fn write_mutants(folder: &Path, out: &Path, mistakes: &[Variant]) -> String {
     let list = format!("pub const ALL: [(&str, &str, &str); {count}] = [\n{list}];\n");
     fs::write(out.join("mutants.rs"), list).unwrap();
     write_tree(folder, out, "mutants", |text, copy| {
-        mistaken(patched(text, copy, &[OPENED, CUT, PUT_IN, OF_CHOSEN, YES]), copy, mistakes)
+        mistaken(
+            patched(text, copy, &[OPENED, CUT, PUT_IN, OF_CHOSEN, SYSTEMS, YES]),
+            copy,
+            mistakes,
+        )
     })
 }
 

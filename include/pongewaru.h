@@ -75,13 +75,15 @@ struct pongewaru_root {
 #define PONGEWARU_BRUSH 1
 #define PONGEWARU_FLAT 2
 
-/* 104 bytes: `count` roots, 0 to 4, zeros behind the last. */
+/* 112 bytes: `count` roots, 0 to 4, zeros behind the last; `systems`, 0 to 32: how many square systems were solved for them. */
 struct pongewaru_list {
     double count;
     struct pongewaru_root root[4];
+    double systems;
 };
 
-/* 128 bytes: what an inquiry shows. While `asks` is 1 it asks whether the curve touches at `place`; where it is 0, `place` is 0 and `list` is finished. */
+/* 136 bytes: what an inquiry shows. While `asks` is 1 it asks whether the curve touches at `place`; where it is 0, `place` is 0 and `list` is finished.
+ * `list.systems` is the same whatever is replied; each call starts anew and solves so many. */
 struct pongewaru_shown {
     double number; /* 0, or PONGEWARU_NOTHING_ASKED where there are more replies than questions */
     double asks;
@@ -89,7 +91,7 @@ struct pongewaru_shown {
     struct pongewaru_list list;
 };
 
-/* 136 bytes: t = k * pi/4 + 2 * atan(u) for a place u. */
+/* 144 bytes: t = k * pi/4 + 2 * atan(u) for a place u. */
 struct pongewaru_crank_shown {
     double k; /* 0 to 7 */
     struct pongewaru_shown shown;
@@ -257,7 +259,7 @@ double pongewaru_polish(const void *a, size_t a_len, uint64_t d, double y, doubl
 
 /* c: four places in 32 bytes, a byte for the multiplicity of each, and for `push_quadratic` two pairs, centre and half, in 32 more. n of the places count, up
  * to 4, and m of the pairs, up to 2. 144 bytes: the roots as in pongewaru_list, but behind the last what was handed in, how many pairs, and each centre and
- * half; 104: pongewaru_list. */
+ * half; 104: pongewaru_list without `systems`. */
 uint64_t pongewaru_push_quadratic(const void *a, size_t a_len, uint64_t d, double al, double be, double tol, const void *c, size_t c_len, uint64_t n,
     uint64_t m, void *out, size_t out_len);
 uint64_t pongewaru_finish(const void *a, size_t a_len, uint64_t d, const void *c, size_t c_len, uint64_t n, double tol, void *out, size_t out_len);

@@ -267,6 +267,15 @@ pub const COUNTED: &[Patch] = &[
     ),
 ];
 
+/// In the reference build, its kinds and its mistakes: the square systems are counted, calls that find
+/// none of the unknowns too. Lines keep their numbers.
+pub const SYSTEMS: &[Patch] = &[(
+    "solve.rs",
+    ") -> Option<[f64; N]> {\n    let scale",
+    ") -> Option<[f64; N]> {\n    crate::truth::systems::solved(); let scale",
+    1,
+)];
+
 /// c and s of the reference build, and of its copy in the mode of the exact c (document 02).
 pub const OF_ROUNDED: &[Patch] = &[pair(
     "let (cos, sin) = crate::truth::angle::third_angle(crate::truth::angle::Sine::OfRounded, cos3);",

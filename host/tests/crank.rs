@@ -21,7 +21,7 @@ fn answers(terms: [f64; 5], k: u64, roots: &[Root]) {
             }
             replies.push(0);
         };
-        assert!(shown.list.same(&Answer::new(0, roots)), "{terms:?}: {}", shown.list.text());
+        assert!(shown.list.same_roots(&Answer::new(0, roots)), "{terms:?}: {}", shown.list.text());
     }
 }
 
@@ -84,7 +84,7 @@ fn made_cranks_second() {
 fn buffers() {
     let before: Vec<u8> = (0..160).map(|i| i as u8 ^ 0x5A).collect();
     for room in 0..=160 {
-        let whole = if room < 136 { 0 } else { 136 };
+        let whole = if room < 144 { 0 } else { 144 };
         let cosine = ([0.0, 0.0, 1.0, 0.0, 0.0], whole);
         for (terms, wanted) in [cosine, ([f64::NAN; 5], 1), ([0.0; 5], 2), ([f64::MAX; 5], 5)] {
             for replies in [&[][..], &[0], &[1], &[1, 0]] {

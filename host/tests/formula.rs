@@ -36,7 +36,7 @@ fn expands(text: &[u8], coeffs: &[f64]) {
     }
     for sine in Sine::BOTH {
         let (given, wanted) = (formula_roots(sine, text, TOL), reference(sine, text, TOL).1);
-        assert!(given.same(&wanted), "{}: {}", text.escape_ascii(), given.text());
+        assert!(given.same(&wanted), "{}: {}", text.escape_ascii(), given.told());
         assert_eq!(given.refusal, if coeffs.len() < 2 { 2 } else { 0 }, "{}", text.escape_ascii());
     }
 }
@@ -425,7 +425,7 @@ fn buffers() {
             for sine in Sine::BOTH {
                 let mut out = before.clone();
                 let said = formula_roots_bytes(sine, text, TOL, &mut out[..room]);
-                unchanged(said, 104, room, &out, refusal);
+                unchanged(said, 112, room, &out, refusal);
             }
             let mut out = before.clone();
             let said = formula_coefficients_bytes(text, &mut out[..room]);

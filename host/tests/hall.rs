@@ -7,7 +7,7 @@ use host::truth::angle::Sine;
 use run::{hall, said, scratch, text};
 use std::fs;
 
-const COMMANDS: [&str; 23] = [
+const COMMANDS: [&str; 24] = [
     "make",
     "list",
     "show",
@@ -26,6 +26,7 @@ const COMMANDS: [&str; 23] = [
     "files",
     "damage",
     "doubts",
+    "systems",
     "coverage",
     "mutants",
     "causes",
@@ -108,6 +109,20 @@ fn words_not_known() {
         (&["lanes", "--help"], "unknown word `lanes`"),
         (&["show", "--cvs"], "unknown word `--cvs`"),
         (&["show", "a", "b"], "unknown word `b`"),
+        (&["show", "--system", "a"], "unknown word `--system`"),
+        (&["show", "a", "--Systems"], "unknown word `--Systems`"),
+        (&["show", "--systems", "--cvs"], "unknown word `--cvs`"),
+        (&["show", "a", "--systems", "b"], "unknown word `b`"),
+        (&["show", "--systems", "--csv", "a", "b"], "unknown word `b`"),
+        (&["list", "--systems"], "unknown word `--systems`"),
+        (&["list", "a", "--systems"], "unknown word `--systems`"),
+        (&["compare", "a", "--systems"], "unknown word `--systems`"),
+        (&["explain", "a", "--systems"], "unknown word `--systems`"),
+        (&["draw", "a", "1", "--systems"], "unknown word `--systems`"),
+        (&["--systems"], "unknown word `--systems`"),
+        (&["systems"], "a word is missing after `hall systems`"),
+        (&["systems", "5"], "a word is missing after `hall systems 5`"),
+        (&["systems", "a.hall", "1"], "`a.hall` is no number"),
         (&["explain"], "a word is missing after `hall explain`"),
         (&["explain", "--csv"], "unknown word `--csv`"),
         (&["explain", "a", "b", "c"], "unknown word `c`"),
@@ -115,6 +130,7 @@ fn words_not_known() {
         (&["compare", "--csv"], "a word is missing after `hall compare --csv`"),
         (&["lists", "0", "1"], "nothing was compared: COUNT is 0"),
         (&["doubts", "0", "1"], "nothing was compared: COUNT is 0"),
+        (&["systems", "0", "1"], "nothing was compared: COUNT is 0"),
         (&["mutants", "0", "1"], "nothing was compared: COUNT is 0"),
         (&[], "a word is missing after `hall`"),
     ];

@@ -43,7 +43,7 @@ fn lists(coeffs: &[f64], replies: &[u8], roots: &[Listed]) {
 fn ended(coeffs: &[f64], replies: &[u8], number: u64, roots: &[Listed]) {
     for shown in both(coeffs, replies) {
         assert!(shown.number == number && shown.place.is_none(), "{coeffs:?}, {replies:?}");
-        assert!(shown.list.same(&answer(roots)), "{coeffs:?}: {}", shown.list.text());
+        assert!(shown.list.same_roots(&answer(roots)), "{coeffs:?}: {}", shown.list.text());
     }
 }
 
@@ -78,7 +78,7 @@ fn kinds() {
             let in_turn = |_| replies[next.replace(next.get() + 1)] != 0;
             let list = touching::list(sine, coeffs, TOL, &in_turn).into_iter().map(Root::by);
             let list = Answer::new(0, &list.collect::<Vec<_>>());
-            assert!(list.same(&answer(roots)), "{coeffs:?}, {replies:?}: {}", list.text());
+            assert!(list.same_roots(&answer(roots)), "{coeffs:?}, {replies:?}: {}", list.text());
         }
     };
     // a pair alone
@@ -181,7 +181,7 @@ fn buffers() {
     };
     let circle = port::bytes(&[1.0, 0.0, 1.0]);
     for room in 0..=150 {
-        let whole = if room < 128 { 0 } else { 128 };
+        let whole = if room < 136 { 0 } else { 136 };
         for replies in [&[][..], &[0], &[1], &[1, 0], &[0; 300]] {
             check(&circle, replies, room, whole);
             check(&port::bytes(&[1.0, f64::NAN]), replies, room, 1);

@@ -140,6 +140,78 @@ fn a_file_as_csv() {
     assert_eq!(text(&hall(&["show", "--csv"], &bytes).stdout), csv);
 }
 
+/// Two lists with systems, one that has none once its root 0 is removed, a quadratic, a crank, a
+/// formula, a refusal, and what is no record.
+fn solved() -> (Vec<u8>, [u32; 8]) {
+    let bytes = made(
+        "list 2^-30 1 2 3 4 5\nlist 2^-30 1e-9 -1e-3 1 -1e3 2\nlist 2^-30 0 1 2 3 4\n\
+         quad 2^-30 2^-30 1 -3 2\nslider 45 130 150 10\nformula 2^-30 (t^2-2)^2-t\nlist 2^-30 7\n",
+    );
+    ([&bytes[..], b"XX"].concat(), [2, 3, 0, 0, 1, 2, 0, 0])
+}
+
+/// What `hall show` prints of that.
+fn lines(words: &[&str], bytes: &[u8]) -> Vec<String> {
+    let out = hall(&[&["show"], words].concat(), bytes);
+    assert_eq!((out.status.code(), &out.stderr[..]), (Some(0), &b""[..]), "{words:?}");
+    text(&out.stdout).lines().map(str::to_string).collect()
+}
+
+/// A line behind each record, and their sum; all else is as it is without.
+#[test]
+fn systems() {
+    let (bytes, wanted) = solved();
+    let path = scratch("systems.hall");
+    fs::write(&path, &bytes).unwrap();
+    let path = path.to_str().unwrap();
+    let counted = |n: u32| format!("  {n} system{} solved", if n == 1 { "" } else { "s" });
+    let own: Vec<String> = [0, 1, 2, 3].map(counted).to_vec();
+    let shown = lines(&["--systems"], &bytes);
+    let (of_records, others): (Vec<String>, Vec<String>) =
+        shown.iter().cloned().partition(|line| own.contains(line));
+    assert_eq!(of_records, wanted.map(counted));
+    let plain = lines(&[], &bytes);
+    let (total, before) = plain.split_last().unwrap();
+    assert_eq!(others[..before.len()], *before);
+    let last = others[before.len()..].join(" ").replace("     ", " ");
+    assert_eq!(last, format!("{total}; 8 systems solved"));
+    for words in [[path, "--systems"], ["--systems", path]] {
+        assert_eq!(lines(&words, b""), shown);
+    }
+    let nothing = ["no record: the file is empty", "in all: 0 records, 0 roots; 0 systems solved"];
+    assert_eq!(lines(&["--systems"], b""), nothing);
+    let long = lines(&["--systems"], &[b'P'; 70_000]);
+    assert_eq!(long[2..], ["  0 systems solved", "in all: 1 record, 0 roots; 0 systems solved"]);
+}
+
+/// Each root's line ends with the number of its record.
+#[test]
+fn systems_as_csv() {
+    let (bytes, wanted) = solved();
+    let path = scratch("systems_as_csv.hall");
+    fs::write(&path, &bytes).unwrap();
+    let path = path.to_str().unwrap();
+    let csv = lines(&["--csv", "--systems"], &bytes);
+    let plain = lines(&["--csv"], &bytes);
+    assert_eq!((csv.len(), &csv[0]), (plain.len(), &format!("{},systems", plain[0])));
+    for (line, plain) in csv[1..].iter().zip(&plain[1..]) {
+        let number: usize = fields(line)[0].parse().unwrap();
+        assert_eq!(*line, format!("{plain},{}", wanted[number - 1]));
+        assert_eq!(fields(line).len(), 20);
+    }
+    let (csv_flag, systems) = ("--csv", "--systems");
+    for words in [
+        [path, csv_flag, systems],
+        [path, systems, csv_flag],
+        [csv_flag, path, systems],
+        [systems, path, csv_flag],
+        [csv_flag, systems, path],
+        [systems, csv_flag, path],
+    ] {
+        assert_eq!(lines(&words, b""), csv);
+    }
+}
+
 /// At each contact the ball's place, and its distance from the circle; a touch within confusion is
 /// no doubtful one: a brush where it was asked about, flat where the tolerance joins it anyhow.
 #[test]
@@ -490,7 +562,7 @@ fn faults_are_named() {
 #[cfg(not(geomcore))]
 #[test]
 fn nothing_to_compare_with() {
-    let commands: [&[&str]; 8] = [
+    let commands: [&[&str]; 9] = [
         &["compare", "-"],
         &["compare", "-", "--csv"],
         &["lists", "5", "1"],
@@ -498,6 +570,7 @@ fn nothing_to_compare_with() {
         &["files", "5", "1"],
         &["damage", "0", "1"],
         &["doubts", "5", "1"],
+        &["systems", "5", "1"],
         &["stored", "files", "x"],
     ];
     for words in commands {

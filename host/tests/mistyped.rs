@@ -432,7 +432,7 @@ fn any_text() {
             assert_eq!(under_marks(&plain, &rows), shown_part(&text, part), "{rows}");
         }
         let (all, total) = show::shown(&record(0.5, &text), list_file).unwrap();
-        let table = table::table(&all, total);
+        let table = table::table(&all, total, false);
         assert!(table.lines().all(|line| line.chars().count() <= 100), "{table}");
         let typed = text::read(&[b"formula 1 ", &text[..]].concat());
         let whole = |text: &str| text.trim() == text && !text.contains('#');

@@ -22,7 +22,7 @@ fn stored_lists_in(sine: Sine) {
         let a: Vec<f64> = numbers.iter().copied().map(f64::from_bits).collect();
         let tol = f64::from_bits(*tol);
         let (given, wanted) = (port::real_roots(sine, &a, tol), reference(sine, &a, tol));
-        assert!(given.same(&wanted), "{name}: port {}, reference {}", given.text(), wanted.text());
+        assert!(given.same(&wanted), "{name}: port {}, reference {}", given.told(), wanted.told());
         add(&mut outcome, sine, &List(&a, tol), true);
     }
     assert!(outcome.wrong == 0, "{}", outcome.shown.join("\n"));
@@ -35,7 +35,7 @@ fn stored_contacts() {
     {
         let given = pin_contact(sine, contact.numbers());
         let wanted = contacts::reference(sine, &contact).list;
-        assert!(given.same(&wanted), "{name}: port {}, reference {}", given.text(), wanted.text());
+        assert!(given.same(&wanted), "{name}: port {}, reference {}", given.told(), wanted.told());
     }
 }
 

@@ -43,7 +43,7 @@ pub extern "C" fn pongewaru_cubic_closed_form(
 pub extern "C" fn pongewaru_cubic_factor(sine: u32, b: f64, c: f64, d: f64, out: &mut [u8]) -> u64
     ensures { Stored (cubic_numbers (cubic_factor_of (sine_numbered sine) b c d)) out.old result out.new }
 {
-    let x = cubic::cubic_factor(Sine::from(sine), b, c, d);
+    let x = cubic::cubic_factor(Sine::from(sine), b, c, d).value;
     store(out, &[x.r, x.e, x.f])
 }
 
@@ -58,7 +58,7 @@ pub extern "C" fn pongewaru_quartic_factor(
 ) -> u64
     ensures { Stored (quartic_numbers (quartic_factor_of (sine_numbered sine) b c d e)) out.old result out.new }
 {
-    let x = quartic::quartic_factor(Sine::from(sine), b, c, d, e);
+    let x = quartic::quartic_factor(Sine::from(sine), b, c, d, e).value;
     store(out, &[x.al, x.be, x.ga, x.de])
 }
 
@@ -85,6 +85,6 @@ pub extern "C" fn pongewaru_isolated_root(al: f64, be: f64, ga: f64, de: f64, ou
 pub extern "C" fn pongewaru_peel_root(b: f64, c: f64, d: f64, e: f64, y: f64, out: &mut [u8]) -> u64
     ensures { Stored (peeled_numbers (peel_root_of b c d e y)) out.old result out.new }
 {
-    let x = isolated::peel_root(b, c, d, e, y);
+    let x = isolated::peel_root(b, c, d, e, y).value;
     store(out, &[x.r, x.h2, x.h1, x.h0])
 }

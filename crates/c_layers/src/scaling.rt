@@ -97,6 +97,6 @@ pub extern "C" fn pongewaru_factorize(
         return 0;
     };
     let s = scaled::Scaled::new(p);
-    let f = factorize::factorize(Sine::from(sine), s, depth);
+    let f = factorize::factorize(Sine::from(sine), s, depth).value;
     store(out, &factor_numbers(f))
 }

@@ -61,7 +61,8 @@ pub extern "C" fn pongewaru_refine_cubic(b: f64, c: f64, d: f64, x: &[u8], out: 
     if x.len() < 24 {
         return 0;
     }
-    store(out, &refine::refine_cubic(b, c, d, doubles_at(x, 0)))
+    let refined = refine::refine_cubic(b, c, d, doubles_at(x, 0));
+    store(out, &refined.value)
 }
 
 #[unsafe(no_mangle)]
@@ -79,7 +80,8 @@ pub extern "C" fn pongewaru_refine_quartic(
     if x.len() < 32 {
         return 0;
     }
-    store(out, &refine::refine_quartic(b, c, d, e, doubles_at(x, 0)))
+    let refined = refine::refine_quartic(b, c, d, e, doubles_at(x, 0));
+    store(out, &refined.value)
 }
 
 #[unsafe(no_mangle)]
@@ -97,7 +99,8 @@ pub extern "C" fn pongewaru_refine_peel(
     if x.len() < 32 {
         return 0;
     }
-    store(out, &refine::refine_peel(b, c, d, e, doubles_at(x, 0)))
+    let refined = refine::refine_peel(b, c, d, e, doubles_at(x, 0));
+    store(out, &refined.value)
 }
 
 #[unsafe(no_mangle)]

@@ -1,8 +1,10 @@
 -- What `listed` ends with, by what the list was solved to: the list for these replies, or its refusal.
-use mathlib.Core.Path.{◌≡◌, refl, ◌∙◌}
+use mathlib.Core.Path.{◌≡◌, refl, ap, ◌∙◌}
 use mathlib.Core.List.{List}
 use lib.Ieee.{Float}
 use Rattle.std.specs.Prelude.{ℕ, Result, Ok, Err}
+use Rattle.tally.specs.declared.Tallied.{Tallied}
+use Rattle.tally.specs.Tally.{answer_in}
 use Rattle.refusals.specs.declared.Refusal.{Refusal}
 use Rattle.refusals.specs.Refusals.{and_then}
 use Rattle.float.specs.Literals.{zero64}
@@ -33,6 +35,6 @@ module _ (sine : Sine) (confusion : Float) (p : Path) (r : Float) (coeffs : List
   unfolding listed_of solve_of
   listed_is s (lg, b) = rw b (same lg (counted_of coeffs))
 
-  pub listed_refused : (refusal : Refusal) {answer : Result Roots Refusal} → ButLogs (Err refusal) (solve_of sine coeffs confusion) → answer ≡ Err refusal
-      → answer ≡ listed_of sine confusion p r coeffs
-  listed_refused refusal b is = is ∙ listed_is (Err refusal) b
+  pub listed_refused : (refusal : Refusal) {answer : Result (Tallied Roots) Refusal} → ButLogs (Err refusal) (solve_of sine coeffs confusion)
+      → answer ≡ Err refusal → answer_in answer ≡ listed_of sine confusion p r coeffs
+  listed_refused refusal b is = ap answer_in is ∙ listed_is (Err refusal) b

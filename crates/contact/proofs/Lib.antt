@@ -1,3 +1,4 @@
 pub mod Answer
 pub mod Negative
 pub mod Theorem
+pub mod Systems

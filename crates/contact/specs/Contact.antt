@@ -1,5 +1,5 @@
 -- A pin contact from path and circle: request One of document 02. The coefficients, the replies, and the answer. Definitions only.
-use Rattle.std.specs.Prelude.{Bool, cond, List, [], ◌∷◌, Float, Result, Ok, Err}
+use Rattle.std.specs.Prelude.{Bool, cond, List, [], ◌∷◌, ℕ, Float, Result, Ok, Err}
 use Rattle.std.specs.Float.Ieee.{lt, le}
 use Rattle.refusals.specs.declared.Refusal.{Refusal}
 use Rattle.refusals.specs.declared.Refusal.TheVariants.{RecordNotFinite, NoRadius, MadeNotFinite}
@@ -12,6 +12,7 @@ use Rattle.roots.specs.declared.Roots.{Roots}
 use Rattle.roots.specs.Roots.{roots_of}
 use Rattle.angle.specs.declared.Sine.{Sine}
 use Rattle.poly.specs.Coefficients.{counted_of}
+use Rattle.poly.specs.RealRoots.{real_roots_systems_of}
 use Rattle.inquiry.specs.Start.{real_roots_touching_of}
 use Rattle.contact.specs.declared.Path.{Path}
 use Rattle.contact.specs.declared.Circle.{Circle}
@@ -71,3 +72,11 @@ pin_contact_of sine confusion path circle =
     (cond (all_finite_of (made_of path circle)) (listed_of sine confusion (seen_of path circle) circle.r (made_of path circle)) (Err MadeNotFinite))
     (Err NoRadius))
     (Err RecordNotFinite)
+
+-- how many systems were solved for it: those of the list of the coefficients made, whatever is replied; of a refusal none. (12 needs no test: the list of
+-- coefficients that are not finite is refused too.)
+unfoldable pub pin_contact_systems_of : Sine → Float → Path → Circle → ℕ
+pin_contact_systems_of sine confusion path circle =
+    cond (all_finite_of (numbers_of confusion path circle))
+    (cond (lt zero64 circle.r) (real_roots_systems_of sine (made_of path circle) confusion) 0)
+    0

@@ -7,12 +7,15 @@ ghost use Rattle.roots.specs.Roots.{list_of};
 ghost use Rattle.roots.specs.Listed.{Within};
 ghost use Rattle.poly.specs.Coefficients.{degree_left};
 ghost use Rattle.contact.specs.Contact.{seen_of, coefficients_of, distance_of, touches_of, listed_of, made_of, pin_contact_of};
-ghost use Rattle.poly.specs.RealRoots.{roots_in};
+ghost use Rattle.contact.specs.Contact.{pin_contact_systems_of};
+ghost use Rattle.tally.specs.Tally.{answer_in, systems_in};
+ghost use Rattle.poly.specs.RealRoots.{real_roots_systems_of, roots_in};
 
 use angle::Sine;
 use inquiry::Asked;
 use refusals::Refusal;
 use roots::Roots;
+use tally::Tallied;
 
 // The six letters of document 02's record: the ball is at x0 + x1*t + x2*t^2 across, and likewise y along.
 #[derive(Clone, Copy)]
@@ -84,15 +87,25 @@ impl Path {
 
 // At most three questions are asked, so the loop ends. Nothing looks at a logarithm, so a level list is solved without.
 // One reply after another, as documents 01 and 02 have them of an inquiry: a walk that calls a closure would be a second one beside that of replies at hand.
-fn listed(sine: Sine, confusion: f64, p: Path, r: f64, coeffs: &[f64]) -> Result<Roots, Refusal>
-    ensures { result ≡ listed_of sine confusion p r coeffs.now }
+fn listed(
+    sine: Sine,
+    confusion: f64,
+    p: Path,
+    r: f64,
+    coeffs: &[f64],
+) -> Result<Tallied<Roots>, Refusal>
+    ensures value { answer_in result ≡ listed_of sine confusion p r coeffs.now }
+    ensures systems { systems_in result ≡ real_roots_systems_of sine coeffs.now confusion }
 {
     let s = poly::solve_brief(sine, coeffs, confusion)?;
     let mut replies = touching::Replies::default();
     loop {
         match inquiry::asked_with(s, replies) {
             Asked::Question(t) => replies = replies.with(p.touches(confusion, r, t)),
-            Asked::Finished(roots) => return Ok(roots),
+            Asked::Finished(value) => {
+                let systems = s.systems;
+                return Ok(Tallied { value, systems });
+            }
         }
     }
 }
@@ -101,8 +114,15 @@ fn listed(sine: Sine, confusion: f64, p: Path, r: f64, coeffs: &[f64]) -> Result
 // Demand 1 holds of the answer: at most four finite roots, each counting at least once, together at most the degree left.
 // `sine` is the mode: the third angle's sine is that of the rounded cosine, as in the reference build, or of the exact one.
 #[tactic(auto, using(crate::proofs::Theorem::holds), unfolding(crate::specs::Contact::pin_contact_of))]
-pub fn pin_contact(sine: Sine, confusion: f64, path: Path, circle: Circle) -> Result<Roots, Refusal>
-    ensures { (result ≡ pin_contact_of sine confusion path circle) × Within (degree_left (made_of path circle)) (list_of (roots_in result)) }
+pub fn pin_contact(
+    sine: Sine,
+    confusion: f64,
+    path: Path,
+    circle: Circle,
+) -> Result<Tallied<Roots>, Refusal>
+    ensures value { (answer_in result ≡ pin_contact_of sine confusion path circle)
+        × Within (degree_left (made_of path circle)) (list_of (roots_in (answer_in result))) }
+    ensures systems { systems_in result ≡ pin_contact_systems_of sine confusion path circle }
 {
     let handed = [
         confusion, path.x0, path.x1, path.x2, path.y0, path.y1, path.y2, circle.cx, circle.cy,

@@ -8,24 +8,29 @@ use Rattle.std.specs.Prelude.{Result, Ok, Err}
 use Rattle.refusals.specs.declared.Refusal.{Refusal}
 use Rattle.refusals.specs.Refusals.{number_of, outcome_of, value_or, and_then}
 use Rattle.refusals.proofs.Numbers.{number_bounds}
+use Rattle.tally.specs.declared.Tallied.{Tallied}
+use Rattle.tally.specs.Tally.{answer_in, systems_in}
 use Rattle.roots.specs.declared.Roots.{Roots}
 use Rattle.roots.specs.Roots.{roots_of}
 use Rattle.angle.specs.declared.Sine.{Sine}
 use Rattle.poly.specs.Coefficients.{degree_left}
+use Rattle.poly.specs.RealRoots.{real_roots_systems_of}
 use Rattle.trig_quartic.specs.declared.TrigEquation.{TrigEquation}
 use Rattle.trig_quartic.specs.declared.Crank.{Crank}
 use Rattle.trig_quartic.specs.Crank.{sample_of, crank_front_of}
 use Rattle.touching.specs.declared.Replies.{Replies}
 use Rattle.inquiry.specs.declared.Inquiry.{Inquiry}
 use Rattle.inquiry.specs.declared.Asked.{Asked}
+use Rattle.inquiry.specs.declared.Seen.{Seen}
 use Rattle.inquiry.specs.declared.Asked.TheVariants.{Question, Finished}
 use Rattle.inquiry.specs.Inquiry.{list_in, is_question, seen_of}
 use Rattle.inquiry.specs.Start.{start_of, inquiry_in, given, shown_after_of}
 use Rattle.inquiry.proofs.Shown.{asked_seen}
+use Rattle.inquiry.proofs.Systems.{start_systems}
 use Rattle.crank.specs.declared.CrankInquiry.{CrankInquiry}
 use Rattle.crank.specs.declared.CrankShown.{CrankShown}
 use Rattle.crank.specs.declared.CrankAnswer.{CrankAnswer}
-use Rattle.crank.specs.Crank.{trig_quartic_of, solve_trig_of, crank_start_of, crank_in, crank_shown_of, crank_of}
+use Rattle.crank.specs.Crank.{trig_quartic_of, solve_trig_of, crank_start_of, crank_in, crank_shown_of, crank_of, crank_systems_of}
 use Rattle.crank.proofs.Front.{quartic_five, started}
 use Rattle.crank.proofs.Feeding.{four_no, all_no, no_listed}
 
@@ -53,6 +58,37 @@ module _ (sine : Sine) (confusion : Float) (rs : Replies) where
       ≡ crank_shown_of sine confusion trig rs
   unfolding crank_shown_of crank_start_of
   shown_is trig = front_shown (crank_front_of trig)
+
+  pub shown_refused : (trig : TrigEquation) (front : Crank) (refusal : Refusal) {a : Result (Tallied CrankShown) Refusal} → Ok front ≡ crank_front_of trig
+      → Err refusal ≡ shown_after_of sine front.q confusion rs → a ≡ Err refusal → answer_in a ≡ crank_shown_of sine confusion trig rs
+  shown_refused trig front refusal f e is =
+      let by_front = λ (r : Result Crank Refusal).
+      and_then r (λ c. and_then (shown_after_of sine c.q confusion rs) (λ seen. Ok (record { k = c.k; seen = seen }))) in
+      ap answer_in is ∙ ap (λ (r : Result Seen Refusal). and_then r (λ seen. Ok (record { k = front.k; seen = seen }))) e ∙ ap by_front f ∙ shown_is trig
+
+-- ---- how many systems are solved: those of the front's quartic
+module _ (sine : Sine) (confusion : Float) where
+  abbrev begun : ℕ → Result Inquiry Refusal → Result CrankInquiry Refusal
+  begun k r = and_then r (λ q. Ok (record { k = k; inquiry = q }))
+
+  abbrev systems_by : Result Crank Refusal → ℕ
+  systems_by f = (crank_in (and_then f (λ c. begun c.k (start_of sine c.q confusion)))).inquiry.systems
+
+  begun_systems : (k : ℕ) (r : Result Inquiry Refusal) → (inquiry_in r).systems ≡ (crank_in (begun k r)).inquiry.systems
+  begun_systems k (Ok q) = refl
+  begun_systems k (Err refusal) = refl
+
+  module _ (trig : TrigEquation) where
+    pub none_by_front : (refusal : Refusal) {a : Result (Tallied CrankShown) Refusal} → Err refusal ≡ crank_front_of trig → a ≡ Err refusal
+        → systems_in a ≡ crank_systems_of sine confusion trig
+    unfolding crank_systems_of crank_start_of
+    none_by_front refusal e is = ap systems_in is ∙ ap systems_by e
+
+    pub systems_by_front : (front : Crank) {n : ℕ} → Ok front ≡ crank_front_of trig → n ≡ real_roots_systems_of sine front.q confusion
+        → n ≡ crank_systems_of sine confusion trig
+    unfolding crank_systems_of crank_start_of
+    systems_by_front front e is =
+        is ∙ sym (start_systems sine front.q confusion) ∙ begun_systems front.k (start_of sine front.q confusion) ∙ ap systems_by e
 
 -- ---- the answer
 module _ (sine : Sine) (confusion : Float) (trig : TrigEquation) where
@@ -106,10 +142,10 @@ module _ (sine : Sine) (confusion : Float) (trig : TrigEquation) where
         ∙ ap (λ (a : Asked). Ok (record { k = sample_of trig; roots = list_in a })) (sym e ∙ asked_no))
         (λ refusal e. absurd (let n : number_of refusal ≡ 0 = sym (ap outcome_of e) ∙ shown_no.0 in omega (arith, n, number_bounds refusal)))
 
-  pub answer_refused : (refusal : Refusal) {a : Result CrankAnswer Refusal} → Err refusal ≡ crank_shown_of sine confusion trig four_no → a ≡ Err refusal
-      → a ≡ crank_of sine confusion trig
+  pub answer_refused : (refusal : Refusal) {a : Result (Tallied CrankAnswer) Refusal} → Err refusal ≡ crank_shown_of sine confusion trig four_no
+      → a ≡ Err refusal → answer_in a ≡ crank_of sine confusion trig
   unfolding crank_of crank_shown_of
-  answer_refused refusal is-s is = is ∙ go start is-s
+  answer_refused refusal is-s is = ap answer_in is ∙ go start is-s
     where
       go : (r : Result CrankInquiry Refusal) → Err refusal ≡ and_then r (λ c. Ok (shown sine confusion four_no c)) → Err refusal ≡ and_then r (λ c. Ok listed)
       go (Ok c) e = absurd (let n : number_of refusal ≡ 0 = ap outcome_of e in omega (arith, n, number_bounds refusal))

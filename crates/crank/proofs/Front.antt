@@ -27,9 +27,8 @@ use Rattle.trig_quartic.specs.declared.TrigEquation.{TrigEquation}
 use Rattle.trig_quartic.specs.declared.Crank.{Crank}
 use Rattle.trig_quartic.specs.Crank.{f_at_of, sampled_of, numbers_of, sample_of, quartic_of, crank_front_of}
 use Rattle.inquiry.specs.declared.Inquiry.{Inquiry}
-use Rattle.inquiry.specs.Inquiry.{asking}
 use Rattle.inquiry.specs.Start.{real_roots_touching, fresh_by, start_of, inquiry_in}
-use Rattle.inquiry.proofs.Fresh.{start_number, start_asks}
+use Rattle.inquiry.proofs.Fresh.{start_number}
 use Rattle.inquiry.proofs.Loop.{refused_asks}
 use Rattle.crank.specs.declared.CrankInquiry.{CrankInquiry}
 use Rattle.crank.specs.Crank.{trig_quartic_of, crank_start_of, crank_in}

@@ -75,3 +75,7 @@ crank_of sine confusion trig =
 -- the roots of an answer; of a refusal none
 abbrev pub crank_roots_in : Result CrankAnswer Refusal → Roots
 crank_roots_in answer = (value_or (record { k = 0; roots = no_roots }) answer).roots
+
+-- how many systems were solved for it: those of the list, whatever is replied; of a refusal none
+unfoldable pub crank_systems_of : Sine → Float → TrigEquation → ℕ
+crank_systems_of sine confusion trig = (crank_in (crank_start_of sine confusion trig)).inquiry.systems

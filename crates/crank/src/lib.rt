@@ -6,11 +6,14 @@ ghost use Rattle.std.specs.Prelude.{◌≡◌};
 ghost use Rattle.roots.specs.Roots.{list_of};
 ghost use Rattle.roots.specs.Listed.{Within};
 ghost use Rattle.poly.specs.Coefficients.{degree_left};
+ghost use Rattle.tally.specs.Tally.{answer_in, systems_in};
 ghost use Rattle.crank.specs.Crank.{trig_quartic_of, crank_start_of, crank_asked_of, crank_replied_of, crank_shown_of, crank_of, crank_roots_in};
+ghost use Rattle.crank.specs.Crank.{crank_systems_of};
 
 use angle::Sine;
 use inquiry::Asked;
 use refusals::Refusal;
+use tally::Tallied;
 use trig_quartic::{TrigEquation, crank_front};
 
 // k, and the inquiry about the quartic in u. (One generic struct for this and the three below would call inquiry, question, list and roots `value`.)
@@ -57,13 +60,15 @@ pub fn start(sine: Sine, confusion: f64, trig: TrigEquation) -> Result<CrankInqu
 impl CrankInquiry {
     // The question, or the finished list.
     #[tactic(auto, unfolding(crate::specs::Crank::crank_asked_of))]
-    pub fn ask(self) -> CrankAsked
-        ensures { result ≡ crank_asked_of self }
+    pub fn ask(self) -> Tallied<CrankAsked>
+        ensures value { result.value ≡ crank_asked_of self }
+        ensures systems { result.systems ≡ self.inquiry.systems }
     {
-        CrankAsked {
+        let asked = self.inquiry.ask();
+        asked.with(CrankAsked {
             k: self.k,
-            asked: self.inquiry.ask(),
-        }
+            asked: asked.value,
+        })
     }
 
     // The inquiry after the reply, refused where nothing is being asked.
@@ -83,27 +88,36 @@ pub fn shown_after(
     confusion: f64,
     trig: TrigEquation,
     replies: touching::Replies,
-) -> Result<CrankShown, Refusal>
-    ensures { result ≡ crank_shown_of sine confusion trig replies }
+) -> Result<Tallied<CrankShown>, Refusal>
+    ensures value { answer_in result ≡ crank_shown_of sine confusion trig replies }
+    ensures systems { systems_in result ≡ crank_systems_of sine confusion trig }
 {
     let made = crank_front(trig)?;
-    let seen = inquiry::shown_after(sine, &made.q, confusion, replies)?;
-    Ok(CrankShown { k: made.k, seen })
+    let shown = inquiry::shown_after(sine, &made.q, confusion, replies)?;
+    let seen = shown.value;
+    Ok(shown.with(CrankShown { k: made.k, seen }))
 }
 
 // Every question replied no: at most three are asked, so four replies at hand answer them all, and no question is left.
 // Demand 1 holds of the answer: at most four finite roots, each counting at least once, together at most the degree left.
 // `sine` is the mode: the third angle's sine is that of the rounded cosine, as in the reference build, or of the exact one.
-pub fn crank(sine: Sine, confusion: f64, trig: TrigEquation) -> Result<CrankAnswer, Refusal>
-    ensures { (result ≡ crank_of sine confusion trig) × Within (degree_left (trig_quartic_of trig)) (list_of (crank_roots_in result)) }
+pub fn crank(
+    sine: Sine,
+    confusion: f64,
+    trig: TrigEquation,
+) -> Result<Tallied<CrankAnswer>, Refusal>
+    ensures value { (answer_in result ≡ crank_of sine confusion trig)
+        × Within (degree_left (trig_quartic_of trig)) (list_of (crank_roots_in (answer_in result))) }
+    ensures systems { systems_in result ≡ crank_systems_of sine confusion trig }
 {
     let replies = touching::Replies {
         reply: [false; 4],
         count: 4,
     };
-    let s = shown_after(sine, confusion, trig, replies)?;
+    let shown = shown_after(sine, confusion, trig, replies)?;
+    let s = shown.value;
     match s.seen.asked {
-        Asked::Finished(roots) => Ok(CrankAnswer { k: s.k, roots }),
+        Asked::Finished(roots) => Ok(shown.with(CrankAnswer { k: s.k, roots })),
         Asked::Question(_) => unreachable!(),
     }
 }

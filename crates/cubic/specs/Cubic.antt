@@ -10,7 +10,7 @@ use Rattle.sqrt.specs.Root.{sqrt_of}
 use Rattle.cbrt.specs.Root.{cbrt_of}
 use Rattle.angle.specs.Third.{third_angle_of}
 use Rattle.angle.specs.declared.Sine.{Sine}
-use Rattle.refine.specs.Refine.{refine_of}
+use Rattle.refine.specs.Refine.{refine_of, refine_systems_of}
 use Rattle.refine.specs.Systems.{cubic_system}
 use Rattle.refine.specs.Newton.{newton_cubic_of}
 use Rattle.cubic.specs.declared.CubicRoots.{CubicRoots}
@@ -96,15 +96,24 @@ most_isolated_of roots n = get_or roots (count_up n (better_of roots n) (n - 1) 
 abbrev pub over_or : Float → Float → Float → Float
 over_or x z other = cond (ne z zero64) (x /ᶠ z) other
 
--- `cubic_factor`, which answers `(x[0], x[1], x[2])`
-unfoldable pub cubic_factor_of : Sine → Float → Float → Float → CubicFactor
-cubic_factor_of sine b c d =
+-- where the search for the factors begins: `[r, b + r, f]`
+unfoldable pub cubic_start_of : Sine → Float → Float → Float → List Float
+cubic_start_of sine b c d =
     -- let (roots, n) = cubic_closed_form(b, c, d);
     let s = cubic_closed_form_of sine b c d in
     -- let r = newton_cubic(&[d, c, b, 1.0, 0.0], roots[best]);
     let r = newton_cubic_of (d ∷ c ∷ b ∷ one64 ∷ zero64 ∷ []) (most_isolated_of (places_of s) (count_of s)) in
     -- let f = if r != 0.0 { -d / r } else { c };
     let f = over_or (neg d) r c in
+    r ∷ b +ᶠ r ∷ f ∷ []
+
+-- `cubic_factor`, which answers `(x[0], x[1], x[2])`
+unfoldable pub cubic_factor_of : Sine → Float → Float → Float → CubicFactor
+cubic_factor_of sine b c d =
     -- let x = refine([r, b + r, f], ..);
-    let x = refine_of 3 (cubic_system b c d) (r ∷ b +ᶠ r ∷ f ∷ []) in
+    let x = refine_of 3 (cubic_system b c d) (cubic_start_of sine b c d) in
     record { r = get_or x 0 nan; e = get_or x 1 nan; f = get_or x 2 nan }
+
+-- how many systems are solved for it
+unfoldable pub cubic_systems_of : Sine → Float → Float → Float → ℕ
+cubic_systems_of sine b c d = refine_systems_of 3 (cubic_system b c d) (cubic_start_of sine b c d)

@@ -6,9 +6,10 @@ ghost use Rattle.std.specs.Prelude.{◌≡◌, ◌||◌};
 ghost use Rattle.std.specs.Float.Ieee.{lt, le};
 ghost use Rattle.float.specs.Literals.{zero64};
 ghost use Rattle.cubic.specs.Cubic.{cardano_of, one_root_of, three_roots_of, cubic_closed_form_of, places_of, count_of};
-ghost use Rattle.cubic.specs.Cubic.{isolation_among, most_isolated_of, over_or, cubic_factor_of};
+ghost use Rattle.cubic.specs.Cubic.{isolation_among, most_isolated_of, over_or, cubic_factor_of, cubic_systems_of};
 
 use angle::Sine;
+use tally::Tallied;
 
 // The real roots of a cubic.
 #[derive(Clone, Copy)]
@@ -125,13 +126,15 @@ pub fn over_or(x: f64, z: f64, other: f64) -> f64
     if z != 0.0 { x / z } else { other }
 }
 
-#[tactic(auto, unfolding(crate::specs::Cubic::cubic_factor_of))]
-pub fn cubic_factor(sine: Sine, b: f64, c: f64, d: f64) -> CubicFactor
-    ensures { result ≡ cubic_factor_of sine b c d }
+#[tactic(auto, unfolding(crate::specs::Cubic::cubic_factor_of, crate::specs::Cubic::cubic_systems_of, crate::specs::Cubic::cubic_start_of))]
+pub fn cubic_factor(sine: Sine, b: f64, c: f64, d: f64) -> Tallied<CubicFactor>
+    ensures value { result.value ≡ cubic_factor_of sine b c d }
+    ensures systems { result.systems ≡ cubic_systems_of sine b c d }
 {
     let start = most_isolated(cubic_closed_form(sine, b, c, d));
     let r = refine::newton_cubic([d, c, b, 1.0, 0.0], start);
     let f = over_or(-d, r, c);
-    let [r, e, f] = refine::refine_cubic(b, c, d, [r, b + r, f]);
-    CubicFactor { r, e, f }
+    let refined = refine::refine_cubic(b, c, d, [r, b + r, f]);
+    let [r, e, f] = refined.value;
+    refined.with(CubicFactor { r, e, f })
 }

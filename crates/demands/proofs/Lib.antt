@@ -26,4 +26,6 @@ pub mod Parted
 pub mod Said
 pub mod ByHand
 pub mod Modes
+pub mod Calls
+pub mod Systems
 pub mod Proved

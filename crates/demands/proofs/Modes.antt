@@ -18,9 +18,8 @@ use Rattle.float.specs.Methods.{all_finite_of}
 use Rattle.roots.specs.declared.Roots.{Roots}
 use Rattle.roots.specs.Roots.{roots_of}
 use Rattle.poly.specs.Coefficients.{counted_of}
-use Rattle.poly.specs.Solve.{solve_of}
-use Rattle.poly.specs.RealRoots.{answer_of, real_roots_of}
-use Rattle.poly.proofs.Refusals.{then_number, solved_number}
+use Rattle.poly.specs.RealRoots.{real_roots_of}
+use Rattle.poly.proofs.Refusals.{then_number, number_is}
 use Rattle.inquiry.specs.Start.{real_roots_touching_of, start_of}
 use Rattle.inquiry.proofs.Fresh.{start_number}
 use Rattle.trig_quartic.specs.declared.TrigEquation.{TrigEquation}
@@ -50,10 +49,7 @@ use Rattle.demands.proofs.ByHand.{bodies, record_bodies, before_is}
 -- ---- answers
 module _ (a b : Sine) where
   pub list : (coeffs : List Float) (tol : Float) → outcome_of (real_roots_of a coeffs tol) ≡ outcome_of (real_roots_of b coeffs tol)
-  unfolding real_roots_of
-  list coeffs tol =
-      then_number answer_of (solve_of a coeffs tol) ∙ solved_number a coeffs tol
-      ∙ sym (then_number answer_of (solve_of b coeffs tol) ∙ solved_number b coeffs tol)
+  list coeffs tol = number_is a coeffs tol ∙ sym (number_is b coeffs tol)
 
   pub inquiry : (coeffs : List Float) (tol : Float) → outcome_of (start_of a coeffs tol) ≡ outcome_of (start_of b coeffs tol)
   inquiry coeffs tol = start_number a coeffs tol ∙ sym (start_number b coeffs tol)

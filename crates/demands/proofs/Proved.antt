@@ -41,6 +41,7 @@ use Rattle.poly.proofs.Sums.{answer_within, answer_fits}
 use Rattle.poly.proofs.Small.{solved_small}
 use Rattle.asking.specs.Asking.{Asking, answered}
 use Rattle.inquiry.proofs.Fresh.{solved_asks, start_number}
+use Rattle.inquiry.proofs.Systems.{any_replies}
 use Rattle.inquiry.proofs.Theorem.{start_fed, start_most, start_list}
 use Rattle.crank.proofs.Theorem.{cranks}
 use Rattle.contact.specs.Contact.{made_of}
@@ -53,7 +54,7 @@ use Rattle.formula_roots.proofs.Theorem.{formulas}
 use Rattle.demands.specs.Table.{table}
 use Rattle.demands.specs.Example.{ascii}
 use Rattle.demands.specs.Demands.{Demands, SquareRoot, CubeRoot, Third, Logarithm, ScaledCoefficients, FactorDegrees}
-use Rattle.demands.specs.Demands.{TotalOrder, Sorts, Lists, SimpleRoots, PinContacts, NeverBrush, TypedFormulas, ClosingTotal, SharperSine}
+use Rattle.demands.specs.Demands.{TotalOrder, Sorts, Lists, SimpleRoots, PinContacts, NeverBrush, TypedFormulas, ClosingTotal, SharperSine, SystemsSolved}
 use Rattle.demands.proofs.Nearest.{signed, positive_units}
 use Rattle.demands.proofs.Doubles.{units_exact, only_one}
 use Rattle.demands.proofs.Roots.{square_nearest, cube_nearest, rest_nearest, scaled_most, scaled_least, sqrt_is, cbrt_is}
@@ -75,6 +76,8 @@ use Rattle.demands.proofs.Example.{example, empty, is_too_long}
 use Rattle.demands.proofs.Contact.{contact_line}
 use Rattle.demands.proofs.Formula.{formula_line, formula_cut}
 use Rattle.demands.proofs.Modes as modes
+use Rattle.demands.proofs.Calls.{factorize_is}
+use Rattle.demands.proofs.Systems as systems
 use Rattle.demands.proofs.Entries.{given, stated, all_rows, agree}
 
 square_root : SquareRoot
@@ -242,6 +245,24 @@ sharper_sine = record {
   line = λ a b s. modes.line a b s;
 }
 
+systems_solved : (sine : Sine) → SystemsSolved sine
+systems_solved sine = record {
+  list = systems.counted sine;
+  calls = factorize_is sine;
+  refused = systems.refused sine;
+  zeros = systems.zeros_first;
+  degree = systems.degree sine;
+  most = systems.most sine;
+  inquiry = any_replies sine;
+  crank = systems.crank sine;
+  crank_list = systems.crank_list sine;
+  crank_refused = systems.crank_refused sine;
+  contact = systems.contact sine;
+  contact_refused = systems.contact_refused sine;
+  formula = systems.formula sine;
+  formula_refused = systems.formula_refused sine;
+}
+
 pub demands : Demands
 demands = record {
   doubles = record { exact = units_exact; one = only_one };
@@ -269,4 +290,5 @@ demands = record {
   typed_formulas = typed_formulas;
   closing_total = closing_total;
   sharper_sine = sharper_sine;
+  systems_solved = systems_solved;
 }

@@ -21,7 +21,7 @@ use Rattle.refine.specs.Refine.{over_of, weighted_of, norm_of, is_settled_of, ne
 use Rattle.refine.specs.Newton.{flat_of, no_gain_of, newton_next, newton_cubic_of}
 use Rattle.cubic.specs.Cubic.{one_root_of, depressed_roots_of, cubic_closed_form_of}
 use Rattle.isolated.specs.Isolated.{far_root_of, root_pair_of, is_better_of, judged_of, best_root_of, isolated_root_of}
-use Rattle.quartic.specs.Quartic.{largest_of, resolvent_of, is_clear_of, ferrari_of, quartic_factor_of}
+use Rattle.quartic.specs.Quartic.{largest_of, resolvent_of, is_clear_of, ferrari_of, quartic_start_of, quartic_factor_of}
 use Rattle.scaled.specs.Exponent.{scale_exponent_of}
 use Rattle.scaled.specs.Scaled.{top_of, shift_of, coefficient_of, coefficients_of, monic_at, monic_of, sizes_of, log_size_of, log_sizes_of, scaled_of}
 use Rattle.split.specs.Hull.{popped_of, hull_step, hull_of}
@@ -68,7 +68,7 @@ evaluation = 0
 -- layer 4
 unfoldable pub factoring : ℕ
 unfolding one_root_of depressed_roots_of cubic_closed_form_of far_root_of root_pair_of is_better_of judged_of best_root_of isolated_root_of largest_of
-    resolvent_of is_clear_of ferrari_of quartic_factor_of
+    resolvent_of is_clear_of ferrari_of quartic_start_of quartic_factor_of
 factoring = 0
 
 -- layer 5

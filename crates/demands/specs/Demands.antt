@@ -2,9 +2,9 @@
 -- only; proofs/Proved.antt has the proof of `Demands`, the last of them.
 use Rattle.std.specs.Prelude.{◌≡◌, ◌⊎◌, Bool, true, false, cond, ◌&&◌, ◌||◌, ℕ, suc, ◌+◌, ◌-◌, ◌*◌, ◌^◌, ◌≤◌, ◌<◌, ltb, ℤ, pos, negsuc, ◌*ℤ◌, ◌≤ℤ◌}
 use Rattle.std.specs.Prelude.{length, take, get_or, Float, Result, Ok}
-use mathlib.Core.List.{List, [], ◌∷◌, ◌++◌, map, Memᴰ}
+use mathlib.Core.List.{List, [], ◌∷◌, ◌++◌, map, foldl, Memᴰ}
 use Rattle.std.specs.Float.{nan, inf, fin, binary64}
-use Rattle.std.specs.Float.Ieee.{up, down, lt, fits, of_bits, neg}
+use Rattle.std.specs.Float.Ieee.{up, down, lt, eq, fits, of_bits, neg}
 use Rattle.std.specs.Float.Ieee.Exact.{HasValue}
 use Rattle.std.specs.Float.Ieee.Positive.{positive}
 use Rattle.facts.specs.Sort.{sorted_by}
@@ -29,7 +29,7 @@ use Rattle.scaled.specs.declared.Scaled.{Scaled}
 use Rattle.scaled.specs.Scaled.{scaled_of}
 use Rattle.factors.specs.declared.Factors.{Factors}
 use Rattle.large_factors.specs.Large.{unit_of, factor_units_of, no_smaller}
-use Rattle.factorize.specs.Factorize.{factorize_of}
+use Rattle.factorize.specs.Factorize.{factorize_of, factorize_systems_of}
 use Rattle.roots.specs.declared.RootKind.TheVariants.{Crossing, Brush, Flat}
 use Rattle.roots.specs.declared.RealRoot.{RealRoot}
 use Rattle.roots.specs.Roots.{list_of, pair_list_of, roots_of, no_roots}
@@ -39,10 +39,11 @@ use Rattle.accuracy.specs.Claims.{at_most, AllAtMost, Polished}
 use Rattle.finish.specs.Finish.{by_value, Ordered, nowhere, ordered_of, polished_of, joined_of}
 use Rattle.poly.specs.Coefficients.{trimmed_of, zeros_of, refusal_of, degree_left, poly_of}
 use Rattle.poly.specs.Solve.{candidates_of, solve_of, solved_in}
-use Rattle.poly.specs.RealRoots.{real_roots_of, roots_in}
+use Rattle.poly.specs.RealRoots.{real_roots_of, real_roots_systems_of, roots_in}
 use Rattle.poly.specs.Conditions.{Trimmed, AllDoubles, AllFinite, SomeNotFinite, Exactly}
 use Rattle.solution.specs.declared.QuadraticSolution.{QuadraticSolution}
 use Rattle.solution.specs.Solution.{number_of, values_of}
+use Rattle.tally.specs.Tally.{tallied}
 use Rattle.refusals.specs.declared.Refusal.{Refusal}
 use Rattle.refusals.specs.Refusals.{outcome_of, value_or}
 use Rattle.equation.specs.Quadratic.{solve_quadratic_of, quadratic_of, places_in}
@@ -53,21 +54,21 @@ use Rattle.touching.specs.Replies as given
 use Rattle.touching.specs.Walk.{RepliesFit}
 use Rattle.inquiry.specs.declared.Asked.{Asked}
 use Rattle.inquiry.specs.declared.Seen.{Seen}
-use Rattle.inquiry.specs.Inquiry.{list_in, is_question, unseen}
+use Rattle.inquiry.specs.Inquiry.{list_in, is_question, unseen, after}
 use Rattle.inquiry.specs.Start.{real_roots_touching_of, places_touching_of, start_of, inquiry_in, shown_after_of}
 use Rattle.inquiry.specs.Claims.{Fed}
 use Rattle.trig_quartic.specs.declared.TrigEquation.{TrigEquation}
 use Rattle.crank.specs.declared.CrankShown.{CrankShown}
-use Rattle.crank.specs.Crank.{trig_quartic_of, crank_start_of, crank_shown_of, crank_of, crank_roots_in}
+use Rattle.crank.specs.Crank.{trig_quartic_of, crank_start_of, crank_in, crank_after, crank_shown_of, crank_of, crank_roots_in, crank_systems_of}
 use Rattle.crank.specs.Claims.{Cranks}
 use Rattle.contact.specs.declared.Path.{Path}
 use Rattle.contact.specs.declared.Circle.{Circle}
-use Rattle.contact.specs.Contact.{made_of, pin_contact_of}
+use Rattle.contact.specs.Contact.{made_of, pin_contact_of, pin_contact_systems_of}
 use Rattle.contact.specs.Claims.{replies_of, Contacts}
 use Rattle.formula.specs.Reading.{if_some, reading_of}
 use Rattle.formula.specs.Parts.{sum_parts}
 use Rattle.formula.specs.Formula.{formula_of}
-use Rattle.formula_roots.specs.FormulaRoots.{handed_on, formula_roots_of}
+use Rattle.formula_roots.specs.FormulaRoots.{handed_on, formula_roots_of, formula_systems_of}
 use Rattle.formula_roots.specs.Claims.{Formulas}
 use Rattle.records.specs.declared.Record.{Record}
 use Rattle.listing.specs.Answers.{contact_at}
@@ -83,6 +84,7 @@ use Rattle.demands.specs.Example.{ascii, example_file, example_listing}
 use Rattle.demands.specs.Texts.{TextRow, texts, parts_in_order}
 use Rattle.demands.specs.ByHand.{lines, word, before_last, same, number, like_list, like_crank, line_roots, line_multiplicities, roots_on, multiplicities_on}
 use Rattle.demands.specs.ByHand.{closing_line}
+use Rattle.demands.specs.Calls.{factorize_called}
 
 -- ---- words
 
@@ -552,6 +554,54 @@ pub record SharperSine : Type 0 where
   pub line : (a b : Sine) (s : List ℕ) (k : ℕ) → word 2 (get_or (lines_before a s) k []) ≡ ascii "refused"
       → get_or (lines_before a s) k [] ≡ get_or (lines_before b s) k []
 
+-- ---- request Seven, 'How many systems were solved'
+
+-- the degree left after zero roots are removed
+abbrev pub degree_without_zeros : List Float → ℕ
+degree_without_zeros coeffs = trimmed_of coeffs - zeros_of coeffs - 1
+
+-- so many zeros come first: they are the zero roots
+pub record ZerosFirst (coeffs : List Float) (zeros : ℕ) : Type 0 where
+  pub zeros_so_far : (i : ℕ) → i < zeros → eq (get_or coeffs i nan) zero64 ≡ true
+  pub no_more : zeros < length coeffs → eq (get_or coeffs zeros nan) zero64 ≡ false
+
+-- 'With d the degree left after zero roots are removed, it is 0 for d at most 2, at most 8 for d = 3 and at most 32 for d = 4.'
+pub record MostSystems (d systems : ℕ) : Type 0 where
+  pub none : d ≤ 2 → systems ≡ 0
+  pub cubic : d ≡ 3 → systems ≤ 8
+  pub quartic : d ≡ 4 → systems ≤ 32
+
+-- 'The list answer, an inquiry's finished list too, carries the number of calls to the square-system solver, calls that find no step counted.' `list`: it is
+-- that of `factorize_called` (Calls.antt), in which a call of `solve_square` counts one, whether or not it finds a step, and nothing else counts; `calls`: what
+-- is called so gives the definition's factors, and 'It equals the count in the definition, second scalings included'; `refused`: 'and is 0 in a refusal'.
+-- `most`: the limits, of every list; of one that is answered d is at most 4 (`degree`). 'Where the loop limits of 000 allow more calls, the most they allow
+-- replaces 8 or 32': they allow no more. `inquiry` and `crank`: the number that an inquiry holds, which `ask` and `see` show (their contracts), is that of the
+-- list, whatever is replied and however often, a reply where nothing is asked too. A crank's, a contact's and a formula's are those of the list that is solved
+-- for them, and 0 in a refusal. 'The listing does not print it': its lines are of answers without it. 'Errors: no additions': `Refusal` has none.
+pub record SystemsSolved (sine : Sine) : Type 0 where
+  pub list : (coeffs : List Float) (tol : Float) → outcome_of (real_roots_of sine coeffs tol) ≡ 0
+      → real_roots_systems_of sine coeffs tol ≡ (factorize_called sine (poly_of coeffs) 0).systems
+  pub calls : (sc : Scaled) (depth : ℕ)
+      → factorize_called sine sc depth ≡ tallied (factorize_of sine sc depth) (factorize_systems_of sine sc depth)
+  pub refused : (coeffs : List Float) (tol : Float) → 0 < outcome_of (real_roots_of sine coeffs tol) → real_roots_systems_of sine coeffs tol ≡ 0
+  pub zeros : (coeffs : List Float) → ZerosFirst coeffs (zeros_of coeffs)
+  pub degree : (coeffs : List Float) (tol : Float) → outcome_of (real_roots_of sine coeffs tol) ≡ 0 → degree_without_zeros coeffs ≤ 4
+  pub most : (coeffs : List Float) (tol : Float) → MostSystems (degree_without_zeros coeffs) (real_roots_systems_of sine coeffs tol)
+  pub inquiry : (coeffs : List Float) (tol : Float) (replies : List Bool)
+      → (foldl after (inquiry_in (start_of sine coeffs tol)) replies).systems ≡ real_roots_systems_of sine coeffs tol
+  pub crank : (confusion : Float) (trig : TrigEquation) (replies : List Bool)
+      → (foldl crank_after (crank_in (crank_start_of sine confusion trig)) replies).inquiry.systems ≡ crank_systems_of sine confusion trig
+  pub crank_list : (confusion : Float) (trig : TrigEquation)
+      → crank_systems_of sine confusion trig ≡ real_roots_systems_of sine (trig_quartic_of trig) confusion
+  pub crank_refused : (confusion : Float) (trig : TrigEquation) → 0 < outcome_of (crank_start_of sine confusion trig)
+      → crank_systems_of sine confusion trig ≡ 0
+  pub contact : (confusion : Float) (path : Path) (circle : Circle) → outcome_of (pin_contact_of sine confusion path circle) ≡ 0
+      → pin_contact_systems_of sine confusion path circle ≡ real_roots_systems_of sine (made_of path circle) confusion
+  pub contact_refused : (confusion : Float) (path : Path) (circle : Circle) → 0 < outcome_of (pin_contact_of sine confusion path circle)
+      → pin_contact_systems_of sine confusion path circle ≡ 0
+  pub formula : (s : List ℕ) (tol : Float) → formula_systems_of sine s tol ≡ real_roots_systems_of sine (handed_on (formula_of s)) tol
+  pub formula_refused : (s : List ℕ) (tol : Float) → 0 < outcome_of (formula_roots_of sine s tol) → formula_systems_of sine s tol ≡ 0
+
 -- ---- all of them
 pub record Demands : Type 0 where
   pub doubles : Doubles
@@ -579,3 +629,4 @@ pub record Demands : Type 0 where
   pub typed_formulas : (sine : Sine) → TypedFormulas sine
   pub closing_total : (sine : Sine) → ClosingTotal sine
   pub sharper_sine : SharperSine
+  pub systems_solved : (sine : Sine) → SystemsSolved sine

@@ -5,3 +5,4 @@ pub mod Formed
 pub mod Example
 pub mod Texts
 pub mod ByHand
+pub mod Calls

@@ -2,7 +2,7 @@
 use mathlib.Core.Path.{◌≡◌, refl, ◌∙◌}
 use mathlib.Core.Bool.{Bool, true, false, cond, false≢true}
 use mathlib.Core.List.{List}
-use Prim.Native.Nat.{ℕ, zero, suc, ◌-◌, ◌≤◌}
+use Prim.Native.Nat.{ℕ, zero, suc, ◌-◌, ◌≤◌, ◌<◌}
 use native.Mathlib.Nat.{le_refl}
 use native.Mathlib.Omega.{arith}
 use borrow.Author.Tests.{eqb-true}
@@ -52,6 +52,7 @@ out_degree sine g (suc (suc (suc (suc (suc d))))) D = absurd (omega (arith, D))
 -- ---- a second scaling: its polynomial has the degree that the large factors leave
 pub record Parted (d : ℕ) (second : Second) : Type 0 where
   pub most : second.sub.d ≤ d
+  pub less : second.found ≡ true → second.sub.d < d
   pub rest : second.found ≡ true → degree_of second.large ≡ d - second.sub.d
 
 parted_at : (sc : Scaled) (out : Factors) (gap : Option Gap) → Inside sc.d gap → Parted sc.d (second_at sc out gap)
@@ -61,9 +62,10 @@ parted_at sc out (Some gap) I =
     let fine = usable_of (quotient_of sc.g (product_of large) gap.small) gap.small in
     record {
       most = omega (arith, I.1);
+      less = λ h. I.1;
       rest = λ h. eqb-true (degree_of large) (sc.d - gap.small) (first_holds (eqb (degree_of large) (sc.d - gap.small)) fine h);
     }
-parted_at sc out None I = record { most = le_refl sc.d; rest = λ h. absurd (false≢true h) }
+parted_at sc out None I = record { most = le_refl sc.d; less = λ h. absurd (false≢true h); rest = λ h. absurd (false≢true h) }
 
 pub parted : (sc : Scaled) (out : Factors) → sc.d ≤ 4 → Parted sc.d (second_of sc out)
 unfolding second_of

@@ -1,4 +1,5 @@
 pub mod Degree
+pub mod Most
 pub mod Sizes
 pub mod Ways
 pub mod Room

@@ -21,6 +21,7 @@ use Rattle.factors.specs.Factors.{quad_of, push_lin_of, push_quad_of}
 use Rattle.large_factors.specs.Large.{quad_units_of, factor_units_of, ends_of, with_unit, large_from, large_of}
 use Rattle.quotient.specs.Quotient.{product_term_of, next_at, mul_of, product_of, acc_of, quotient_of, usable_of, merged_of}
 use Rattle.factorize.specs.Factorize.{cubic_factors_of, paired_of, quartic_factors_of, out_of, second_of, factors_from, factorize_of}
+use Rattle.factorize.specs.Factorize.{paired_systems_of, quartic_factors_systems_of, out_systems_of, systems_from, factorize_systems_of}
 
 -- what has to unfold for the definitions to compute: a fact says `unfolding computes`
 unfoldable pub computes : ℕ
@@ -28,6 +29,7 @@ unfolding factors-compute flat_map of_int size inserted_by inserted_all sorted_b
     held_below too_small scale_exponent_of top_of shift_of coefficient_of coefficients_of monic_at monic_of scaled_of cross_of popped_of hull_step hull_of
     mag_of exp2_of split_from magnitude_split_of push_lin_of push_quad_of quad_units_of factor_units_of ends_of with_unit large_from large_of product_term_of
     next_at mul_of product_of acc_of quotient_of usable_of merged_of cubic_factors_of paired_of quartic_factors_of out_of second_of factors_from factorize_of
+    paired_systems_of quartic_factors_systems_of out_systems_of systems_from factorize_systems_of
 computes = 0
 
 abbrev bits : ℕ → Float
@@ -88,3 +90,24 @@ quartic_split : factorize_of OfRounded quartic 0 ≡ record {
 }
 unfolding computes
 quartic_split = refl
+
+-- y^4 - y^3 - 2^-12*y^2 + 2^-36: a root near 1, which is peeled off, and three of about 2^-12
+abbrev far : Scaled
+far = record {
+  f = bits 0x3db0_0000_0000_0000 ∷ none ∷ bits 0xbf30_0000_0000_0000 ∷ bits 0xbff0_0000_0000_0000 ∷ bits 0x3ff0_0000_0000_0000 ∷ [];
+  g = bits 0x3db0_0000_0000_0000 ∷ none ∷ bits 0xbf30_0000_0000_0000 ∷ bits 0xbff0_0000_0000_0000 ∷ bits 0x3ff0_0000_0000_0000 ∷ [];
+  lg = bits 0xc042_0000_0000_0000 ∷ bits 0xfff0_0000_0000_0000 ∷ bits 0xc028_0000_0000_0000 ∷ none ∷ none ∷ [];
+  d = 4;
+  e = pos 0;
+  unit = bits 0x3ff0_0000_0000_0000;
+}
+
+-- the systems that are solved at its own scale: 4 for the two quadratics, 1 for the peeled root, 1 for the cubic that is left
+far_whole_systems : factorize_systems_of OfRounded far 3 ≡ 6
+unfolding computes
+far_whole_systems = refl
+
+-- and with a second scaling, which solves one more for the three small roots and drops the cubic that was left
+far_split_systems : factorize_systems_of OfRounded far 2 ≡ 7
+unfolding computes
+far_split_systems = refl

@@ -1,13 +1,13 @@
 -- factorize of poly.rs: 'Degree 3 splits into a line and a quadratic, degree 4 into two quadratics, or line and cubic where three roots are tight. [..] A gap
 -- strictly above 8 bits between root sizes starts a second scaling, the topmost gap first; never at depth 3 or degree 2 and below.' Definitions only.
-use Rattle.std.specs.Prelude.{Bool, false, cond, ◌&&◌, List, ℕ, zero, suc, ◌-◌, leb, eqb, get_or, Float, Option, Some, None}
+use Rattle.std.specs.Prelude.{Bool, false, cond, ◌&&◌, List, ℕ, zero, suc, ◌+◌, ◌-◌, leb, eqb, get_or, Float, Option, Some, None}
 use Rattle.std.specs.Float.{nan}
 use Rattle.std.specs.Float.Ieee.{neg}
 use Rattle.angle.specs.declared.Sine.{Sine}
 use Rattle.quartic.specs.declared.QuarticFactor.{QuarticFactor}
-use Rattle.cubic.specs.Cubic.{cubic_factor_of}
-use Rattle.quartic.specs.Quartic.{quartic_factor_of}
-use Rattle.isolated.specs.Isolated.{isolated_root_of, peel_root_of}
+use Rattle.cubic.specs.Cubic.{cubic_factor_of, cubic_systems_of}
+use Rattle.quartic.specs.Quartic.{quartic_factor_of, quartic_systems_of}
+use Rattle.isolated.specs.Isolated.{isolated_root_of, peel_root_of, peel_systems_of}
 use Rattle.scaled.specs.declared.Scaled.{Scaled}
 use Rattle.scaled.specs.Scaled.{scaled_of}
 use Rattle.split.specs.declared.Gap.{Gap}
@@ -85,3 +85,39 @@ module _ (sine : Sine) where
   -- `fn factorize(sc: &Scaled, depth: u32) -> Factors`
   unfoldable pub factorize_of : Scaled → ℕ → Factors
   factorize_of sc depth = factors_from (3 - depth) sc
+
+-- ---- how many systems are solved: request Seven of document 02
+module _ (sine : Sine) where
+  -- behind `quartic_factor`: for the far root that is peeled off, and for the cubic that is left
+  unfoldable pub paired_systems_of : Float → Float → Float → Float → Option Float → ℕ
+  paired_systems_of b c d e (Some r) = let p = peel_root_of b c d e r in peel_systems_of b c d e r + cubic_systems_of sine p.h2 p.h1 p.h0
+  paired_systems_of b c d e None = 0
+
+  unfoldable pub quartic_factors_systems_of : Float → Float → Float → Float → ℕ
+  quartic_factors_systems_of b c d e = quartic_systems_of sine b c d e + paired_systems_of b c d e (isolated_root_of (quartic_factor_of sine b c d e))
+
+  -- for `out`, by `match sc.d`
+  unfoldable pub out_systems_of : List Float → ℕ → ℕ
+  out_systems_of g d =
+      let g0 = get_or g 0 nan in
+      let g1 = get_or g 1 nan in
+      let g2 = get_or g 2 nan in
+      let g3 = get_or g 3 nan in
+      cond (leb d 2) 0 (cond (eqb d 3) (cubic_systems_of sine g2 g1 g0) (quartic_factors_systems_of g3 g2 g1 g0))
+
+  -- with `left` more scalings: those for `out`, which a second scaling drops, count too
+  unfoldable pub systems_from : ℕ → Scaled → ℕ
+  systems_from zero sc = out_systems_of sc.g sc.d
+  systems_from (suc left) sc =
+      let second = second_of sc (out_of sine sc.g sc.d) in
+      let inner = cond (leb sc.d 2) 0 (cond second.found (systems_from left second.sub) 0) in
+      out_systems_of sc.g sc.d + inner
+
+  -- of `factorize`
+  unfoldable pub factorize_systems_of : Scaled → ℕ → ℕ
+  factorize_systems_of sc depth = systems_from (3 - depth) sc
+
+-- the most for a polynomial of degree d. A refining takes at most 8 turns, and a turn solves at most one system: 8 for a cubic; for a quartic 8 for its two
+-- quadratics, 8 for the root that is peeled off, 8 for the cubic that is left, and 8 for a second scaling, whose degree is at most 3
+unfoldable pub systems_most : ℕ → ℕ
+systems_most d = cond (leb d 2) 0 (cond (eqb d 3) 8 32)

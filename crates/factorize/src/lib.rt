@@ -4,19 +4,26 @@
 
 ghost use Rattle.std.specs.Prelude.{◌≡◌, ◌≤◌, ◌<◌};
 ghost use Rattle.factorize.specs.Factorize.{cubic_factors_of, quartic_factors_of, out_of, factorize_of};
+ghost use Rattle.factorize.specs.Factorize.{quartic_factors_systems_of, out_systems_of, factorize_systems_of};
+ghost use Rattle.cubic.specs.Cubic.{cubic_systems_of};
 ghost use Rattle.factorize.specs.Discs.{disc_at, rooted_of};
 
 use angle::Sine;
+use tally::Tallied;
 
 // (The coefficients one by one, here and in quartic_factors, as cubic_factor and quartic_factor take them.)
 #[tactic(auto, unfolding(crate::specs::Factorize::cubic_factors_of))]
-fn cubic_factors(sine: Sine, b: f64, c: f64, d: f64) -> factors::Factors
-    ensures { result ≡ cubic_factors_of sine b c d }
+fn cubic_factors(sine: Sine, b: f64, c: f64, d: f64) -> Tallied<factors::Factors>
+    ensures value { result.value ≡ cubic_factors_of sine b c d }
+    ensures systems { result.systems ≡ cubic_systems_of sine b c d }
 {
-    let k = cubic::cubic_factor(sine, b, c, d);
-    factors::Factors::default()
-        .push_lin(k.r)
-        .push_quad(k.e, k.f)
+    let factor = cubic::cubic_factor(sine, b, c, d);
+    let k = factor.value;
+    factor.with(
+        factors::Factors::default()
+            .push_lin(k.r)
+            .push_quad(k.e, k.f),
+    )
 }
 
 // Factors, and the discriminants of the quadratic ones: beside the factors, not in them, since Factors is the Rust's, and those that are merged or large have
@@ -51,51 +58,74 @@ fn with_discs(f: factors::Factors) -> Rooted
 }
 
 #[tactic(auto, using(crate::proofs::Ways::quartics))]
-fn quartic_factors(sine: Sine, b: f64, c: f64, d: f64, e: f64) -> Rooted
-    ensures { result ≡ rooted_of (quartic_factors_of sine b c d e) }
+fn quartic_factors(sine: Sine, b: f64, c: f64, d: f64, e: f64) -> Tallied<Rooted>
+    ensures value { result.value ≡ rooted_of (quartic_factors_of sine b c d e) }
+    ensures systems { result.systems ≡ quartic_factors_systems_of sine b c d e }
 {
-    let quads = quartic::quartic_factor(sine, b, c, d, e);
+    let factor = quartic::quartic_factor(sine, b, c, d, e);
+    let quads = factor.value;
     let s = isolated::isolated(quads);
     match s.far {
         Some(r) => {
-            let p = isolated::peel_root(b, c, d, e, r);
-            let k = cubic::cubic_factor(sine, p.h2, p.h1, p.h0);
-            with_discs(
-                factors::Factors::default()
-                    .push_lin(p.r)
-                    .push_lin(k.r)
-                    .push_quad(k.e, k.f),
-            )
+            let peeled = isolated::peel_root(b, c, d, e, r);
+            let p = peeled.value;
+            let rest = cubic::cubic_factor(sine, p.h2, p.h1, p.h0);
+            let k = rest.value;
+            let f = factors::Factors::default()
+                .push_lin(p.r)
+                .push_lin(k.r)
+                .push_quad(k.e, k.f);
+            let systems = factor.systems + (peeled.systems + rest.systems);
+            Tallied {
+                value: with_discs(f),
+                systems,
+            }
         }
         None => {
             let f = factors::Factors::default()
                 .push_quad(quads.al, quads.be)
                 .push_quad(quads.ga, quads.de);
             let disc = [s.first, s.second];
-            Rooted { f, disc }
+            factor.with(Rooted { f, disc })
         }
     }
 }
 
+// Factors that no system was solved for.
+fn plain(f: factors::Factors) -> Tallied<Rooted>
+    ensures value { result.value ≡ rooted_of f }
+    ensures systems { result.systems ≡ 0 }
+{
+    Tallied {
+        value: with_discs(f),
+        systems: 0,
+    }
+}
+
 // The factors at this scale.
-#[tactic(auto, unfolding(crate::specs::Factorize::out_of))]
-fn out_of(sine: Sine, g: [f64; 5], d: usize) -> Rooted
-    ensures { result ≡ rooted_of (out_of sine g d) }
+#[tactic(auto, unfolding(crate::specs::Factorize::out_of, crate::specs::Factorize::out_systems_of))]
+fn out_of(sine: Sine, g: [f64; 5], d: usize) -> Tallied<Rooted>
+    ensures value { result.value ≡ rooted_of (out_of sine g d) }
+    ensures systems { result.systems ≡ out_systems_of sine g d }
 {
     match d {
-        0 => with_discs(factors::Factors::default()),
-        1 => with_discs(factors::Factors::default().push_lin(-g[0])),
-        2 => with_discs(factors::Factors::default().push_quad(g[1], g[0])),
-        3 => with_discs(cubic_factors(sine, g[2], g[1], g[0])),
+        0 => plain(factors::Factors::default()),
+        1 => plain(factors::Factors::default().push_lin(-g[0])),
+        2 => plain(factors::Factors::default().push_quad(g[1], g[0])),
+        3 => {
+            let out = cubic_factors(sine, g[2], g[1], g[0]);
+            out.with(with_discs(out.value))
+        }
         _ => quartic_factors(sine, g[3], g[2], g[1], g[0]),
     }
 }
 
 // A quadratic needs no second scaling: its roots are accurate each.
-#[tactic(auto, using(crate::proofs::Ways::ways, crate::proofs::Sizes::sizes))]
-pub fn factorize_rooted(sine: Sine, sc: scaled::Scaled, depth: u32) -> Rooted
+#[tactic(auto, using(crate::proofs::Ways::ways, crate::proofs::Ways::counts, crate::proofs::Sizes::sizes, crate::proofs::Most::bounds))]
+pub fn factorize_rooted(sine: Sine, sc: scaled::Scaled, depth: u32) -> Tallied<Rooted>
     requires { sc.d ≤ 4 }
-    ensures { result ≡ rooted_of (factorize_of sine sc depth) }
+    ensures value { result.value ≡ rooted_of (factorize_of sine sc depth) }
+    ensures systems { result.systems ≡ factorize_systems_of sine sc depth }
 {
     let g = sc.g;
     let d = sc.d;
@@ -107,7 +137,7 @@ pub fn factorize_rooted(sine: Sine, sc: scaled::Scaled, depth: u32) -> Rooted
         return out;
     };
     let small = gap.small;
-    let large = large_factors::large(out.f, d - small, gap.threshold);
+    let large = large_factors::large(out.value.f, d - small, gap.threshold);
     if large.degree() != d - small {
         return out;
     }
@@ -118,13 +148,20 @@ pub fn factorize_rooted(sine: Sine, sc: scaled::Scaled, depth: u32) -> Rooted
     let p = horner::Polynomial { f: s, d: small };
     let sub = scaled::Scaled::new(p);
     let inner = factorize_rooted(sine, sub, depth + 1);
-    with_discs(quotient::merged(large, inner.f, sub.e))
+    let merged = quotient::merged(large, inner.value.f, sub.e);
+    // The systems for the factors that are dropped were solved too.
+    Tallied {
+        value: with_discs(merged),
+        systems: out.systems + inner.systems,
+    }
 }
 
 #[tactic(auto, using(crate::proofs::Discs::the_factors))]
-pub fn factorize(sine: Sine, sc: scaled::Scaled, depth: u32) -> factors::Factors
+pub fn factorize(sine: Sine, sc: scaled::Scaled, depth: u32) -> Tallied<factors::Factors>
     requires { sc.d ≤ 4 }
-    ensures { result ≡ factorize_of sine sc depth }
+    ensures value { result.value ≡ factorize_of sine sc depth }
+    ensures systems { result.systems ≡ factorize_systems_of sine sc depth }
 {
-    factorize_rooted(sine, sc, depth).f
+    let rooted = factorize_rooted(sine, sc, depth);
+    rooted.with(rooted.value.f)
 }

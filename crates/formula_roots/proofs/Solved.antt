@@ -1,7 +1,7 @@
 -- What a formula is answered with, by what it expands to, and that demand 1 holds of it.
-use mathlib.Core.Path.{◌≡◌, refl, sym, ap, subst, subst⁻¹, ◌∙◌}
+use mathlib.Core.Path.{◌≡◌, refl, sym, ap, subst⁻¹, ◌∙◌}
 use mathlib.Core.List.{List, [], ◌∷◌}
-use Prim.Native.Nat.{ℕ, zero, suc, ◌+◌, ◌-◌, ◌≤◌}
+use Prim.Native.Nat.{ℕ, zero, suc, ◌+◌, ◌-◌, ◌≤◌, ◌<◌}
 use native.Mathlib.Omega.{arith}
 use lib.IntN.{ℤ}
 use lib.ListN.{length, take, replicate, length-map}
@@ -18,18 +18,19 @@ use Rattle.roots.specs.Roots.{list_of}
 use Rattle.roots.specs.Listed.{Within, Fits}
 use Rattle.roots.proofs.Sums.{within_none, within_more}
 use Rattle.angle.specs.declared.Sine.{Sine}
-use Rattle.poly.specs.Coefficients.{degree_left}
+use Rattle.poly.specs.Coefficients.{trimmed_from, trimmed_of, counted_by, refusal_of, degree_left}
 use Rattle.poly.specs.Conditions.{AllDoubles}
 use Rattle.poly.specs.Solve.{solve_of}
-use Rattle.poly.specs.RealRoots.{answer_of, roots_in, real_roots_of}
+use Rattle.poly.specs.RealRoots.{answer_of, roots_in, real_roots_of, real_roots_systems_of}
 use Rattle.poly.proofs.Refusals.{then_number}
 use Rattle.poly.proofs.Sums.{answer_within, answer_fits}
+use Rattle.poly.proofs.Systems.{none_refused}
 use Rattle.parts.specs.Value.{Value}
 use Rattle.formula.specs.declared.Expanded.{Expanded}
 use Rattle.formula.specs.Formula.{formula_of, floats_of, expanded_of, answered_of, expand_of}
 use Rattle.formula.proofs.Texts.{few, refused_number}
 use Rattle.formula.proofs.Short.{short_text}
-use Rattle.formula_roots.specs.FormulaRoots.{handed_on, solved_of, formula_roots_of}
+use Rattle.formula_roots.specs.FormulaRoots.{handed_on, solved_of, formula_roots_of, formula_systems_of}
 use Rattle.formula_roots.specs.Claims.{expanded_in}
 
 -- the coefficients that code hands on
@@ -63,6 +64,27 @@ by_expand sine s tol = go (formula_of s)
 pub solved : (sine : Sine) (s : List ℕ) (tol : Float) (r : Result Expanded Refusal) → r ≡ expand_of s → answered_by sine tol r ≡ formula_roots_of sine s tol
 solved sine s tol r q = ap (answered_by sine tol) q ∙ sym (by_expand sine s tol)
 
+-- ---- how many systems are solved for it; a refused text hands on nothing, for which none is
+abbrev systems_by : Sine → Float → Result Expanded Refusal → ℕ
+systems_by sine tol (Ok e) = real_roots_systems_of sine (take e.len e.coeffs) tol
+systems_by sine tol (Err refusal) = 0
+
+pub nothing_refused : 0 < refusal_of []
+unfolding counted_by trimmed_of trimmed_from
+nothing_refused = omega arith
+
+pub systems_are : (sine : Sine) (s : List ℕ) (tol : Float) → formula_systems_of sine s tol ≡ systems_by sine tol (expand_of s)
+unfolding expand_of answered_of formula_systems_of
+systems_are sine s tol = go (formula_of s)
+  where
+    go : (v : Value) → real_roots_systems_of sine (handed_on v) tol ≡ systems_by sine tol (answered_of v)
+    go (Ok p) = ap (λ (l : List Float). real_roots_systems_of sine l tol) (sym (expanded_taken p))
+    go (Err refusal) = none_refused sine [] tol nothing_refused
+
+pub solved_systems : (sine : Sine) (s : List ℕ) (tol : Float) (r : Result Expanded Refusal) → r ≡ expand_of s
+    → systems_by sine tol r ≡ formula_systems_of sine s tol
+solved_systems sine s tol r q = ap (systems_by sine tol) q ∙ sym (systems_are sine s tol)
+
 -- the coefficients that are handed on stand in the array
 abbrev read : Expanded → Result Expanded Refusal
 read e = Ok e
@@ -87,6 +109,9 @@ holds sine s tol is = (
   is,
   subst⁻¹ (λ (answer : Result Roots Refusal). Within (degree_left (handed_on (formula_of s))) (list_of (roots_in answer))) is (formula_within sine s tol),
 )
+
+-- for `using`
+pub ruleset ways = (by_expand, systems_are, formula_within, in_room)
 
 -- ---- what holds of every refusal, and of the list's answer to at most two coefficients more than the text has bytes, holds of every answer
 pub answered_by_list : (sine : Sine) (P : Result Roots Refusal → Type 0) (s : List ℕ) (tol : Float)

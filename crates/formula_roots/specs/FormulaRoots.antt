@@ -3,7 +3,7 @@ use Rattle.std.specs.Prelude.{List, [], ℕ, Float, Result, Ok, Err}
 use Rattle.refusals.specs.declared.Refusal.{Refusal}
 use Rattle.roots.specs.declared.Roots.{Roots}
 use Rattle.angle.specs.declared.Sine.{Sine}
-use Rattle.poly.specs.RealRoots.{real_roots_of}
+use Rattle.poly.specs.RealRoots.{real_roots_of, real_roots_systems_of}
 use Rattle.parts.specs.Value.{Value}
 use Rattle.formula.specs.Formula.{formula_of, floats_of}
 
@@ -20,3 +20,7 @@ solved_of sine (Err refusal) tol = Err refusal
 unfoldable pub formula_roots_of : Sine → List ℕ → Float → Result Roots Refusal
 unfolding formula_of solved_of
 formula_roots_of sine s tol = solved_of sine (formula_of s) tol
+
+-- how many systems were solved for it: those of the list that is handed on; a refused text hands on nothing, of which the list is refused too
+unfoldable pub formula_systems_of : Sine → List ℕ → Float → ℕ
+formula_systems_of sine s tol = real_roots_systems_of sine (handed_on (formula_of s)) tol

@@ -7,3 +7,4 @@ pub mod Logs
 pub mod Theorem
 pub mod Loop
 pub mod Short
+pub mod Systems

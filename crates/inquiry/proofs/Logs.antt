@@ -6,6 +6,8 @@ use lib.Ieee.{Float}
 use Rattle.std.specs.Prelude.{Result, Ok, Err}
 use Rattle.refusals.specs.declared.Refusal.{Refusal}
 use Rattle.refusals.specs.Refusals.{and_then}
+use Rattle.tally.specs.declared.Tallied.{Tallied}
+use Rattle.tally.specs.Tally.{answer_in}
 use Rattle.roots.specs.declared.RealRoot.{RealRoot}
 use Rattle.roots.specs.Roots.{list_of, pair_list_of}
 use Rattle.angle.specs.declared.Sine.{Sine}
@@ -39,9 +41,9 @@ unfolding shown_after_of start_of
 shown_is sine coeffs tol rs r (lg, b) = rw b (solved_same lg rs (solve_of sine coeffs tol))
 
 -- the two ways of `?`
-pub shown_refused : (sine : Sine) (coeffs : List Float) (tol : Float) (rs : Replies) (refusal : Refusal) {r : Result Seen Refusal}
-    → ButLogs (Err refusal) (solve_of sine coeffs tol) → r ≡ Err refusal → r ≡ shown_after_of sine coeffs tol rs
-shown_refused sine coeffs tol rs refusal b e = e ∙ shown_is sine coeffs tol rs (Err refusal) b
+pub shown_refused : (sine : Sine) (coeffs : List Float) (tol : Float) (rs : Replies) (refusal : Refusal) {r : Result (Tallied Seen) Refusal}
+    → ButLogs (Err refusal) (solve_of sine coeffs tol) → r ≡ Err refusal → answer_in r ≡ shown_after_of sine coeffs tol rs
+shown_refused sine coeffs tol rs refusal b e = ap answer_in e ∙ shown_is sine coeffs tol rs (Err refusal) b
 
 pub shown_solved : (sine : Sine) (coeffs : List Float) (tol : Float) (rs : Replies) (s : Solved) (q : Inquiry) (seen : Seen)
     → ButLogs (Ok s) (solve_of sine coeffs tol) → q ≡ given (fresh_by s) rs → seen ≡ seen_of q → Ok seen ≡ shown_after_of sine coeffs tol rs

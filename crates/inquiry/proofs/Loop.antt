@@ -23,7 +23,6 @@ use Rattle.poly.specs.declared.Solved.{Solved}
 use Rattle.poly.specs.Coefficients.{zeros_of, counted_of, refusal_of, poly_of}
 use Rattle.poly.specs.Solve.{finished_of, solve_of, solved_in}
 use Rattle.poly.specs.Brief.{relogged, ButLogs}
-use Rattle.poly.proofs.Refusals.{then_number, solved_number}
 use Rattle.asking.specs.Asking.{Asking, done, answered, places_asked, walked}
 use Rattle.asking.proofs.Feeding.{question, finish}
 use Rattle.touching.proofs.Logs.{same_touching}

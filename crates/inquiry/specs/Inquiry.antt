@@ -83,7 +83,7 @@ seen_of q = cond (sound_of q) (seen_at (walked (replies_of q.replies) (asking q)
 -- ---- a reply
 -- the inquiry with one reply more
 abbrev pub with_reply : Inquiry → Bool → Inquiry
-with_reply q r = record { poly = q.poly; tol = q.tol; roots = q.roots; pairs = q.pairs; replies = replied_by q.replies r }
+with_reply q r = record { poly = q.poly; tol = q.tol; roots = q.roots; pairs = q.pairs; systems = q.systems; replies = replied_by q.replies r }
 
 -- `reply`: refused where nothing is being asked
 abbrev pub replied_by_asked : Asked → Inquiry → Bool → Result Inquiry Refusal

@@ -35,7 +35,7 @@ places_touching_of sine touches coeffs tol = places_asked touches (real_roots_to
 -- ---- the inquiry
 -- what was solved, and no reply
 abbrev pub fresh_by : Solved → Inquiry
-fresh_by s = record { poly = s.poly; tol = s.tol; roots = s.roots; pairs = s.pairs; replies = no_replies }
+fresh_by s = record { poly = s.poly; tol = s.tol; roots = s.roots; pairs = s.pairs; systems = s.systems; replies = no_replies }
 
 -- `start`
 unfoldable pub start_of : Sine → List Float → Float → Result Inquiry Refusal
@@ -47,7 +47,7 @@ inquiry_in start = value_or (fresh_by no_solved) start
 
 -- the inquiry with these replies in place of its own
 abbrev pub given : Inquiry → Replies → Inquiry
-given q rs = record { poly = q.poly; tol = q.tol; roots = q.roots; pairs = q.pairs; replies = rs }
+given q rs = record { poly = q.poly; tol = q.tol; roots = q.roots; pairs = q.pairs; systems = q.systems; replies = rs }
 
 -- `start`, and `see` with these replies put in at once
 unfoldable pub shown_after_of : Sine → List Float → Float → Replies → Result Seen Refusal

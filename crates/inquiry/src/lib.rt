@@ -10,21 +10,25 @@ ghost use Rattle.asking.specs.Asking.{asks, walked};
 ghost use Rattle.touching.specs.Touching.{touching};
 ghost use Rattle.touching.specs.Replies.{replies_of};
 ghost use Rattle.touching.specs.Walk.{left_of, RepliesFit, Held};
+ghost use Rattle.poly.specs.RealRoots.{real_roots_systems_of};
+ghost use Rattle.tally.specs.Tally.{answer_in, systems_in};
 ghost use Rattle.inquiry.specs.Inquiry.{counted_in, sizes_fit, sound_of, list_in, over_by, seen_at, unseen, asked_of, seen_of, replied_of};
 ghost use Rattle.inquiry.specs.Start.{fresh_by, start_of, given, shown_after_of};
 
 use angle::Sine;
 use refusals::Refusal;
+use tally::Tallied;
 use touching::{Replies, Walker};
 
-// What `solve` and `finish` gave, in the scaled variable, the tolerance, and the replies.
-// (With a `Solved` for the first four, each definition and theorem of an inquiry would read them through one name more.)
+// What `solve` and `finish` gave, in the scaled variable, the tolerance, how many systems were solved, and the replies.
+// (With a `Solved` for the first five, each definition and theorem of an inquiry would read them through one name more.)
 #[derive(Clone, Copy)]
 pub struct Inquiry {
     pub poly: scaled::Scaled,
     pub tol: f64,
     pub roots: roots::Roots,
     pub pairs: roots::Pairs,
+    pub systems: u32,
     pub replies: Replies,
 }
 
@@ -118,6 +122,7 @@ fn begun(s: poly::Solved, replies: Replies) -> Inquiry
         tol: s.tol,
         roots: s.roots,
         pairs: s.pairs,
+        systems: s.systems,
         replies,
     }
 }
@@ -136,12 +141,18 @@ pub fn start(sine: Sine, coeffs: &[f64], tol: f64) -> Result<Inquiry, Refusal>
 pub fn asked_with(s: poly::Solved, replies: Replies) -> Asked
     ensures { result ≡ asked_of (given (fresh_by s) replies) }
 {
-    begun(s, replies).ask()
+    begun(s, replies).ask().value
 }
 
 // What `start` and `see` show with these replies put in at once. The inquiry is not handed out, so a level list is solved without logarithms.
-pub fn shown_after(sine: Sine, coeffs: &[f64], tol: f64, replies: Replies) -> Result<Seen, Refusal>
-    ensures { result ≡ shown_after_of sine coeffs.now tol replies }
+pub fn shown_after(
+    sine: Sine,
+    coeffs: &[f64],
+    tol: f64,
+    replies: Replies,
+) -> Result<Tallied<Seen>, Refusal>
+    ensures value { answer_in result ≡ shown_after_of sine coeffs.now tol replies }
+    ensures systems { systems_in result ≡ real_roots_systems_of sine coeffs.now tol }
 {
     let s = poly::solve_brief(sine, coeffs, tol)?;
     Ok(begun(s, replies).see())
@@ -161,16 +172,29 @@ impl Inquiry {
         ) && counted_in(4 - 2 * self.pairs.len, self.roots)
     }
 
-    // The question, or the finished list; neither for a value that is not sound.
+    // The question, or the finished list; neither for a value that is not sound. The systems are those that it holds.
     // Whatever the inquiry is, a list has at most four finite roots, each counting at least once, together at most four times.
-    pub fn ask(self) -> Asked
-        ensures { (result ≡ asked_of self) × Within 4 (list_of (list_in result)) }
+    pub fn ask(self) -> Tallied<Asked>
+        ensures value { (result.value ≡ asked_of self) × Within 4 (list_of (list_in result.value)) }
+        ensures systems { result.systems ≡ self.systems }
     {
-        self.see().asked
+        let seen = self.see();
+        seen.with(seen.value.asked)
     }
 
     // The same, and whether every reply was needed, for replies that were put in at once.
-    pub fn see(self) -> Seen
+    pub fn see(self) -> Tallied<Seen>
+        ensures value { result.value ≡ seen_of self }
+        ensures systems { result.systems ≡ self.systems }
+    {
+        Tallied {
+            value: self.seen(),
+            systems: self.systems,
+        }
+    }
+
+    // What is shown.
+    fn seen(self) -> Seen
         ensures { result ≡ seen_of self }
     {
         if self.is_sound() {
@@ -189,7 +213,7 @@ impl Inquiry {
     pub fn reply(self, yes: bool) -> Result<Inquiry, Refusal>
         ensures { result ≡ replied_of self yes }
     {
-        match self.ask() {
+        match self.ask().value {
             Asked::Question(_) => {
                 let replies = self.replies.with(yes);
                 Ok(Inquiry { replies, ..self })

@@ -5,11 +5,12 @@ use Rattle.float.specs.Methods.{powi_of}
 use Rattle.cubic.proofs.Vectors.{bits}
 use Rattle.quartic.proofs.Vectors.{computes as quartics}
 use Rattle.std.specs.Prelude.{Some, None}
-use Rattle.isolated.specs.Isolated.{far_root_of, root_pair_of, is_better_of, judged_of, best_root_of, isolated_root_of, peel_root_of}
+use Rattle.isolated.specs.Isolated.{far_root_of, root_pair_of, is_better_of, judged_of, best_root_of, isolated_root_of}
+use Rattle.isolated.specs.Isolated.{peel_start_of, peel_root_of, peel_systems_of}
 
 -- what has to unfold for the definitions to compute: a fact says `unfolding computes`
 unfoldable pub computes : ℕ
-unfolding quartics powi_of far_root_of root_pair_of is_better_of judged_of best_root_of isolated_root_of peel_root_of
+unfolding quartics powi_of far_root_of root_pair_of is_better_of judged_of best_root_of isolated_root_of peel_start_of peel_root_of peel_systems_of
 computes = 0
 
 isolated : isolated_root_of (record {
@@ -48,3 +49,8 @@ peeled : peel_root_of (bits 0x3fe0_0000_0000_0000) (bits 0xbff4_0000_0000_0000) 
     }
 unfolding computes
 peeled = refl
+
+peeled_systems : peel_systems_of (bits 0x3fe0_0000_0000_0000) (bits 0xbff4_0000_0000_0000) (bits 0x3fd3_3333_3333_3333) (bits 0x3fb9_9999_9999_999a)
+    (bits 0x3fe6_6666_6666_6666) ≡ 2
+unfolding computes
+peeled_systems = refl

@@ -10,7 +10,7 @@ use Rattle.float.specs.Literals.{zero64, half64, sixteen64, inf64}
 use Rattle.float.specs.Methods.{abs_of, copysign_of, min_of, max_of, powi_of}
 use Rattle.sqrt.specs.Root.{sqrt_of}
 use Rattle.horner.specs.Product.{discriminant_of}
-use Rattle.refine.specs.Refine.{refine_of}
+use Rattle.refine.specs.Refine.{refine_of, refine_systems_of}
 use Rattle.refine.specs.Systems.{peel_system}
 use Rattle.quartic.specs.declared.QuarticFactor.{QuarticFactor}
 use Rattle.isolated.specs.declared.Complex.{Complex}
@@ -117,15 +117,24 @@ isolated_root_of quads = lone_of (best_root_of quads)
 unfoldable pub isolated_of : QuarticFactor → Pairing
 isolated_of quads = record { far = isolated_root_of quads; first = disc_of quads.al quads.be; second = disc_of quads.ga quads.de }
 
--- `peel_root`: the quotient by y - r, from the top, refined
-unfoldable pub peel_root_of : Float → Float → Float → Float → Float → Peeled
-peel_root_of b c d e r =
+-- where the search of `peel_root` begins: the quotient by y - r, from the top
+unfoldable pub peel_start_of : Float → Float → Float → Float → List Float
+peel_start_of b c d r =
     -- let h2 = b + r;
     let h2 = b +ᶠ r in
     -- let h1 = c + r * h2;
     let h1 = c +ᶠ r *ᶠ h2 in
     -- let h0 = d + r * h1;
     let h0 = d +ᶠ r *ᶠ h1 in
+    r ∷ h2 ∷ h1 ∷ h0 ∷ []
+
+-- `peel_root`: that quotient, refined
+unfoldable pub peel_root_of : Float → Float → Float → Float → Float → Peeled
+peel_root_of b c d e r =
     -- let x = refine([r, h2, h1, h0], ..);
-    let x = refine_of 4 (peel_system b c d e) (r ∷ h2 ∷ h1 ∷ h0 ∷ []) in
+    let x = refine_of 4 (peel_system b c d e) (peel_start_of b c d r) in
     record { r = get_or x 0 nan; h2 = get_or x 1 nan; h1 = get_or x 2 nan; h0 = get_or x 3 nan }
+
+-- how many systems are solved for it
+unfoldable pub peel_systems_of : Float → Float → Float → Float → Float → ℕ
+peel_systems_of b c d e r = refine_systems_of 4 (peel_system b c d e) (peel_start_of b c d r)

@@ -4,7 +4,9 @@
 
 ghost use Rattle.std.specs.Prelude.{◌≡◌};
 ghost use Rattle.isolated.specs.Isolated.{disc_of, far_by, far_root_of, root_pair_of, dist_of, least_of, greatest_of, is_better_of, judged_of};
-ghost use Rattle.isolated.specs.Isolated.{best_root_of, isolated_of, isolated_root_of, peel_root_of};
+ghost use Rattle.isolated.specs.Isolated.{best_root_of, isolated_of, isolated_root_of, peel_root_of, peel_systems_of};
+
+use tally::Tallied;
 
 // A root as (re, im).
 #[derive(Clone, Copy)]
@@ -171,13 +173,15 @@ pub struct Peeled {
 }
 
 // (The coefficients one by one, as in poly.rs and as C hands them in.)
-#[tactic(auto, unfolding(crate::specs::Isolated::peel_root_of))]
-pub fn peel_root(b: f64, c: f64, d: f64, e: f64, r: f64) -> Peeled
-    ensures { result ≡ peel_root_of b c d e r }
+#[tactic(auto, unfolding(crate::specs::Isolated::peel_root_of, crate::specs::Isolated::peel_systems_of, crate::specs::Isolated::peel_start_of))]
+pub fn peel_root(b: f64, c: f64, d: f64, e: f64, r: f64) -> Tallied<Peeled>
+    ensures value { result.value ≡ peel_root_of b c d e r }
+    ensures systems { result.systems ≡ peel_systems_of b c d e r }
 {
     let h2 = b + r;
     let h1 = c + r * h2;
     let h0 = d + r * h1;
-    let [r, h2, h1, h0] = refine::refine_peel(b, c, d, e, [r, h2, h1, h0]);
-    Peeled { r, h2, h1, h0 }
+    let refined = refine::refine_peel(b, c, d, e, [r, h2, h1, h0]);
+    let [r, h2, h1, h0] = refined.value;
+    refined.with(Peeled { r, h2, h1, h0 })
 }

@@ -23,7 +23,7 @@ pub fn polynomial_at(sine: Sine, s: &[u8], at: usize) -> Result<Roots, Refusal>
     let count = s[at + 2] as usize;
     let coeffs = f64s_at(s, at + 11, count);
     let tol = f64_at(s, at + 3);
-    poly::real_roots(sine, &coeffs[..count], tol)
+    Ok(poly::real_roots(sine, &coeffs[..count], tol)?.value)
 }
 
 #[tactic(auto, using(lent_bytes::proofs::Doubles::f64s_placed), unfolding(crate::specs::Answers::quadratic_at))]
@@ -41,7 +41,8 @@ pub fn crank_at(sine: Sine, s: &[u8], at: usize) -> Result<CrankAnswer, Refusal>
     ensures { result ≡ crank_at sine s.now at }
 {
     let [confusion, a2, b2, c1, d1, e] = doubles_at::<6>(s, at + 2);
-    crank::crank(sine, confusion, TrigEquation { a2, b2, c1, d1, e })
+    let trig = TrigEquation { a2, b2, c1, d1, e };
+    Ok(crank::crank(sine, confusion, trig)?.value)
 }
 
 #[tactic(auto, using(lent_bytes::proofs::Doubles::f64s_placed), unfolding(crate::specs::Answers::contact_at))]
@@ -58,7 +59,8 @@ pub fn contact_at(sine: Sine, s: &[u8], at: usize) -> Result<Roots, Refusal>
         y1,
         y2,
     };
-    contact::pin_contact(sine, confusion, path, Circle { cx, cy, r })
+    let circle = Circle { cx, cy, r };
+    Ok(contact::pin_contact(sine, confusion, path, circle)?.value)
 }
 
 #[tactic(auto, unfolding(crate::specs::Answers::formula_at))]
@@ -70,5 +72,5 @@ pub fn formula_at(sine: Sine, s: &[u8], at: usize) -> Result<Roots, Refusal>
     let tol = f64_at(s, at + 3);
     let text = at + 11;
     let end = text + length;
-    formula_roots::formula_roots(sine, &s[text..end], tol)
+    Ok(formula_roots::formula_roots(sine, &s[text..end], tol)?.value)
 }

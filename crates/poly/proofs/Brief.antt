@@ -1,9 +1,9 @@
--- A list whose logarithms show no gap is solved alike without them: its factors are those at its own scale, and nothing else reads a logarithm.
+-- A list whose logarithms show no gap is solved alike without them: its factors are those at its own scale, by as many systems; nothing else reads one.
 use mathlib.Core.Path.{◌≡◌, refl, sym, ap, ◌∙◌, subst}
 use mathlib.Core.Logic.{⊎_elim}
-use mathlib.Core.Bool.{cond}
+use mathlib.Core.Bool.{Bool, cond}
 use mathlib.Core.List.{List, [], ◌∷◌}
-use Prim.Native.Nat.{ℕ, zero, suc, ◌≤◌}
+use Prim.Native.Nat.{ℕ, zero, suc, ◌+◌, ◌≤◌}
 use native.Mathlib.Omega.{arith}
 use lib.Dec.{leb}
 use lib.ListN.{replicate}
@@ -19,7 +19,7 @@ use Rattle.split.specs.Hull.{hull_of, hull_step}
 use Rattle.std.specs.Prelude.{None}
 use Rattle.split.specs.Gap.{split_from, magnitude_split_of}
 use Rattle.factors.specs.declared.Factors.{Factors}
-use Rattle.factorize.specs.Factorize.{out_of, second_of, factors_from, factorize_of}
+use Rattle.factorize.specs.Factorize.{out_of, second_of, factors_from, factorize_of, out_systems_of, systems_from, factorize_systems_of}
 use Rattle.roots.specs.declared.RealRoot.{RealRoot}
 use Rattle.roots.specs.declared.Pair.{Pair}
 use Rattle.roots.specs.Roots.{kept, roots_of, pairs_of}
@@ -31,10 +31,17 @@ use Rattle.level.specs.Level.{NoGap}
 use Rattle.poly.specs.Brief.{Enough, other_logs, relogged}
 use Rattle.poly.specs.Solve.{candidates_of, finished_of}
 
--- ---- the factors
+-- ---- the factors, and how many systems are solved for them
 no_second : (sine : Sine) (sc : Scaled) → magnitude_split_of sc.lg sc.d ≡ None → factorize_of sine sc 0 ≡ out_of sine sc.g sc.d
 unfolding factorize_of factors_from second_of
 no_second sine sc e = rw e (either_way (λ (f : Factors). f ≡ out_of sine sc.g sc.d) (leb sc.d 2) refl refl)
+
+no_more : (n : ℕ) (b : Bool) → n + cond b 0 0 ≡ n
+no_more n b = either_way (λ (m : ℕ). n + m ≡ n) b (omega arith) (omega arith)
+
+none_more : (sine : Sine) (sc : Scaled) → magnitude_split_of sc.lg sc.d ≡ None → factorize_systems_of sine sc 0 ≡ out_systems_of sine sc.g sc.d
+unfolding factorize_systems_of systems_from second_of
+none_more sine sc e = rw e (no_more (out_systems_of sine sc.g sc.d) (leb sc.d 2))
 
 none_found : (d : ℕ) → d ≤ 4 → magnitude_split_of (replicate 5 (neg inf64)) d ≡ None
 unfolding magnitude_split_of hull_of hull_step count_up split_from is_finite_of neg of_bits
@@ -69,13 +76,14 @@ module _ (sc : Scaled) (lg : List Float) where
       go (a ∷ l) = same_joined tol [] a l
 
   same_solved : (sine : Sine) (zeros : ℕ) (tol : Float) → factorize_of sine other 0 ≡ factorize_of sine sc 0
+      → factorize_systems_of sine other 0 ≡ factorize_systems_of sine sc 0
       → finished_of sine other zeros tol ≡ relogged lg (finished_of sine sc zeros tol)
   unfolding finished_of
-  same_solved sine zeros tol e =
+  same_solved sine zeros tol e h =
       let c : candidates_of other zeros (factorize_of sine other 0) tol ≡ candidates_of sc zeros (factorize_of sine sc 0) tol =
       ap (λ (f : Factors). candidates_of other zeros f tol) e ∙ same_candidates zeros (factorize_of sine sc 0) tol in
       let roots = ap (λ (x : List RealRoot × List Pair). roots_of (finish_of other x.0 tol)) c ∙ ap roots_of (same_finish _ tol) in
-      λ i. record { poly = other; tol = tol; roots = roots i; pairs = pairs_of (c i).1 }
+      λ i. record { poly = other; tol = tol; roots = roots i; pairs = pairs_of (c i).1; systems = h i }
 
 pub brief_solved : (sine : Sine) (a : List Float) (d l zeros : ℕ) (tol : Float) → d ≤ 4 → Enough a d l
     → (lg : List Float) × (finished_of sine (with_logs_of a d l) zeros tol ≡ relogged lg (finished_of sine (scaled_of a d) zeros tol))
@@ -91,5 +99,7 @@ brief_solved sine a d l zeros tol D = ⊎_elim full (λ h. brief h.0 h.1)
     brief : l ≡ 0 → NoGap a d → Brief l
     brief h n =
         let lg = replicate 5 (neg inf64) in
-        let same = no_second sine (with_logs_of a d 0) (none_found d D) ∙ sym (no_second sine (scaled_of a d) n) in
-        subst Brief (sym h) (lg, same_solved (scaled_of a d) lg sine zeros tol same)
+        let some = none_found d D in
+        let same = no_second sine (with_logs_of a d 0) some ∙ sym (no_second sine (scaled_of a d) n) in
+        let count = none_more sine (with_logs_of a d 0) some ∙ sym (none_more sine (scaled_of a d) n) in
+        subst Brief (sym h) (lg, same_solved (scaled_of a d) lg sine zeros tol same count)

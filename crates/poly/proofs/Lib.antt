@@ -8,3 +8,4 @@ pub mod Refusals
 pub mod Small
 pub mod Short
 pub mod Brief
+pub mod Systems

@@ -115,7 +115,7 @@ module _ (sine : Sine) (s : List Float) (tol : Float) where
   unfolding solve_of
   answered_is e = rw (counted_when s (sym solved_number ∙ e))
 
-  number_is : outcome_of (real_roots_of sine s tol) ≡ refusal_of s
+  pub number_is : outcome_of (real_roots_of sine s tol) ≡ refusal_of s
   unfolding real_roots_of
   number_is = then_number answer_of (solve_of sine s tol) ∙ solved_number
 

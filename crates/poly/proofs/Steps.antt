@@ -8,13 +8,15 @@ use Rattle.std.specs.Prelude.{Result, Ok, Err}
 use Rattle.refusals.specs.declared.Refusal.{Refusal}
 use Rattle.refusals.specs.Refusals.{number_of, outcome_of, and_then}
 use Rattle.refusals.proofs.Numbers.{number_bounds}
+use Rattle.tally.specs.declared.Tallied.{Tallied}
+use Rattle.tally.specs.Tally.{answer_in}
 use Rattle.float.specs.Literals.{zero64}
 use Rattle.float.specs.Methods.{max_of}
 use Rattle.angle.specs.declared.Sine.{Sine}
 use Rattle.horner.specs.declared.Polynomial.{Polynomial}
 use Rattle.scaled.specs.declared.Scaled.{Scaled}
 use Rattle.scaled.specs.Scaled.{scaled_of, with_logs_of}
-use Rattle.factorize.specs.Factorize.{factorize_of}
+use Rattle.factorize.specs.Factorize.{factorize_of, factorize_systems_of}
 use Rattle.roots.specs.declared.RealRoot.{RealRoot}
 use Rattle.roots.specs.declared.Roots.{Roots}
 use Rattle.roots.specs.Roots.{list_of, roots_of}
@@ -32,16 +34,16 @@ use Rattle.poly.proofs.Coefficients.{room}
 use Rattle.poly.proofs.Brief.{brief_solved}
 use Rattle.poly.proofs.Sums.{solved_fits, answer_within}
 
-pub finished_is : (sine : Sine) (poly : Scaled) (zeros : ℕ) (tol : Float) (c : Found) (roots : Roots)
+pub finished_is : (sine : Sine) (poly : Scaled) (zeros : ℕ) (tol : Float) (c : Found) (roots : Roots) (systems : ℕ)
     → c ≡ found_of (candidates_of poly zeros (factorize_of sine poly 0) tol)
-    → roots ≡ roots_of (finish_of poly (list_of c.roots) tol)
-    → record { poly = poly; tol = tol; roots = roots; pairs = c.pairs } ≡ finished_of sine poly zeros tol
+    → roots ≡ roots_of (finish_of poly (list_of c.roots) tol) → systems ≡ factorize_systems_of sine poly 0
+    → record { poly = poly; tol = tol; roots = roots; pairs = c.pairs; systems = systems } ≡ finished_of sine poly zeros tol
 unfolding finished_of
-finished_is sine poly zeros tol c roots e f =
+finished_is sine poly zeros tol c roots systems e f h =
     let l = (candidates_of poly zeros (factorize_of sine poly 0) tol).0 in
     let g : roots ≡ roots_of (finish_of poly l tol) =
     f ∙ ap (λ (s : Found). roots_of (finish_of poly (list_of s.roots) tol)) e ∙ ap (λ (m : List RealRoot). roots_of (finish_of poly m tol)) (list_roots l) in
-    λ i. record { poly = poly; tol = tol; roots = g i; pairs = (e i).pairs }
+    λ i. record { poly = poly; tol = tol; roots = g i; pairs = (e i).pairs; systems = h i }
 
 pub new_degree : (a : List Float) (d l : ℕ) (poly : Scaled) → poly ≡ with_logs_of a d l → poly.d ≡ d
 unfolding scaled_of with_logs_of
@@ -119,9 +121,9 @@ module _ (sine : Sine) (coeffs : List Float) (tol : Float) {r : Result Solved Re
       → (a ≡ real_roots_of sine coeffs tol) × Within (degree_left coeffs) (list_of (roots_in a))
   with_demand a is = (is, subst⁻¹ (λ (b : Result Roots Refusal). Within (degree_left coeffs) (list_of (roots_in b))) is (answer_within sine coeffs tol))
 
-  pub lists_none : (refusal : Refusal) {a : Result Roots Refusal} → r ≡ Err refusal → a ≡ Err refusal
-      → (a ≡ real_roots_of sine coeffs tol) × Within (degree_left coeffs) (list_of (roots_in a))
-  lists_none refusal {a} e is = with_demand a (is ∙ rw e at same_answer)
+  pub lists_none : (refusal : Refusal) {a : Result (Tallied Roots) Refusal} → r ≡ Err refusal → a ≡ Err refusal
+      → (answer_in a ≡ real_roots_of sine coeffs tol) × Within (degree_left coeffs) (list_of (roots_in (answer_in a)))
+  lists_none refusal {a} e is = with_demand (answer_in a) (ap answer_in is ∙ rw e at same_answer)
 
   pub lists_all : (s : Solved) {l : Roots} → r ≡ Ok s → l ≡ roots_of (unscaled_all s.poly.e (list_of s.roots))
       → (Ok l ≡ real_roots_of sine coeffs tol) × Within (degree_left coeffs) (list_of l)

@@ -40,7 +40,7 @@ abbrev pub other_logs : List Float → Scaled → Scaled
 other_logs lg sc = record { f = sc.f; g = sc.g; lg = lg; d = sc.d; e = sc.e; unit = sc.unit }
 
 abbrev pub relogged : List Float → Solved → Solved
-relogged lg s = record { poly = other_logs lg s.poly; tol = s.tol; roots = s.roots; pairs = s.pairs }
+relogged lg s = record { poly = other_logs lg s.poly; tol = s.tol; roots = s.roots; pairs = s.pairs; systems = s.systems }
 
 -- r is s, but for the logarithms, of which nothing is said
 abbrev pub ButLogs : Result Solved Refusal → Result Solved Refusal → Type 0

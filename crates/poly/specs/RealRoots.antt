@@ -1,5 +1,5 @@
 -- real_roots of poly.rs: the finished roots in x, or a refusal. Definitions only.
-use Rattle.std.specs.Prelude.{cond, List, [], ◌∷◌, ℤ, Float, Result, Ok}
+use Rattle.std.specs.Prelude.{cond, List, [], ◌∷◌, ℕ, ℤ, Float, Result, Ok}
 use Rattle.refusals.specs.declared.Refusal.{Refusal}
 use Rattle.refusals.specs.Refusals.{value_or, and_then}
 use Rattle.float.specs.Methods.{is_finite_of}
@@ -9,7 +9,7 @@ use Rattle.roots.specs.declared.Roots.{Roots}
 use Rattle.roots.specs.Roots.{root, list_of, roots_of, no_roots}
 use Rattle.angle.specs.declared.Sine.{Sine}
 use Rattle.poly.specs.declared.Solved.{Solved}
-use Rattle.poly.specs.Solve.{solve_of}
+use Rattle.poly.specs.Solve.{solve_of, solved_in}
 
 -- `let value = ldexp(y, self.e);` of `unscaled`: the place y of the scaled variable in x
 abbrev pub unscaled_of : ℤ → Float → Float
@@ -34,3 +34,7 @@ real_roots_of sine coeffs tol = and_then (solve_of sine coeffs tol) (λ s. Ok (a
 -- the roots of an answer; of a refusal none
 abbrev pub roots_in : Result Roots Refusal → Roots
 roots_in answer = value_or no_roots answer
+
+-- how many systems were solved for it; of a refusal none
+unfoldable pub real_roots_systems_of : Sine → List Float → Float → ℕ
+real_roots_systems_of sine coeffs tol = (solved_in (solve_of sine coeffs tol)).systems

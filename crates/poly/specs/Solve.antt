@@ -9,7 +9,7 @@ use Rattle.angle.specs.declared.Sine.{Sine}
 use Rattle.scaled.specs.declared.Scaled.{Scaled}
 use Rattle.factors.specs.declared.Factors.{Factors}
 use Rattle.factors.specs.Factors.{lin_at, quad_at}
-use Rattle.factorize.specs.Factorize.{factorize_of}
+use Rattle.factorize.specs.Factorize.{factorize_of, factorize_systems_of}
 use Rattle.roots.specs.declared.RealRoot.{RealRoot}
 use Rattle.roots.specs.declared.Pair.{Pair}
 use Rattle.roots.specs.Roots.{root, kept, roots_of, no_roots, pairs_of, no_pairs}
@@ -38,12 +38,13 @@ candidates_of poly zeros factors tol =
     count_up factors.nquad (with_quad poly factors tol) factors.nquad (cands, [])
 
 -- ---- the finished roots, and the pairs
--- `let factors = factorize(&poly, 0);`, the candidates, and `poly.finish(cands, tol.max(0.0))`
+-- `let factors = factorize(&poly, 0);`, the candidates, and `poly.finish(cands, tol.max(0.0))`; how many systems were solved, by factorize alone
 unfoldable pub finished_of : Sine → Scaled → ℕ → Float → Solved
 finished_of sine poly zeros tol =
     let factors = factorize_of sine poly 0 in
     let c = candidates_of poly zeros factors tol in
-    record { poly = poly; tol = tol; roots = roots_of (finish_of poly c.0 tol); pairs = pairs_of c.1 }
+    let systems = factorize_systems_of sine poly 0 in
+    record { poly = poly; tol = tol; roots = roots_of (finish_of poly c.0 tol); pairs = pairs_of c.1; systems = systems }
 
 -- `Scaled::solve`, then `finish`; `None` is a refusal. The tolerance is `tol.max(0.0)`: 'A NaN or negative tolerance counts as 0'
 unfoldable pub solve_of : Sine → List Float → Float → Result Solved Refusal
@@ -54,7 +55,7 @@ abbrev pub no_poly : Scaled
 no_poly = record { f = replicate 5 zero64; g = replicate 5 zero64; lg = replicate 5 zero64; d = 0; e = pos 0; unit = zero64 }
 
 abbrev pub no_solved : Solved
-no_solved = record { poly = no_poly; tol = zero64; roots = no_roots; pairs = no_pairs }
+no_solved = record { poly = no_poly; tol = zero64; roots = no_roots; pairs = no_pairs; systems = 0 }
 
 abbrev pub solved_in : Result Solved Refusal → Solved
 solved_in s = value_or no_solved s

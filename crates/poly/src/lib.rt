@@ -4,7 +4,8 @@
 
 ghost use Rattle.std.specs.Prelude.{◌≡◌, ℕ, ◌+◌, ◌≤◌, ◌<◌, length, IfOk};
 ghost use Rattle.facts.specs.Count.{count_up};
-ghost use Rattle.factorize.specs.Factorize.{factorize_of};
+ghost use Rattle.tally.specs.Tally.{answer_in, systems_in};
+ghost use Rattle.factorize.specs.Factorize.{factorize_of, factorize_systems_of};
 ghost use Rattle.factorize.specs.Discs.{rooted_of};
 ghost use Rattle.roots.specs.Roots.{roots_of, list_of};
 ghost use Rattle.push.specs.Quadratic.{found_of};
@@ -13,19 +14,21 @@ ghost use Rattle.poly.specs.Coefficients.{trimmed_of, degree_left, zeros_of, cou
 ghost use Rattle.poly.specs.Solve.{zero_roots_of, candidates_of, finished_of, solve_of};
 ghost use Rattle.poly.specs.Found.{with_lin_in, with_quad_in};
 ghost use Rattle.poly.specs.Brief.{Enough, SolvedBy, ButLogs};
-ghost use Rattle.poly.specs.RealRoots.{unscaled_all, real_roots_of, roots_in};
+ghost use Rattle.poly.specs.RealRoots.{unscaled_all, real_roots_of, real_roots_systems_of, roots_in};
 
 use angle::Sine;
 use horner::Polynomial;
 use refusals::Refusal;
+use tally::Tallied;
 
-// What Scaled::solve and finish give: the scaled polynomial, the tolerance, its finished roots and its complex pairs.
+// What Scaled::solve and finish give: the scaled polynomial, the tolerance, its finished roots and its complex pairs; and how many systems were solved.
 #[derive(Clone, Copy)]
 pub struct Solved {
     pub poly: scaled::Scaled,
     pub tol: f64,
     pub roots: roots::Roots,
     pub pairs: roots::Pairs,
+    pub systems: u32,
 }
 
 // A scaled polynomial without the zeros that came first, how many those are, and the tolerance.
@@ -123,13 +126,16 @@ impl Stripped {
     }
 
     // The candidates and the complex pairs.
-    fn candidates(self, sine: Sine) -> push::Found
-        ensures { result ≡ found_of (candidates_of self.poly self.zeros (factorize_of sine self.poly 0) self.tol) }
+    fn candidates(self, sine: Sine) -> Tallied<push::Found>
+        ensures value { result.value ≡ found_of (candidates_of self.poly self.zeros (factorize_of sine self.poly 0) self.tol) }
+        ensures systems { result.systems ≡ factorize_systems_of sine self.poly 0 }
     {
-        let r = factorize::factorize_rooted(sine, self.poly, 0);
+        let factors = factorize::factorize_rooted(sine, self.poly, 0);
+        let r = factors.value;
         let roots = with_lins(r.f, zero_roots(self.zeros));
         let pairs = roots::Pairs::default();
-        self.with_quads(r, push::Found { roots, pairs })
+        let value = self.with_quads(r, push::Found { roots, pairs });
+        factors.with(value)
     }
 
     // Factored and finished.
@@ -140,13 +146,15 @@ impl Stripped {
         let poly = self.poly;
         let tol = self.tol;
         let found = self.candidates(sine);
-        let roots = finish::finish(poly, found.roots, tol);
-        let pairs = found.pairs;
+        let roots = finish::finish(poly, found.value.roots, tol);
+        let pairs = found.value.pairs;
+        let systems = found.systems;
         Solved {
             poly,
             tol,
             roots,
             pairs,
+            systems,
         }
     }
 }
@@ -213,9 +221,13 @@ fn unscaled_all(s: roots::Roots, e: i32) -> roots::Roots
 
 // Demand 1 holds of the answer: at most four finite roots, each counting at least once, together at most the degree left.
 // `sine` is the mode: the third angle's sine is that of the rounded cosine, as in the reference build, or of the exact one.
-pub fn real_roots(sine: Sine, coeffs: &[f64], tol: f64) -> Result<roots::Roots, Refusal>
-    ensures { (result ≡ real_roots_of sine coeffs.now tol) × Within (degree_left coeffs.now) (list_of (roots_in result)) }
+pub fn real_roots(sine: Sine, coeffs: &[f64], tol: f64) -> Result<Tallied<roots::Roots>, Refusal>
+    ensures value { (answer_in result ≡ real_roots_of sine coeffs.now tol)
+        × Within (degree_left coeffs.now) (list_of (roots_in (answer_in result))) }
+    ensures systems { systems_in result ≡ real_roots_systems_of sine coeffs.now tol }
 {
     let s = solve_brief(sine, coeffs, tol)?;
-    Ok(unscaled_all(s.roots, s.poly.e))
+    let value = unscaled_all(s.roots, s.poly.e);
+    let systems = s.systems;
+    Ok(Tallied { value, systems })
 }

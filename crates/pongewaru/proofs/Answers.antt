@@ -8,9 +8,10 @@ use Rattle.std.specs.Prelude.{Result, Ok, Err, IsOkAnd, MatchResult}
 use Rattle.refusals.specs.declared.Refusal.{Refusal}
 use Rattle.refusals.specs.Refusals.{outcome_of, value_or}
 use Rattle.refusals.proofs.Numbers.{number_bounds}
+use Rattle.tally.specs.declared.Tallied.{Tallied}
+use Rattle.tally.specs.Tally.{answer_in, systems_in}
 use Rattle.lent_bytes.specs.Bytes.{Answered}
 use Rattle.lent_bytes.proofs.Whole.{answered_as, answered_if}
-use Rattle.lent_bytes.specs.Lists.{root_numbers}
 use Rattle.roots.specs.declared.Roots.{Roots}
 use Rattle.poly.specs.RealRoots.{roots_in}
 use lib.ListN.{replicate}
@@ -18,6 +19,7 @@ use Rattle.float.specs.Literals.{zero64}
 use Rattle.formula.specs.declared.Expanded.{Expanded}
 use Rattle.formula_roots.specs.Claims.{expanded_in}
 use Rattle.formula.specs.Formula.{expand_of}
+use Rattle.pongewaru.specs.Lists.{told_numbers}
 use Rattle.pongewaru.specs.Formulas.{expanded_numbers}
 use Rattle.pongewaru.specs.Answers.{numbers_in, AnsweredBy}
 
@@ -41,11 +43,23 @@ module _ {A : Type 0} (numbers : A → List Float) where
       subst (λ (a : Result A Refusal). AnsweredBy numbers a l r m) is
       (told_as s y same refl (λ x e. sym (ap (numbers_in numbers) e)) h)
 
--- a list of roots
-pub told_list : {l : List ℕ} {r : ℕ} {m : List ℕ} (s answer : Result Roots Refusal) (y : Result (List Float) Refusal) → s ≡ answer → Mapped root_numbers s y
-    → Answered (outcome_of y) (value_or [] y) l r m → Answered (outcome_of answer) (root_numbers (roots_in answer)) l r m
-told_list s answer y is same h =
-    told_as root_numbers s y same (ap outcome_of is) (λ x e. ap (λ (a : Result Roots Refusal). root_numbers (roots_in a)) (sym e ∙ is)) h
+-- ---- a list, and how many systems were solved for it
+pub same_number : {A : Type 0} (s : Result (Tallied A) Refusal) → outcome_of s ≡ outcome_of (answer_in s)
+same_number (Ok t) = refl
+same_number (Err refusal) = refl
+
+abbrev pub tallied_numbers : Tallied Roots → List Float
+tallied_numbers t = told_numbers t.value t.systems
+
+pub told_list : {l : List ℕ} {r : ℕ} {m : List ℕ} (s : Result (Tallied Roots) Refusal) (answer : Result Roots Refusal) (systems : ℕ)
+    (y : Result (List Float) Refusal) → answer_in s ≡ answer → systems_in s ≡ systems → Mapped tallied_numbers s y
+    → Answered (outcome_of y) (value_or [] y) l r m → Answered (outcome_of answer) (told_numbers (roots_in answer) systems) l r m
+told_list s answer systems y is count same h =
+    told_as tallied_numbers s y same (same_number s ∙ ap outcome_of is)
+    (λ x e.
+    let value : x.value ≡ roots_in answer = ap roots_in (sym (ap answer_in e) ∙ is) in
+    let number : x.systems ≡ systems = sym (ap systems_in e) ∙ count in
+    λ i. told_numbers (value i) (number i)) h
 
 -- the coefficients of a text
 pub told_coefficients : {l : List ℕ} {r : ℕ} {m : List ℕ} (text : List ℕ) (s : Result Expanded Refusal) (y : Result (List Float) Refusal) → s ≡ expand_of text

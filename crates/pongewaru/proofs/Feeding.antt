@@ -13,7 +13,7 @@ use Rattle.std.proofs.Math.Nat.{min_comm}
 use Rattle.std.proofs.lemmas.List.{take_min}
 use Rattle.roots.specs.declared.Roots.{Roots}
 use Rattle.lent_bytes.specs.Numbers.{number, flag_of}
-use Rattle.lent_bytes.specs.Lists.{root_numbers}
+use Rattle.pongewaru.specs.Lists.{told_numbers}
 use Rattle.pongewaru.specs.Inquiries.{reply_at, each_reply, shown_numbers}
 
 module _ {A : Type 0} (f : A → Bool → A) (rs : List ℕ) (i : ℕ) (p : A) where
@@ -37,7 +37,7 @@ flag_is true = refl
 flag_is false = refl
 
 -- from the numbers of the list
-pub shown_is : (n : ℕ) (asks : Bool) (place x : Float) (list : Roots) (l : List Float) → x ≡ number (bool_byte asks) → l ≡ root_numbers list
-    → number n ∷ x ∷ place ∷ (l ++ []) ≡ shown_numbers n asks place list
+pub shown_is : (n : ℕ) (asks : Bool) (place x : Float) (list : Roots) (systems : ℕ) (l : List Float) → x ≡ number (bool_byte asks)
+    → l ≡ told_numbers list systems → number n ∷ x ∷ place ∷ (l ++ []) ≡ shown_numbers n asks place list systems
 unfolding shown_numbers
-shown_is n asks place x list l e f = rw (append-nil, f, e, flag_is asks)
+shown_is n asks place x list systems l e f = rw (append-nil, f, e, flag_is asks)

@@ -1,5 +1,5 @@
 -- What an answer to lent bytes says and stores, where a test of them may refuse them first; and that an answered list has no more than its places.
-use mathlib.Core.Path.{◌≡◌, refl, sym, ◌∙◌, subst}
+use mathlib.Core.Path.{◌≡◌, refl, sym, ap, ◌∙◌, subst}
 use mathlib.Core.Bool.{Bool, false}
 use mathlib.Core.List.{List}
 use Prim.Native.Nat.{ℕ, ◌≤◌, ◌<◌}
@@ -8,12 +8,15 @@ use lib.Ieee.{Float}
 use Rattle.std.specs.Prelude.{Result, Ok, IfOk}
 use Rattle.angle.specs.declared.Sine.{Sine}
 use Rattle.refusals.specs.declared.Refusal.{Refusal}
+use Rattle.tally.specs.declared.Tallied.{Tallied}
+use Rattle.tally.specs.Tally.{answer_in}
 use Rattle.roots.specs.declared.Roots.{Roots}
 use Rattle.roots.specs.Listed.{Fits}
-use Rattle.poly.specs.RealRoots.{real_roots_of, roots_in}
+use Rattle.poly.specs.RealRoots.{real_roots_of, real_roots_systems_of, roots_in}
 use Rattle.poly.specs.Short.{short_of}
 use Rattle.poly.proofs.Sums.{answer_fits}
 use Rattle.poly.proofs.Short.{short_lists}
+use Rattle.poly.proofs.Systems.{short_systems}
 use Rattle.contact.specs.declared.Path.{Path}
 use Rattle.contact.specs.declared.Circle.{Circle}
 use Rattle.contact.specs.Contact.{pin_contact_of}
@@ -37,23 +40,28 @@ pub answered_then : (n k : ℕ) (ys : List Float) {l : List ℕ} {p b : Bool} {r
 answered_then n k ys e t w = answered_as (is_given n k e t refl) refl w
 
 -- ---- an answered list
-module _ {answer s : Result Roots Refusal} {x : Roots} (fits : Fits (roots_in answer)) (is : s ≡ answer) (e : s ≡ Ok x) where
-  answered_fits : Fits x
-  answered_fits = subst (λ (a : Result Roots Refusal). Fits (roots_in a)) (sym is ∙ e) fits
+module _ {answer : Result Roots Refusal} {s : Result (Tallied Roots) Refusal} {x : Tallied Roots} (fits : Fits (roots_in answer)) (is : answer_in s ≡ answer)
+    (e : s ≡ Ok x) where
+  answered_fits : Fits x.value
+  answered_fits = subst (λ (a : Result Roots Refusal). Fits (roots_in a)) (sym is ∙ ap answer_in e) fits
 
-module _ {s : Result Roots Refusal} {x : Roots} where
-  pub contact_fits : (sine : Sine) (confusion : Float) (path : Path) (circle : Circle) → s ≡ pin_contact_of sine confusion path circle → s ≡ Ok x → Fits x
+module _ {s : Result (Tallied Roots) Refusal} {x : Tallied Roots} where
+  pub contact_fits : (sine : Sine) (confusion : Float) (path : Path) (circle : Circle) → answer_in s ≡ pin_contact_of sine confusion path circle → s ≡ Ok x
+      → Fits x.value
   contact_fits sine confusion path circle is e = answered_fits (contacts sine confusion path circle).array is e
 
-  pub list_fits : (sine : Sine) (coeffs : List Float) (tol : Float) → s ≡ real_roots_of sine coeffs tol → s ≡ Ok x → Fits x
+  pub list_fits : (sine : Sine) (coeffs : List Float) (tol : Float) → answer_in s ≡ real_roots_of sine coeffs tol → s ≡ Ok x → Fits x.value
   list_fits sine coeffs tol is e = answered_fits (answer_fits sine coeffs tol) is e
 
-  pub text_fits : (sine : Sine) (text : List ℕ) (tol : Float) → s ≡ formula_roots_of sine text tol → s ≡ Ok x → Fits x
+  pub text_fits : (sine : Sine) (text : List ℕ) (tol : Float) → answer_in s ≡ formula_roots_of sine text tol → s ≡ Ok x → Fits x.value
   text_fits sine text tol is e = answered_fits (formula_fits sine text tol) is e
 
-pub list_short : (sine : Sine) (coeffs short : List Float) (tol : Float) {s : Result Roots Refusal} → short ≡ short_of coeffs
-    → s ≡ real_roots_of sine short tol → s ≡ real_roots_of sine coeffs tol
-list_short sine coeffs short tol h is = rw h at is ∙ short_lists sine coeffs tol
+module _ (sine : Sine) (coeffs short : List Float) (tol : Float) (h : short ≡ short_of coeffs) where
+  pub list_short : {answer : Result Roots Refusal} → answer ≡ real_roots_of sine short tol → answer ≡ real_roots_of sine coeffs tol
+  list_short is = rw h at is ∙ short_lists sine coeffs tol
+
+  pub count_short : {systems : ℕ} → systems ≡ real_roots_systems_of sine short tol → systems ≡ real_roots_systems_of sine coeffs tol
+  count_short is = rw h at is ∙ short_systems sine coeffs tol
 
 pub few_coefficients : (text : List ℕ) {s : Result Expanded Refusal} {x : Expanded} → s ≡ expand_of text → s ≡ Ok x → x.len ≤ 5
 few_coefficients text is e = subst (λ (r : Result Expanded Refusal). IfOk r (λ (e : Expanded). e.len ≤ 5)) (sym is ∙ e) (few text)
@@ -61,7 +69,7 @@ few_coefficients text is e = subst (λ (r : Result Expanded Refusal). IfOk r (λ
 -- ---- for `using`
 pub ruleset contact_told = (told_list, contact_fits)
 
-pub ruleset list_told = (unstored, told_list, list_fits, list_short)
+pub ruleset list_told = (unstored, told_list, list_fits, list_short, count_short)
 
 pub ruleset inquiry_told = (unstored, inquired_fits)
 

@@ -9,6 +9,8 @@ use lib.Ieee.{Float}
 use Rattle.std.specs.Prelude.{Some, Result, Ok, Err}
 use Rattle.facts.specs.Lists.{length_snoc}
 use Rattle.angle.specs.declared.Sine.{Sine}
+use Rattle.tally.specs.declared.Tallied.{Tallied}
+use Rattle.tally.specs.Tally.{answer_in, systems_in}
 use Rattle.refusals.specs.declared.Refusal.{Refusal}
 use Rattle.refusals.specs.declared.Refusal.TheVariants.{NothingAsked}
 use Rattle.refusals.specs.Refusals.{outcome_of, number_in, value_or, and_then}
@@ -17,7 +19,9 @@ use Rattle.roots.specs.Listed.{Fits}
 use Rattle.poly.specs.declared.Solved.{Solved}
 use Rattle.poly.specs.Short.{short_of}
 use Rattle.poly.specs.Solve.{solve_of}
+use Rattle.poly.specs.RealRoots.{real_roots_systems_of}
 use Rattle.poly.proofs.Refusals.{then_number}
+use Rattle.poly.proofs.Systems.{short_systems}
 use Rattle.asking.specs.Asking.{Asking, Stage, asks, ended, walked, left_by}
 use Rattle.asking.proofs.Laws.{ended_more, asks_more, none_left}
 use Rattle.touching.specs.declared.Replies.{Replies}
@@ -30,18 +34,18 @@ use Rattle.inquiry.specs.Start.{real_roots_touching, fresh_by, start_of, inquiry
 use Rattle.inquiry.proofs.Questions.{reply_taken, reply_refused}
 use Rattle.inquiry.proofs.Shown.{seen_fits}
 use Rattle.inquiry.proofs.Short.{short_starts}
+use Rattle.inquiry.proofs.Systems.{after_keeps, start_systems}
 use Rattle.inquiry.proofs.Theorem.{Has, has_seen, has_asked, has_more, start_has, start_room}
 use Rattle.trig_quartic.specs.declared.TrigEquation.{TrigEquation}
-use Rattle.trig_quartic.specs.declared.Crank.{Crank}
-use Rattle.trig_quartic.specs.Crank.{crank_front_of}
 use Rattle.crank.specs.declared.CrankShown.{CrankShown}
 use Rattle.crank.specs.declared.CrankInquiry.{CrankInquiry}
-use Rattle.crank.specs.Crank.{crank_start_of, crank_in, crank_asked_of, crank_replied_of, crank_shown_of}
+use Rattle.crank.specs.Crank.{trig_quartic_of, crank_start_of, crank_in, crank_asked_of, crank_replied_of, crank_shown_of, crank_systems_of}
+use Rattle.crank.proofs.Front.{same_inquiry}
 use Rattle.lent_bytes.specs.Numbers.{number}
 use Rattle.lent_bytes.specs.Bytes.{Answered}
-use Rattle.pongewaru.proofs.Answers.{Mapped, told_as}
+use Rattle.pongewaru.proofs.Answers.{Mapped, told_as, same_number}
 use Rattle.pongewaru.specs.Inquiries.{reply_at, each_reply, shown_numbers, fresh, next, fed_all, inquiry_numbers, first_replies, seen_numbers}
-use Rattle.pongewaru.specs.Cranks.{next_crank, crank_fed_all, crank_numbers, shown_after, crank_shown_numbers}
+use Rattle.pongewaru.specs.Cranks.{next_crank, crank_numbers, shown_after, crank_shown_numbers}
 
 -- ---- what is said of a reply, and what an inquiry shows: a number, and a question or a list
 abbrev step : Inquiry → Result Inquiry Refusal → ℕ × Inquiry
@@ -56,8 +60,15 @@ told s = showing (number_in s.refused) s.asked
 abbrev seen_after : ℕ × Inquiry → ℕ × Asked
 seen_after f = showing f.0 (asked_of f.1)
 
-abbrev told_numbers : ℕ × Asked → List Float
-told_numbers u = shown_numbers u.0 (is_question u.1) (place_of u.1) (list_in u.1)
+-- beside how many systems were solved for it
+abbrev shown_by : ℕ → ℕ × Asked → List Float
+shown_by systems u = shown_numbers u.0 (is_question u.1) (place_of u.1) (list_in u.1) systems
+
+-- .. which replies leave as it was
+fed_all_keeps : (rs : List ℕ) (p : ℕ × Inquiry) → (each_reply next rs p).1.systems ≡ p.1.systems
+unfolding each_reply
+fed_all_keeps [] p = refl
+fed_all_keeps (b ∷ rs) p = fed_all_keeps rs (next p (reply_at b)) ∙ after_keeps p.1 (reply_at b)
 
 -- ---- an inquiry that asks nothing refuses each reply
 refuses : (rs : List ℕ) (p : Inquiry) → is_question (asked_of p) ≡ false → each_reply next rs (step p (Err NothingAsked)) ≡ step p (Err NothingAsked)
@@ -129,53 +140,65 @@ module _ (sine : Sine) (coeffs : List Float) (tol : Float) (rs : List ℕ) where
   unfolding start_of
   q_given = start_given (solve_of sine coeffs tol)
 
-  fed_once : seen_numbers (seen_of (given q (first_replies rs))) ≡ inquiry_numbers (fed_all rs q)
+  fed_once : seen_numbers (seen_of (given q (first_replies rs))) q.systems ≡ inquiry_numbers (fed_all rs q)
   unfolding first_replies inquiry_numbers
   fed_once =
       let t = real_roots_touching sine coeffs tol in
-      sym (ap told_numbers
+      sym (ap (λ (n : ℕ). shown_by n (seen_after (fed_all rs q))) (fed_all_keeps rs (fresh q)) ∙ ap (shown_by q.systems)
       (ap (λ (p : Inquiry). seen_after (each_reply next rs (fresh p))) q_given
       ∙ once q t (start_room sine coeffs tol) rs 3 [] no_replies (subst (Has t []) q_given (start_has sine coeffs tol)) refl (none_left t)))
 
 -- what `shown_after` gives for the six numbers in place of the coefficients
-module _ (sine : Sine) (coeffs : List Float) (tol : Float) (rs : List ℕ) (s : Result Seen Refusal)
-    (is : s ≡ shown_after_of sine (short_of coeffs) tol (first_replies rs)) where
+abbrev pub seen_told : Tallied Seen → List Float
+seen_told t = seen_numbers t.value t.systems
+
+module _ (sine : Sine) (coeffs : List Float) (tol : Float) (rs : List ℕ) (s : Result (Tallied Seen) Refusal)
+    (is : answer_in s ≡ shown_after_of sine (short_of coeffs) tol (first_replies rs))
+    (count : systems_in s ≡ real_roots_systems_of sine (short_of coeffs) tol) where
   abbrev shows : Result Inquiry Refusal → Result Seen Refusal
   shows start = and_then start (λ p. Ok (seen_of (given p (first_replies rs))))
 
-  short_shows : s ≡ shows (start_of sine coeffs tol)
+  short_shows : answer_in s ≡ shows (start_of sine coeffs tol)
   unfolding shown_after_of
   short_shows = is ∙ ap shows (short_starts sine coeffs tol)
 
   shown_number : outcome_of s ≡ outcome_of (start_of sine coeffs tol)
-  shown_number = ap outcome_of short_shows ∙ then_number (λ p. seen_of (given p (first_replies rs))) (start_of sine coeffs tol)
+  shown_number =
+      same_number s ∙ ap outcome_of short_shows ∙ then_number (λ p. seen_of (given p (first_replies rs))) (start_of sine coeffs tol)
 
-  module _ (x : Seen) (e : s ≡ Ok x) where
-    shown_is : x ≡ seen_of (given (inquiry_in (start_of sine coeffs tol)) (first_replies rs))
-    shown_is = go (start_of sine coeffs tol) (sym short_shows ∙ e)
+  module _ (x : Tallied Seen) (e : s ≡ Ok x) where
+    shown_is : x.value ≡ seen_of (given (inquiry_in (start_of sine coeffs tol)) (first_replies rs))
+    shown_is = go (start_of sine coeffs tol) (sym short_shows ∙ ap answer_in e)
       where
-        go : (start : Result Inquiry Refusal) → shows start ≡ Ok x → x ≡ seen_of (given (inquiry_in start) (first_replies rs))
+        go : (start : Result Inquiry Refusal) → shows start ≡ Ok x.value → x.value ≡ seen_of (given (inquiry_in start) (first_replies rs))
         go (Ok p) h = cc
         go (Err refusal) h = absurd cc
 
-    shown_fits : Fits (list_in x.asked)
+    shown_count : x.systems ≡ (inquiry_in (start_of sine coeffs tol)).systems
+    shown_count = sym (ap systems_in e) ∙ count ∙ short_systems sine coeffs tol ∙ sym (start_systems sine coeffs tol)
+
+    shown_fits : Fits (list_in x.value.asked)
     shown_fits = subst⁻¹ (λ (t : Seen). Fits (list_in t.asked)) shown_is (seen_fits _)
 
-    shown_numbers_are : seen_numbers x ≡ inquiry_numbers (fed_all rs (inquiry_in (start_of sine coeffs tol)))
-    shown_numbers_are = ap seen_numbers shown_is ∙ fed_once sine coeffs tol rs
+    shown_numbers_are : seen_told x ≡ inquiry_numbers (fed_all rs (inquiry_in (start_of sine coeffs tol)))
+    shown_numbers_are = (λ i. seen_numbers (shown_is i) (shown_count i)) ∙ fed_once sine coeffs tol rs
 
 -- for `using`: of the replies f that are put in at once, the six numbers in place of the coefficients
-module _ (sine : Sine) (coeffs short : List Float) (tol : Float) (rs : List ℕ) (f : Replies) (s : Result Seen Refusal) (h : short ≡ short_of coeffs)
-    (first : f ≡ first_replies rs) (is : s ≡ shown_after_of sine short tol f) where
-  in_short : s ≡ shown_after_of sine (short_of coeffs) tol (first_replies rs)
+module _ (sine : Sine) (coeffs short : List Float) (tol : Float) (rs : List ℕ) (f : Replies) (s : Result (Tallied Seen) Refusal) (h : short ≡ short_of coeffs)
+    (first : f ≡ first_replies rs) (is : answer_in s ≡ shown_after_of sine short tol f) (count : systems_in s ≡ real_roots_systems_of sine short tol) where
+  in_short : answer_in s ≡ shown_after_of sine (short_of coeffs) tol (first_replies rs)
   in_short = rw (h, first) at is
 
-  pub inquired_fits : {x : Seen} → s ≡ Ok x → Fits (list_in x.asked)
-  inquired_fits e = shown_fits sine coeffs tol rs s in_short _ e
+  count_in_short : systems_in s ≡ real_roots_systems_of sine (short_of coeffs) tol
+  count_in_short = rw h at count
 
-  pub inquired : (y : Result (List Float) Refusal) {l : List ℕ} {r : ℕ} {m : List ℕ} → Mapped seen_numbers s y → Answered (outcome_of y) (value_or [] y) l r m
+  pub inquired_fits : {x : Tallied Seen} → s ≡ Ok x → Fits (list_in x.value.asked)
+  inquired_fits e = shown_fits sine coeffs tol rs s in_short count_in_short _ e
+
+  pub inquired : (y : Result (List Float) Refusal) {l : List ℕ} {r : ℕ} {m : List ℕ} → Mapped seen_told s y → Answered (outcome_of y) (value_or [] y) l r m
       → Answered (outcome_of (start_of sine coeffs tol)) (inquiry_numbers (fed_all rs (inquiry_in (start_of sine coeffs tol)))) l r m
-  inquired y same a = told_as seen_numbers s y same (shown_number sine coeffs tol rs s in_short) (shown_numbers_are sine coeffs tol rs s in_short) a
+  inquired y same a =
+      told_as seen_told s y same (shown_number sine coeffs tol rs s in_short count_in_short) (shown_numbers_are sine coeffs tol rs s in_short count_in_short) a
 
 -- ---- a crank's inquiry, k beside it
 abbrev with : ℕ → Inquiry → CrankInquiry
@@ -195,60 +218,59 @@ crank_fed_is k [] p = refl
 crank_fed_is k (b ∷ rs) p =
     ap (each_reply next_crank rs) (crank_step k p.1 (replied_of p.1 (reply_at b))) ∙ crank_fed_is k rs (next p (reply_at b))
 
-module _ (sine : Sine) (confusion : Float) (trig : TrigEquation) (rs : List ℕ) (s : Result CrankShown Refusal)
-    (is : s ≡ crank_shown_of sine confusion trig (first_replies rs)) where
+-- what a crank's start shows, of a refused one too
+module _ (sine : Sine) (confusion : Float) (trig : TrigEquation) (rs : List ℕ) where
+  abbrev begun : CrankInquiry
+  begun = crank_in (crank_start_of sine confusion trig)
+
+  crank_once : number begun.k ∷ seen_numbers (seen_of (given begun.inquiry (first_replies rs))) begun.inquiry.systems
+      ≡ shown_after rs (crank_start_of sine confusion trig)
+  unfolding crank_numbers crank_asked_of inquiry_numbers
+  crank_once =
+      let once = subst⁻¹ (λ (i : Inquiry). seen_numbers (seen_of (given i (first_replies rs))) i.systems ≡ inquiry_numbers (fed_all rs i))
+      (same_inquiry trig sine confusion) (fed_once sine (trig_quartic_of trig) confusion rs) in
+      ap (λ (l : List Float). number begun.k ∷ l) once ∙ sym (ap crank_numbers (crank_fed_is begun.k rs (fresh begun.inquiry)))
+
+abbrev pub crank_told : Tallied CrankShown → List Float
+crank_told t = crank_shown_numbers t.value t.systems
+
+module _ (sine : Sine) (confusion : Float) (trig : TrigEquation) (rs : List ℕ) (s : Result (Tallied CrankShown) Refusal)
+    (is : answer_in s ≡ crank_shown_of sine confusion trig (first_replies rs)) (count : systems_in s ≡ crank_systems_of sine confusion trig) where
   abbrev shows_at : CrankInquiry → CrankShown
   shows_at c = record { k = c.k; seen = seen_of (given c.inquiry (first_replies rs)) }
 
   crank_number : outcome_of s ≡ outcome_of (crank_start_of sine confusion trig)
   unfolding crank_shown_of
-  crank_number = ap outcome_of is ∙ then_number shows_at (crank_start_of sine confusion trig)
+  crank_number = same_number s ∙ ap outcome_of is ∙ then_number shows_at (crank_start_of sine confusion trig)
 
-  module _ (x : CrankShown) (e : s ≡ Ok x) where
-    crank_is : x ≡ shows_at (crank_in (crank_start_of sine confusion trig))
+  module _ (x : Tallied CrankShown) (e : s ≡ Ok x) where
+    crank_is : x.value ≡ shows_at (crank_in (crank_start_of sine confusion trig))
     unfolding crank_shown_of
-    crank_is = go (crank_start_of sine confusion trig) (sym is ∙ e)
+    crank_is = go (crank_start_of sine confusion trig) (sym is ∙ ap answer_in e)
       where
-        go : (start : Result CrankInquiry Refusal) → and_then start (λ c. Ok (shows_at c)) ≡ Ok x → x ≡ shows_at (crank_in start)
+        go : (start : Result CrankInquiry Refusal) → and_then start (λ c. Ok (shows_at c)) ≡ Ok x.value → x.value ≡ shows_at (crank_in start)
         go (Ok c) h = cc
         go (Err refusal) h = absurd cc
 
-    crank_fits : Fits (list_in x.seen.asked)
+    crank_count : x.systems ≡ (crank_in (crank_start_of sine confusion trig)).inquiry.systems
+    unfolding crank_systems_of
+    crank_count = sym (ap systems_in e) ∙ count
+
+    crank_fits : Fits (list_in x.value.seen.asked)
     crank_fits = subst⁻¹ (λ (t : CrankShown). Fits (list_in t.seen.asked)) crank_is (seen_fits _)
 
-    crank_numbers_are : crank_shown_numbers x ≡ shown_after rs (crank_start_of sine confusion trig)
-    unfolding crank_start_of crank_shown_of crank_numbers crank_asked_of inquiry_numbers
-    crank_numbers_are = by_front (crank_front_of trig) (sym is ∙ e)
-      where
-        shows : Result CrankInquiry Refusal → Result CrankShown Refusal
-        shows start = and_then start (λ c. Ok (shows_at c))
+    crank_numbers_are : crank_told x ≡ shown_after rs (crank_start_of sine confusion trig)
+    crank_numbers_are = (λ i. crank_shown_numbers (crank_is i) (crank_count i)) ∙ crank_once sine confusion trig rs
 
-        started : Crank → Result Inquiry Refusal → Result CrankInquiry Refusal
-        started front start = and_then start (λ i. Ok (with front.k i))
-
-        by_start : (front : Crank) (start : Result Inquiry Refusal) → start_of sine front.q confusion ≡ start → shows (started front start) ≡ Ok x
-            → crank_shown_numbers x ≡ crank_numbers (crank_fed_all rs (crank_in (started front start)))
-        by_start front (Ok i) h e =
-            let is : x ≡ shows_at (with front.k i) = cc in
-            let fed = subst (λ (st : Result Inquiry Refusal). seen_numbers (seen_of (given (inquiry_in st) (first_replies rs)))
-            ≡ inquiry_numbers (fed_all rs (inquiry_in st))) h (fed_once sine front.q confusion rs) in
-            ap crank_shown_numbers is ∙ ap (λ (l : List Float). number front.k ∷ l) fed ∙ sym (ap crank_numbers (crank_fed_is front.k rs (fresh i)))
-        by_start front (Err refusal) h e = absurd cc
-
-        by_front : (front : Result Crank Refusal) → shows (and_then front (λ front. started front (start_of sine front.q confusion))) ≡ Ok x
-            → crank_shown_numbers x ≡ crank_numbers (crank_fed_all rs (crank_in (and_then front (λ front. started front (start_of sine front.q confusion)))))
-        by_front (Ok front) e = by_start front (start_of sine front.q confusion) refl e
-        by_front (Err refusal) e = absurd cc
-
-module _ (sine : Sine) (confusion : Float) (trig : TrigEquation) (rs : List ℕ) (f : Replies) (s : Result CrankShown Refusal) (first : f ≡ first_replies rs)
-    (is : s ≡ crank_shown_of sine confusion trig f) where
-  cranked : s ≡ crank_shown_of sine confusion trig (first_replies rs)
+module _ (sine : Sine) (confusion : Float) (trig : TrigEquation) (rs : List ℕ) (f : Replies) (s : Result (Tallied CrankShown) Refusal)
+    (first : f ≡ first_replies rs) (is : answer_in s ≡ crank_shown_of sine confusion trig f) (count : systems_in s ≡ crank_systems_of sine confusion trig) where
+  cranked : answer_in s ≡ crank_shown_of sine confusion trig (first_replies rs)
   cranked = rw first at is
 
-  pub turned_fits : {x : CrankShown} → s ≡ Ok x → Fits (list_in x.seen.asked)
-  turned_fits e = crank_fits sine confusion trig rs s cranked _ e
+  pub turned_fits : {x : Tallied CrankShown} → s ≡ Ok x → Fits (list_in x.value.seen.asked)
+  turned_fits e = crank_fits sine confusion trig rs s cranked count _ e
 
-  pub turned : (y : Result (List Float) Refusal) {l : List ℕ} {r : ℕ} {m : List ℕ} → Mapped crank_shown_numbers s y
-      → Answered (outcome_of y) (value_or [] y) l r m
+  pub turned : (y : Result (List Float) Refusal) {l : List ℕ} {r : ℕ} {m : List ℕ} → Mapped crank_told s y → Answered (outcome_of y) (value_or [] y) l r m
       → Answered (outcome_of (crank_start_of sine confusion trig)) (shown_after rs (crank_start_of sine confusion trig)) l r m
-  turned y same a = told_as crank_shown_numbers s y same (crank_number sine confusion trig rs s cranked) (crank_numbers_are sine confusion trig rs s cranked) a
+  turned y same a =
+      told_as crank_told s y same (crank_number sine confusion trig rs s cranked count) (crank_numbers_are sine confusion trig rs s cranked count) a

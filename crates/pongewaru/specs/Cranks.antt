@@ -20,11 +20,11 @@ crank_fed_all rs c = each_reply next_crank rs (0, c)
 unfoldable pub crank_numbers : ℕ × CrankInquiry → List Float
 crank_numbers p =
     let a = crank_asked_of p.1 in
-    number a.k ∷ shown_numbers p.0 (is_question a.asked) (place_of a.asked) (list_in a.asked)
+    number a.k ∷ shown_numbers p.0 (is_question a.asked) (place_of a.asked) (list_in a.asked) p.1.inquiry.systems
 
 abbrev pub shown_after : List ℕ → Result CrankInquiry Refusal → List Float
 shown_after rs s = crank_numbers (crank_fed_all rs (crank_in s))
 
 -- the same of replies that were put in at once
-abbrev pub crank_shown_numbers : CrankShown → List Float
-crank_shown_numbers s = number s.k ∷ seen_numbers s.seen
+abbrev pub crank_shown_numbers : CrankShown → ℕ → List Float
+crank_shown_numbers s systems = number s.k ∷ seen_numbers s.seen systems

@@ -6,11 +6,11 @@ use Rattle.refusals.specs.Refusals.{number_of, outcome_of}
 use Rattle.poly.specs.RealRoots.{roots_in}
 use Rattle.formula.specs.declared.Expanded.{Expanded}
 use Rattle.formula.specs.Formula.{expand_of}
-use Rattle.formula_roots.specs.FormulaRoots.{formula_roots_of}
+use Rattle.formula_roots.specs.FormulaRoots.{formula_roots_of, formula_systems_of}
 use Rattle.formula_roots.specs.Claims.{expanded_in}
 use Rattle.lent_bytes.specs.Bytes.{unless}
 use Rattle.lent_bytes.specs.Numbers.{number, five}
-use Rattle.lent_bytes.specs.Lists.{root_numbers}
+use Rattle.pongewaru.specs.Lists.{told_numbers}
 
 -- the text has more bytes than a record holds
 abbrev pub too_long : List ℕ → Bool
@@ -21,7 +21,7 @@ abbrev pub formula_refusal : Sine → List ℕ → Float → ℕ
 formula_refusal sine s tol = unless (number_of TextTooLong) (too_long s) (outcome_of (formula_roots_of sine s tol))
 
 abbrev pub formula_numbers : Sine → List ℕ → Float → List Float
-formula_numbers sine s tol = root_numbers (roots_in (formula_roots_of sine s tol))
+formula_numbers sine s tol = told_numbers (roots_in (formula_roots_of sine s tol)) (formula_systems_of sine s tol)
 
 -- how many coefficients there are, and all five
 abbrev pub expanded_numbers : Expanded → List Float

@@ -14,8 +14,7 @@ use Rattle.inquiry.specs.Start.{start_of, inquiry_in}
 use Rattle.lent_bytes.specs.Bytes.{unless}
 use Rattle.lent_bytes.specs.Numbers.{number, flag_of}
 use Rattle.lent_coefficients.specs.Coefficients.{coefficients_at}
-use Rattle.lent_bytes.specs.Lists.{root_numbers}
-use Rattle.pongewaru.specs.Lists.{not_doubles}
+use Rattle.pongewaru.specs.Lists.{not_doubles, told_numbers}
 
 -- a reply's byte: 0 is no, every other one yes
 abbrev pub reply_at : ℕ → Bool
@@ -27,9 +26,9 @@ module _ {A : Type 0} where
   each_reply f [] p = p
   each_reply f (b ∷ rs) p = each_reply f rs (f p (reply_at b))
 
--- the last reply's number, 4 from the first refused one on; whether there is a question, its place, and the list
-unfoldable pub shown_numbers : ℕ → Bool → Float → Roots → List Float
-shown_numbers n asks place list = number n ∷ flag_of asks ∷ place ∷ root_numbers list
+-- the last reply's number, 4 from the first refused one on; whether there is a question, its place, and the list; how many systems were solved
+unfoldable pub shown_numbers : ℕ → Bool → Float → Roots → ℕ → List Float
+shown_numbers n asks place list systems = number n ∷ flag_of asks ∷ place ∷ told_numbers list systems
 
 -- ---- lists
 -- the last reply's number, and the inquiry
@@ -44,7 +43,7 @@ abbrev pub fed_all : List ℕ → Inquiry → ℕ × Inquiry
 fed_all rs q = each_reply next rs (fresh q)
 
 unfoldable pub inquiry_numbers : ℕ × Inquiry → List Float
-inquiry_numbers p = let a = asked_of p.1 in shown_numbers p.0 (is_question a) (place_of a) (list_in a)
+inquiry_numbers p = let a = asked_of p.1 in shown_numbers p.0 (is_question a) (place_of a) (list_in a) p.1.systems
 
 -- the inquiry about the doubles in the bytes
 unfoldable pub start_at : Sine → List ℕ → Float → Result Inquiry Refusal
@@ -62,5 +61,5 @@ shown_at sine s tol rs = inquiry_numbers (fed_all rs (inquiry_in (start_at sine 
 unfoldable pub first_replies : List ℕ → Replies
 first_replies rs = each_reply replied_by (take 4 rs) no_replies
 
-abbrev pub seen_numbers : Seen → List Float
-seen_numbers s = let a = s.asked in shown_numbers (number_in s.refused) (is_question a) (place_of a) (list_in a)
+abbrev pub seen_numbers : Seen → ℕ → List Float
+seen_numbers s systems = let a = s.asked in shown_numbers (number_in s.refused) (is_question a) (place_of a) (list_in a) systems

@@ -1,18 +1,16 @@
-// Pin contacts from the numbers of a path and a circle; the list out as for `pongewaru_real_roots`. The answer is how many bytes are stored, 104, or the number
+// Pin contacts from the numbers of a path and a circle; the list out as for `pongewaru_real_roots`. The answer is how many bytes are stored, 112, or the number
 // of the refusal, or 0 where those lent are too few: nothing is stored then.
 ghost use Rattle.refusals.specs.Refusals.{outcome_of};
-ghost use Rattle.poly.specs.RealRoots.{roots_in};
 ghost use Rattle.angle.specs.declared.Sine.TheVariants.{OfExact};
 ghost use Rattle.angle.specs.Third.{sine_numbered};
 ghost use Rattle.lent_bytes.specs.Bytes.{Answered};
-ghost use Rattle.lent_bytes.specs.Lists.{root_numbers};
-ghost use Rattle.pongewaru.specs.Contacts.{contact_of};
+ghost use Rattle.pongewaru.specs.Contacts.{contact_of, contact_numbers};
 
 use crate::SINE_OF_EXACT;
+use crate::lists::told_numbers;
 use angle::Sine;
 use contact::{Circle, Path};
 use lent_bytes::answer;
-use lent_bytes::lists::root_numbers;
 
 #[unsafe(no_mangle)]
 #[tactic(auto, using(crate::proofs::Listing::contact_told))]
@@ -31,7 +29,7 @@ pub extern "C" fn pongewaru_pin_contact_by(
     out: &mut [u8],
 ) -> u64
     ensures { Answered (outcome_of (contact_of (sine_numbered sine) confusion x0 x1 x2 y0 y1 y2 cx cy r))
-        (root_numbers (roots_in (contact_of (sine_numbered sine) confusion x0 x1 x2 y0 y1 y2 cx cy r))) out.old result out.new }
+        (contact_numbers (sine_numbered sine) confusion x0 x1 x2 y0 y1 y2 cx cy r) out.old result out.new }
 {
     let path = Path {
         x0,
@@ -43,7 +41,7 @@ pub extern "C" fn pongewaru_pin_contact_by(
     };
     let circle = Circle { cx, cy, r };
     let list = contact::pin_contact(Sine::from(sine), confusion, path, circle);
-    answer(out, list.map(root_numbers))
+    answer(out, list.map(told_numbers))
 }
 
 #[unsafe(no_mangle)]
@@ -62,7 +60,7 @@ pub extern "C" fn pongewaru_pin_contact(
     out: &mut [u8],
 ) -> u64
     ensures { Answered (outcome_of (contact_of OfExact confusion x0 x1 x2 y0 y1 y2 cx cy r))
-        (root_numbers (roots_in (contact_of OfExact confusion x0 x1 x2 y0 y1 y2 cx cy r))) out.old result out.new }
+        (contact_numbers OfExact confusion x0 x1 x2 y0 y1 y2 cx cy r) out.old result out.new }
 {
     pongewaru_pin_contact_by(
         SINE_OF_EXACT,

@@ -1,5 +1,5 @@
 // Crank equations in lent bytes, from the start: the replies so far in, one byte each, 0 for no; k and then what the inquiry shows out, as for a list,
-// seventeen doubles. The answer is how many bytes are stored, 136, or the number of the refused start, or 0 where those lent are too few: nothing is stored
+// eighteen doubles. The answer is how many bytes are stored, 144, or the number of the refused start, or 0 where those lent are too few: nothing is stored
 // then.
 ghost use Rattle.std.specs.Prelude.{◌≡◌};
 ghost use Rattle.angle.specs.declared.Sine.TheVariants.{OfExact};
@@ -17,14 +17,16 @@ use crate::inquiries::{first_replies, seen_numbers};
 use angle::Sine;
 use crank::CrankShown;
 use lent_bytes::answer;
+use tally::Tallied;
 use trig_quartic::TrigEquation;
 
-fn crank_shown_numbers(s: CrankShown) -> [f64; 17]
-    requires { Fits (list_in s.seen.asked) }
-    ensures { result ≡ crank_shown_numbers s }
+fn crank_shown_numbers(s: Tallied<CrankShown>) -> [f64; 18]
+    requires { Fits (list_in s.value.seen.asked) }
+    ensures { result ≡ crank_shown_numbers s.value s.systems }
 {
-    let mut numbers = [f64::from(s.k); 17];
-    numbers[1..].copy_from_slice(&seen_numbers(s.seen));
+    let seen = s.with(s.value.seen);
+    let mut numbers = [f64::from(s.value.k); 18];
+    numbers[1..].copy_from_slice(&seen_numbers(seen));
     numbers
 }
 

@@ -1,5 +1,5 @@
 // Formulas from their texts in lent bytes: their roots out as for `pongewaru_real_roots`, or their coefficients, how many and all five, as doubles. The answer
-// is how many bytes are stored, 104 or 48, or the number of the refusal, or 0 where those lent are too few: nothing is stored then. A text of more than 255
+// is how many bytes are stored, 112 or 48, or the number of the refusal, or 0 where those lent are too few: nothing is stored then. A text of more than 255
 // bytes, which no record holds, is refused, and so the depth of its brackets, and with it the stack, is bounded.
 ghost use Rattle.std.specs.Prelude.{◌≡◌, ◌≤◌};
 ghost use Rattle.angle.specs.declared.Sine.TheVariants.{OfExact};
@@ -8,10 +8,10 @@ ghost use Rattle.lent_bytes.specs.Bytes.{Answered};
 ghost use Rattle.pongewaru.specs.Formulas.{too_long, formula_refusal, formula_numbers, expanded_numbers, coefficients_refusal, coefficients_numbers};
 
 use crate::SINE_OF_EXACT;
+use crate::lists::told_numbers;
 use angle::Sine;
 use formula::Expanded;
 use lent_bytes::answer;
-use lent_bytes::lists::root_numbers;
 use refusals::Refusal;
 
 fn too_long(text: &[u8]) -> bool
@@ -35,7 +35,7 @@ pub extern "C" fn pongewaru_formula_roots_by(
         return answer::<0>(out, Err(Refusal::TextTooLong));
     }
     let list = formula_roots::formula_roots(Sine::from(sine), text, tol);
-    answer(out, list.map(root_numbers))
+    answer(out, list.map(told_numbers))
 }
 
 #[unsafe(no_mangle)]

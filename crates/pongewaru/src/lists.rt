@@ -1,11 +1,12 @@
-// Lists of roots in lent bytes: any number of coefficients in; the number of roots and four places with their multiplicities and kinds out, as doubles, zeros
-// after the last root. The answer is how many bytes are stored, 104, or the number of the refusal, that of the C functions where the bytes are no whole
-// doubles, or 0 where those lent are too few: nothing is stored then.
+// Lists of roots in lent bytes: any number of coefficients in; the number of roots and four places with their multiplicities and kinds, zeros after the last
+// root, and how many systems were solved for them, out as doubles. The answer is how many bytes are stored, 112, or the number of the refusal, that of the C
+// functions where the bytes are no whole doubles, or 0 where those lent are too few: nothing is stored then.
 ghost use Rattle.std.specs.Prelude.{◌≡◌};
 ghost use Rattle.angle.specs.declared.Sine.TheVariants.{OfExact};
 ghost use Rattle.angle.specs.Third.{sine_numbered};
 ghost use Rattle.lent_bytes.specs.Bytes.{Answered};
-ghost use Rattle.pongewaru.specs.Lists.{not_doubles, list_refusal, list_numbers};
+ghost use Rattle.roots.specs.Listed.{Fits};
+ghost use Rattle.pongewaru.specs.Lists.{told_numbers, not_doubles, list_refusal, list_numbers};
 
 use crate::SINE_OF_EXACT;
 use angle::Sine;
@@ -13,6 +14,19 @@ use lent_bytes::answer;
 use lent_bytes::lists::root_numbers;
 use lent_coefficients::short_at;
 use refusals::Refusal;
+use roots::Roots;
+use tally::Tallied;
+
+// The list, and how many systems were solved for it.
+#[tactic(auto, unfolding(crate::specs::Lists::told_numbers))]
+pub fn told_numbers(list: Tallied<Roots>) -> [f64; 14]
+    requires { Fits list.value }
+    ensures { result ≡ told_numbers list.value list.systems }
+{
+    let mut numbers = [list.systems as f64; 14];
+    numbers[..13].copy_from_slice(&root_numbers(list.value));
+    numbers
+}
 
 // The bytes are no whole doubles.
 pub fn not_doubles(s: &[u8]) -> bool
@@ -31,7 +45,7 @@ pub extern "C" fn pongewaru_real_roots_by(sine: u32, coeffs: &[u8], tol: f64, ou
         return answer::<0>(out, Err(Refusal::CutDouble));
     }
     let list = poly::real_roots(Sine::from(sine), &short_at(coeffs), tol);
-    answer(out, list.map(root_numbers))
+    answer(out, list.map(told_numbers))
 }
 
 #[unsafe(no_mangle)]

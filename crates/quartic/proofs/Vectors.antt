@@ -3,11 +3,11 @@ use mathlib.Core.Path.{◌≡◌, refl}
 use Prim.Native.Nat.{ℕ}
 use Rattle.angle.specs.declared.Sine.TheVariants.{OfRounded}
 use Rattle.cubic.proofs.Vectors.{bits, computes as cubics}
-use Rattle.quartic.specs.Quartic.{largest_of, resolvent_of, is_clear_of, ferrari_of, quartic_factor_of}
+use Rattle.quartic.specs.Quartic.{largest_of, resolvent_of, is_clear_of, ferrari_of, quartic_start_of, quartic_factor_of, quartic_systems_of}
 
 -- what has to unfold for the definitions to compute: a fact says `unfolding computes`
 unfoldable pub computes : ℕ
-unfolding cubics largest_of resolvent_of is_clear_of ferrari_of quartic_factor_of
+unfolding cubics largest_of resolvent_of is_clear_of ferrari_of quartic_start_of quartic_factor_of quartic_systems_of
 computes = 0
 
 quartic_ferrari : quartic_factor_of OfRounded (bits 0x3fe0_0000_0000_0000) (bits 0xbff4_0000_0000_0000) (bits 0x3fd3_3333_3333_3333)
@@ -29,3 +29,22 @@ quartic_biquadratic : quartic_factor_of OfRounded (bits 0x0000_0000_0000_0000) (
     }
 unfolding computes
 quartic_biquadratic = refl
+
+-- the systems that are solved
+
+quartic_two_systems : quartic_systems_of OfRounded (bits 0x3fe0_0000_0000_0000) (bits 0xbff4_0000_0000_0000) (bits 0x3fd3_3333_3333_3333)
+    (bits 0x3fb9_9999_9999_999a) ≡ 2
+unfolding computes
+quartic_two_systems = refl
+
+-- y^4 - 2*y^3 + 2^-66: the one call finds no step
+quartic_no_step : quartic_systems_of OfRounded (bits 0xc000_0000_0000_0000) (bits 0x0000_0000_0000_0000) (bits 0x0000_0000_0000_0000)
+    (bits 0x3bd0_0000_0000_0000) ≡ 1
+unfolding computes
+quartic_no_step = refl
+
+-- y^4 - 2*y^3 - 1.25*y^2: each turn halves the way to the double root, and the loop's limit ends them
+quartic_most_systems : quartic_systems_of OfRounded (bits 0xc000_0000_0000_0000) (bits 0xbff4_0000_0000_0000) (bits 0x0000_0000_0000_0000)
+    (bits 0x0000_0000_0000_0000) ≡ 8
+unfolding computes
+quartic_most_systems = refl

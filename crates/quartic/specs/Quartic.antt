@@ -8,7 +8,7 @@ use Rattle.float.specs.Literals.{zero64, tiny64, three256ths64, sixteenth64, eig
 use Rattle.float.specs.Methods.{abs_of, is_finite_of, copysign_of, max_of}
 use Rattle.sqrt.specs.Root.{sqrt_of}
 use Rattle.angle.specs.declared.Sine.{Sine}
-use Rattle.refine.specs.Refine.{refine_of}
+use Rattle.refine.specs.Refine.{refine_of, refine_systems_of}
 use Rattle.refine.specs.Systems.{quartic_system}
 use Rattle.refine.specs.Newton.{newton_cubic_of}
 use Rattle.quartic.specs.declared.QuarticFactor.{QuarticFactor}
@@ -55,9 +55,9 @@ ferrari_of p q r m =
     -- (0.0, z, if z != 0.0 { r / z } else { 0.0 })
     cond (is_clear_of p r m) (record { u = u; v = v; w = w }) (record { u = zero64; v = z; w = over_or r z zero64 })
 
--- `quartic_factor`, which answers `[(x[0], x[1]), (x[2], x[3])]`: with y = t + shift the quartic is t^4 + p*t^2 + q*t + r
-unfoldable pub quartic_factor_of : Sine → Float → Float → Float → Float → QuarticFactor
-quartic_factor_of sine b c d e =
+-- where the search for the factors begins: with y = t + shift the quartic is t^4 + p*t^2 + q*t + r
+unfoldable pub quartic_start_of : Sine → Float → Float → Float → Float → List Float
+quartic_start_of sine b c d e =
     -- let shift = -0.25 * b;
     let shift = neg quarter64 *ᶠ b in
     -- let b2 = b * b;
@@ -75,9 +75,18 @@ quartic_factor_of sine b c d e =
     -- let s2 = shift * shift;
     let s2 = shift *ᶠ shift in
     -- [u - 2.0 * shift, s2 - u * shift + v, -u - 2.0 * shift, s2 + u * shift + w,]
-    let al = u -ᶠ two64 *ᶠ shift in
-    let be = s2 -ᶠ u *ᶠ shift +ᶠ v in
-    let ga = neg u -ᶠ two64 *ᶠ shift in
-    let de = s2 +ᶠ u *ᶠ shift +ᶠ w in
-    let x = refine_of 4 (quartic_system b c d e) (al ∷ be ∷ ga ∷ de ∷ []) in
+    u -ᶠ two64 *ᶠ shift
+    ∷ s2 -ᶠ u *ᶠ shift +ᶠ v
+    ∷ neg u -ᶠ two64 *ᶠ shift
+    ∷ s2 +ᶠ u *ᶠ shift +ᶠ w
+    ∷ []
+
+-- `quartic_factor`, which answers `[(x[0], x[1]), (x[2], x[3])]`
+unfoldable pub quartic_factor_of : Sine → Float → Float → Float → Float → QuarticFactor
+quartic_factor_of sine b c d e =
+    let x = refine_of 4 (quartic_system b c d e) (quartic_start_of sine b c d e) in
     record { al = get_or x 0 nan; be = get_or x 1 nan; ga = get_or x 2 nan; de = get_or x 3 nan }
+
+-- how many systems are solved for it
+unfoldable pub quartic_systems_of : Sine → Float → Float → Float → Float → ℕ
+quartic_systems_of sine b c d e = refine_systems_of 4 (quartic_system b c d e) (quartic_start_of sine b c d e)

@@ -4,10 +4,11 @@
 
 ghost use Rattle.std.specs.Prelude.{◌≡◌};
 ghost use Rattle.cubic.specs.Cubic.{places_of, count_of};
-ghost use Rattle.quartic.specs.Quartic.{largest_of, resolvent_of, is_clear_of, ferrari_of, quartic_factor_of};
+ghost use Rattle.quartic.specs.Quartic.{largest_of, resolvent_of, is_clear_of, ferrari_of, quartic_factor_of, quartic_systems_of};
 
 use angle::Sine;
 use cubic::CubicRoots;
+use tally::Tallied;
 
 // (y^2 + al*y + be) * (y^2 + ga*y + de)
 #[derive(Clone, Copy)]
@@ -81,9 +82,10 @@ fn ferrari(p: f64, q: f64, r: f64, m: f64) -> Depressed
 }
 
 // With y = t + shift: t^4 + p*t^2 + q*t + r. (The coefficients one by one, as in poly.rs and as C hands them in.)
-#[tactic(auto, unfolding(crate::specs::Quartic::quartic_factor_of))]
-pub fn quartic_factor(sine: Sine, b: f64, c: f64, d: f64, e: f64) -> QuarticFactor
-    ensures { result ≡ quartic_factor_of sine b c d e }
+#[tactic(auto, unfolding(crate::specs::Quartic::quartic_factor_of, crate::specs::Quartic::quartic_systems_of, crate::specs::Quartic::quartic_start_of))]
+pub fn quartic_factor(sine: Sine, b: f64, c: f64, d: f64, e: f64) -> Tallied<QuarticFactor>
+    ensures value { result.value ≡ quartic_factor_of sine b c d e }
+    ensures systems { result.systems ≡ quartic_systems_of sine b c d e }
 {
     let shift = -0.25 * b;
     let b2 = b * b;
@@ -99,6 +101,7 @@ pub fn quartic_factor(sine: Sine, b: f64, c: f64, d: f64, e: f64) -> QuarticFact
         -t.u - 2.0 * shift,
         s2 + t.u * shift + t.w,
     ];
-    let [al, be, ga, de] = refine::refine_quartic(b, c, d, e, start);
-    QuarticFactor { al, be, ga, de }
+    let refined = refine::refine_quartic(b, c, d, e, start);
+    let [al, be, ga, de] = refined.value;
+    refined.with(QuarticFactor { al, be, ga, de })
 }

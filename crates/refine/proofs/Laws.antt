@@ -1,8 +1,8 @@
 -- One turn of `refine` and of `newton` by what its tests found: the shared facts of the sizes and the systems.
-use Rattle.std.proofs.Common.{◌≡◌, ℕ, ◌+◌, ◌-◌, ◌<◌, ◌≤◌, Bool, true, false, cond, List, get_or, sym, refl, ap, ◌∙◌, arith}
-use mathlib.Core.Option.{none, some}
+use Rattle.std.proofs.Common.{◌≡◌, ℕ, suc, ◌+◌, ◌-◌, ◌<◌, ◌≤◌, Bool, true, false, cond, List, get_or, sym, refl, ap, ◌∙◌, arith}
+use mathlib.Core.Option.{none, some, Option-elim}
 use Rattle.std.specs.Prelude.{Option as RustOption, None, Some}
-use native.Mathlib.Nat.{sub-zero}
+use native.Mathlib.Nat.{sub-zero, add-zero}
 use lib.ListN.{length-set}
 use lib.Ieee.{Float, binary64, sub, div}
 use Rattle.facts.specs.Count.{up_turn, up_end}
@@ -13,7 +13,7 @@ use Rattle.horner.specs.Horner.{value_slope_of}
 use Rattle.horner.specs.declared.ValueSlope.{ValueSlope}
 use Rattle.square.specs.Square.{solve_square_of}
 use Rattle.refine.specs.Refine.{System, over_of, weighted_of, norm_of, is_settled_of, weigh_row_of, weigh_rows_of, stepped_of, advanced_of, trial_of}
-use Rattle.refine.specs.Refine.{no_less_of, kept_of, next_of, refine_of}
+use Rattle.refine.specs.Refine.{no_less_of, kept_of, next_of, refine_of, turn_systems_of, turns_systems_of, refine_systems_of}
 use Rattle.refine.specs.Weighed.{weigh_of}
 use Rattle.refine.specs.Newton.{flat_of, no_gain_of, newton_by, newton_next, newton_cubic_of}
 use Rattle.refine.specs.declared.Weighed.{Weighed}
@@ -66,6 +66,31 @@ module _ (n : ℕ) (sys : System) (x : List Float) {at : Weighed n} (here : at �
       pub refine_moved : no_less_of at.norm there.norm ≡ false → next_of n sys x ≡ some y
       refine_moved t = compared ∙ rw t
 
+-- the systems solved: of one turn, by its first test, and of the turns left, where a turn ends the loop, where it moves, and at the end
+module _ (n : ℕ) (sys : System) (x : List Float) where
+  module _ {at : Weighed n} (here : at ≡ weigh_of n (sys.res x) (sys.mag x)) where
+    pub none_solved : is_settled_of at.norm ≡ true → turn_systems_of n sys x ≡ 0
+    unfolding turn_systems_of weigh_of
+    none_solved t = simp (rw here at t)
+
+    pub one_solved : is_settled_of at.norm ≡ false → turn_systems_of n sys x ≡ 1
+    unfolding turn_systems_of weigh_of
+    one_solved t = simp (rw here at t)
+
+  module _ (m i : ℕ) where
+    pub systems_stop : i < m → next_of n sys x ≡ none → turns_systems_of n sys (m - i) x ≡ turn_systems_of n sys x
+    unfolding turns_systems_of Option-elim
+    systems_stop h e = let g : m - i ≡ suc (m - (i + 1)) = omega arith in rw (g, e) (add-zero (turn_systems_of n sys x))
+
+    pub systems_go : {y : List Float} → i < m → next_of n sys x ≡ some y
+        → turns_systems_of n sys (m - i) x ≡ turn_systems_of n sys x + turns_systems_of n sys (m - (i + 1)) y
+    unfolding turns_systems_of Option-elim
+    systems_go h e = let g : m - i ≡ suc (m - (i + 1)) = omega arith in rw (g, e) refl
+
+    pub systems_end : m ≤ i → turns_systems_of n sys (m - i) x ≡ 0
+    unfolding turns_systems_of
+    systems_end h = let g : m - i ≡ 0 = omega arith in rw g refl
+
 -- one turn of `newton`
 module _ (f : Float → ValueSlope) (p : Float → Bool) (y : Float) {v : ValueSlope} (here : v ≡ f y) where
   pub newton_flat : flat_of v.value v.slope ≡ true → newton_by f p y ≡ none
@@ -99,8 +124,10 @@ pub ruleset loops = (sub-zero, length-set, up_turn, up_end, turns_stop, turns_go
 
 pub ruleset turn = (refine_settled, refine_stuck, refine_held, refine_moved, newton_flat, newton_barred, newton_held, newton_moved)
 
-pub ruleset laws = (loops, square_small, trial_none, trial_far, trial_there, turn)
+pub ruleset counted = (none_solved, one_solved, systems_stop, systems_go, systems_end)
+
+pub ruleset laws = (loops, square_small, trial_none, trial_far, trial_there, turn, counted)
 
 unfoldable pub definitions : ℕ
-unfolding over_of weighted_of norm_of is_settled_of weigh_row_of weigh_rows_of no_less_of refine_of weigh_of flat_of no_gain_of
+unfolding over_of weighted_of norm_of is_settled_of weigh_row_of weigh_rows_of no_less_of refine_of refine_systems_of weigh_of flat_of no_gain_of
 definitions = 0

@@ -1,3 +1,4 @@
--- What the functions' proofs share.
+-- What the functions' proofs share, and the most systems that are solved.
 pub mod Laws
 pub mod Sizes
+pub mod Most

@@ -1,7 +1,7 @@
 -- `refine` of poly.rs: Newton's method on a square system of any size n, each equation weighted by the magnitude of its terms. Definitions only.
-use Rattle.std.specs.Prelude.{ℕ, Bool, cond, not, ◌&&◌, ◌||◌, List, [], length, is_nan, slice_index_or, slice_set, Float}
+use Rattle.std.specs.Prelude.{ℕ, zero, suc, ◌+◌, Bool, cond, not, ◌&&◌, ◌||◌, List, [], length, is_nan, slice_index_or, slice_set, Float}
 use Rattle.std.specs.Prelude.{Option as RustOption, None, Some}
-use Rattle.std.proofs.Math.Option.{Option, none, some}
+use Rattle.std.proofs.Math.Option.{Option, none, some, Option-elim}
 use Rattle.std.specs.Float.{nan}
 use Rattle.std.specs.Float.Ieee.{lt, le}
 use Rattle.facts.specs.Arrays.{from_fn}
@@ -91,3 +91,18 @@ next_of n sys x =
 -- `refine`: `for _ in 0..8`
 unfoldable pub refine_of : ℕ → System → List Float → List Float
 refine_of n sys x = turns_of (next_of n sys) 8 x
+
+-- ---- how many systems are solved: request Seven of document 02
+-- of a turn at x: `solve_square(j, w, 0.0)` is called unless the loop breaks before, whether or not it finds a step
+unfoldable pub turn_systems_of : ℕ → System → List Float → ℕ
+turn_systems_of n sys x = cond (is_settled_of (norm_of (weighted_of n (sys.res x) (sys.mag x)))) 0 1
+
+-- of the turns of `refine` from x on, at most k
+unfoldable pub turns_systems_of : ℕ → System → ℕ → List Float → ℕ
+unfolding Option-elim
+turns_systems_of n sys zero x = 0
+turns_systems_of n sys (suc k) x = turn_systems_of n sys x + Option-elim (next_of n sys x) 0 (turns_systems_of n sys k)
+
+-- of `refine`: `for _ in 0..8`
+unfoldable pub refine_systems_of : ℕ → System → List Float → ℕ
+refine_systems_of n sys x = turns_systems_of n sys 8 x

@@ -1,10 +1,11 @@
 // Newton's method on square systems: `refine` of poly.rs at any size, for the factors of a cubic, the two quadratics of a quartic, and a quartic with one
-// root peeled off; and on one number, `newton`, for `newton_cubic` and `critical_point`. It rests on `square` (elimination), `horner` (evaluation), `float` and
-// `facts`; factoring and `critical` rest on it.
+// root peeled off; and on one number, `newton`, for `newton_cubic` and `critical_point`. It rests on `square` (elimination), `horner` (evaluation), `float`,
+// `facts` and `tally`; factoring and `critical` rest on it.
 #![tactic(auto, using(crate::proofs::Laws::laws), unfolding(crate::proofs::Laws::definitions))]
 
 ghost use Rattle.std.specs.Prelude.{◌≡◌, ◌≤◌, Float, Bool};
-ghost use Rattle.refine.specs.Refine.{System, over_of, weighted_of, is_settled_of, weigh_row_of, weigh_rows_of, stepped_of, trial_of, no_less_of, refine_of};
+ghost use Rattle.refine.specs.Refine.{System, over_of, weighted_of, is_settled_of, weigh_row_of, weigh_rows_of, stepped_of, trial_of, no_less_of};
+ghost use Rattle.refine.specs.Refine.{refine_of, refine_systems_of};
 ghost use Rattle.refine.specs.Systems.{cubic_system, quartic_system, peel_system};
 ghost use Rattle.refine.specs.Weighed.{weigh_of};
 ghost use Rattle.facts.specs.Turns.{turns_of};
@@ -12,6 +13,7 @@ ghost use Rattle.refine.specs.Newton.{flat_of, no_gain_of, Gives, newton_by, new
 
 use float::abs;
 use horner::{Polynomial, ValueSlope};
+use tally::Tallied;
 
 // 2^-53
 const HALF_EPSILON: f64 = 1.1102230246251565e-16;
@@ -121,27 +123,30 @@ fn trial<const N: usize>(x: &[f64; N], at: &Weighed<N>, j: [[f64; N]; N]) -> Opt
 }
 
 // At most four equations: a matrix of any size would not fit in memory.
-fn refine<const N: usize, S: Equations<N>>(s: &S, x0: [f64; N]) -> [f64; N]
+fn refine<const N: usize, S: Equations<N>>(s: &S, x0: [f64; N]) -> Tallied<[f64; N]>
     requires { N ≤ 4 }
-    ensures { result ≡ refine_of N (S.system s.now) x0.entry }
+    ensures value { result.value ≡ refine_of N (S.system s.now) x0.entry }
+    ensures systems { result.systems ≡ refine_systems_of N (S.system s.now) x0.entry }
 {
     let mut x = x0;
     let mut at = weigh(s, &x);
+    let mut systems = 0;
     for _ in 0..8u32 {
         if is_settled(at.norm) {
-            return x;
+            return Tallied { value: x, systems };
         }
+        systems += 1;
         let Some(next) = trial(&x, &at, s.jacobian(&x)) else {
-            return x;
+            return Tallied { value: x, systems };
         };
         let there = weigh(s, &next);
         if no_less(at.norm, there.norm) {
-            return x;
+            return Tallied { value: x, systems };
         }
         x = next;
         at = there;
     }
-    x
+    Tallied { value: x, systems }
 }
 
 // y^3 + b*y^2 + c*y + d = (y - x0) * (y^2 + x1*y + x2). (Residuals, magnitudes and rows are written out, here and below: each entry is a formula of its own.)
@@ -177,8 +182,9 @@ impl Equations<3> for Cubic {
 }
 
 // (The coefficients one by one, here and below, as in poly.rs and as C hands them in.)
-pub fn refine_cubic(b: f64, c: f64, d: f64, x0: [f64; 3]) -> [f64; 3]
-    ensures { result ≡ refine_of 3 (cubic_system b c d) x0 }
+pub fn refine_cubic(b: f64, c: f64, d: f64, x0: [f64; 3]) -> Tallied<[f64; 3]>
+    ensures value { result.value ≡ refine_of 3 (cubic_system b c d) x0 }
+    ensures systems { result.systems ≡ refine_systems_of 3 (cubic_system b c d) x0 }
 {
     refine(&Cubic { b, c, d }, x0)
 }
@@ -226,8 +232,9 @@ impl Equations<4> for Quartic {
     }
 }
 
-pub fn refine_quartic(b: f64, c: f64, d: f64, e: f64, x0: [f64; 4]) -> [f64; 4]
-    ensures { result ≡ refine_of 4 (quartic_system b c d e) x0 }
+pub fn refine_quartic(b: f64, c: f64, d: f64, e: f64, x0: [f64; 4]) -> Tallied<[f64; 4]>
+    ensures value { result.value ≡ refine_of 4 (quartic_system b c d e) x0 }
+    ensures systems { result.systems ≡ refine_systems_of 4 (quartic_system b c d e) x0 }
 {
     refine(&Quartic { b, c, d, e }, x0)
 }
@@ -274,8 +281,9 @@ impl Equations<4> for Peel {
     }
 }
 
-pub fn refine_peel(b: f64, c: f64, d: f64, e: f64, x0: [f64; 4]) -> [f64; 4]
-    ensures { result ≡ refine_of 4 (peel_system b c d e) x0 }
+pub fn refine_peel(b: f64, c: f64, d: f64, e: f64, x0: [f64; 4]) -> Tallied<[f64; 4]>
+    ensures value { result.value ≡ refine_of 4 (peel_system b c d e) x0 }
+    ensures systems { result.systems ≡ refine_systems_of 4 (peel_system b c d e) x0 }
 {
     refine(&Peel { b, c, d, e }, x0)
 }

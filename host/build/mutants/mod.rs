@@ -3,6 +3,7 @@ mod angles;
 mod bands;
 mod contact_records;
 mod contacts;
+mod counts;
 mod critical_points;
 mod cubics;
 mod equations;
@@ -56,6 +57,7 @@ pub fn all() -> Vec<Variant> {
         formula_records::ALL,
         kinds::ALL,
         totals::ALL,
+        counts::ALL,
     ]
     .concat()
 }

@@ -6,7 +6,7 @@ use std::path::Path;
 use std::process::ExitCode;
 
 /// The long runs, and what their first number says.
-const RUNS: [(&str, &str); 12] = [
+const RUNS: [(&str, &str); 13] = [
     ("lists", "COUNT"),
     ("inquiries", "COUNT"),
     ("cranks", "COUNT"),
@@ -16,6 +16,7 @@ const RUNS: [(&str, &str); 12] = [
     ("damage", "MINUTES"),
     ("quadratics", "COUNT"),
     ("doubts", "COUNT"),
+    ("systems", "COUNT"),
     ("coverage", "COUNT"),
     ("mutants", "COUNT"),
     ("causes", "COUNT"),
@@ -83,6 +84,7 @@ fn long_run(what: &str, count: u64, seed: u64) -> Result<bool, String> {
         "formulas" => Ok(host::runs::formulas::run(count, seed)),
         "quadratics" => Ok(host::runs::quadratics::run(count, seed)),
         "doubts" => Ok(host::runs::doubts::run(count, seed)),
+        "systems" => Ok(host::runs::systems::run(count, seed)),
         _ => with_feature(what, count, seed),
     }
 }

@@ -2,31 +2,43 @@
 use crate::compare::bits;
 use crate::truth::kind::{Kind, Root};
 
-/// The number of the refusal, 0 where there is none, and the roots.
+/// The number of the refusal, 0 where there is none; the roots; and how many square systems were
+/// solved for them.
 #[derive(Clone, Copy, Default)]
 pub struct Answer {
     pub refusal: u64,
     pub len: usize,
     pub root: [Root; 4],
+    pub systems: u32,
 }
 
-/// How many doubles of the port a list has: how many roots, and four of them.
-pub const LIST: usize = 13;
+/// How many doubles of the port roots have: how many they are, and four of them.
+pub const ROOTS: usize = 13;
+
+/// The same of a list, which has the number of systems too.
+pub const LIST: usize = ROOTS + 1;
 
 impl Answer {
     pub fn new(refusal: u64, roots: &[Root]) -> Answer {
         let mut root = [Root::default(); 4];
         root[..roots.len()].copy_from_slice(roots);
-        Answer { refusal, len: roots.len(), root }
+        Answer { refusal, len: roots.len(), root, systems: 0 }
+    }
+
+    /// The same, for which so many systems were solved.
+    pub fn solving(self, systems: u32) -> Answer {
+        Answer { systems, ..self }
     }
 
     /// From the `LIST` doubles of the port. A place behind the last is zeros.
     pub fn read(out: &[f64]) -> Answer {
-        let (len, each) = (out[0] as usize, &out[1..LIST]);
+        let (len, each) = (out[0] as usize, &out[1..ROOTS]);
         let zeros = each[3 * len..].iter().all(|x| x.to_bits() == 0);
         assert!(zeros, "after the last: {out:?}");
         let root = std::array::from_fn(|k| read_root(&each[3 * k..3 * k + 3]));
-        Answer { refusal: 0, len, root }
+        let systems = out[ROOTS] as u32;
+        assert!(f64::from(systems) == out[ROOTS], "systems: {out:?}");
+        Answer { refusal: 0, len, root, systems }
     }
 
     pub fn roots(&self) -> &[Root] {
@@ -46,6 +58,11 @@ impl Answer {
     }
 
     pub fn same(&self, other: &Answer) -> bool {
+        self.same_roots(other) && self.systems == other.systems
+    }
+
+    /// The same but for the systems.
+    pub fn same_roots(&self, other: &Answer) -> bool {
         self.same_places(other) && self.kinds().eq(other.kinds())
     }
 
@@ -61,6 +78,11 @@ impl Answer {
             0 => format!("ok {}{}", self.len, self.roots().iter().map(root).collect::<String>()),
             n => format!("refused {n}"),
         }
+    }
+
+    /// The same with the systems.
+    pub fn told(&self) -> String {
+        format!("{}, systems {}", self.text(), self.systems)
     }
 }
 

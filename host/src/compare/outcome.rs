@@ -4,6 +4,7 @@ use crate::compare::tally::Tally;
 use crate::compare::ways::{Counts, OF_LISTS, WAYS, named};
 use crate::truth::angle::Sine;
 use crate::truth::kind::Kind;
+use crate::truth::systems::MOST as MOST_SYSTEMS;
 use std::cell::Cell;
 
 /// Ways in which another build departs from the reference build.
@@ -21,6 +22,8 @@ pub struct Outcome {
     pub met: Tally,
     /// How many roots of each kind were compared.
     pub kinds: [u64; 3],
+    /// How many answers that were compared took 0 systems, 1, and so on.
+    pub systems: [u64; MOST_SYSTEMS as usize + 1],
     pub ways: Counts,
     departed: Tally,
     /// How many of the other build's answers were looked at.
@@ -40,8 +43,8 @@ impl Outcome {
         let (met, departed) = (Tally::new(cases), Tally::new(&DEPARTURES));
         let ways = [0; WAYS.len()];
         let (shown, beside) = (Vec::new(), Cell::new(0));
-        let (inputs, wrong, kinds) = (0, 0, [0; 3]);
-        Outcome { name, sine, inputs, wrong, shown, met, kinds, ways, departed, beside }
+        let (inputs, wrong, kinds, systems) = (0, 0, [0; 3], [0; MOST_SYSTEMS as usize + 1]);
+        Outcome { name, sine, inputs, wrong, shown, met, kinds, systems, ways, departed, beside }
     }
 
     pub fn join(&mut self, other: Outcome) {
@@ -52,8 +55,9 @@ impl Outcome {
         self.met.join(&other.met);
         self.departed.join(&other.departed);
         self.beside.set(self.beside.get() + other.beside.get());
-        let counts = self.ways.iter_mut().chain(&mut self.kinds);
-        for (all, more) in counts.zip(other.ways.into_iter().chain(other.kinds)) {
+        let counts = self.ways.iter_mut().chain(&mut self.kinds).chain(&mut self.systems);
+        let others = other.ways.into_iter().chain(other.kinds).chain(other.systems);
+        for (all, more) in counts.zip(others) {
             *all += more;
         }
     }
@@ -64,6 +68,12 @@ impl Outcome {
         if self.shown.len() < 10 {
             self.shown.push(line());
         }
+    }
+
+    /// An answer that is compared.
+    pub fn add(&mut self, answer: &Answer) {
+        self.add_roots(answer.kinds());
+        self.systems[answer.systems as usize] += 1;
     }
 
     /// The roots of an answer that is compared.
@@ -105,13 +115,20 @@ impl Outcome {
                 format!("\nroots: {crossing} crossing, {brush} brush, {flat} flat")
             }
         };
+        let systems = match self.systems.iter().rposition(|answers| *answers > 0) {
+            None | Some(0) => String::new(),
+            Some(most) => {
+                let all: u64 = (0..).zip(self.systems).map(|(n, answers)| n * answers).sum();
+                format!("\nsystems: {all} solved, at most {most} for an answer")
+            }
+        };
         let departed = match self.beside.get() {
             0 => String::new(),
             _ => format!("\n{} departs: {}", other(self.sine), self.departed.text()),
         };
         let mode = self.sine.map(|sine| format!(", {}", sine.words())).unwrap_or_default();
         format!(
-            "{} {}{mode}, {} differ\n{}{kinds}\nthe reference build's ways: {}{departed}",
+            "{} {}{mode}, {} differ\n{}{kinds}{systems}\nthe reference build's ways: {}{departed}",
             self.inputs,
             self.name,
             self.wrong,

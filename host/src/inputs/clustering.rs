@@ -1,7 +1,7 @@
 //! Inputs of the band, of quadratic factors and of the finished roots, and the ways that the
 //! reference build goes on them.
 use crate::compare::Shown;
-use crate::compare::answer::LIST;
+use crate::compare::answer::ROOTS;
 use crate::inputs::lists::{List, list};
 use crate::inputs::random::Random;
 use crate::truth::exact::{cbrt, ldexp};
@@ -177,7 +177,7 @@ impl Shown for Handed {
 
 /// The count, and each place with its multiplicity and the kind of a root that no yes helped to
 /// form; behind so many the number of the kind is 0.
-pub fn numbers(count: usize, value: [f64; 4], mult: [u32; 4], of_kind: usize) -> [f64; LIST] {
+pub fn numbers(count: usize, value: [f64; 4], mult: [u32; 4], of_kind: usize) -> [f64; ROOTS] {
     let kind = |k| if k < of_kind { Kind::of(mult[k], false).number() } else { 0 };
     let each = (0..4).flat_map(|k| [value[k], f64::from(mult[k]), f64::from(kind(k))]);
     let mut all = [count as f64].into_iter().chain(each);
@@ -185,13 +185,13 @@ pub fn numbers(count: usize, value: [f64; 4], mult: [u32; 4], of_kind: usize) ->
 }
 
 /// Of finished roots.
-pub fn root_numbers(c: &Candidates) -> [f64; LIST] {
+pub fn root_numbers(c: &Candidates) -> [f64; ROOTS] {
     numbers(c.len, c.value, c.mult, c.len)
 }
 
 /// Of candidates, also of those behind the last, and of the pairs the count, and each centre and
 /// half.
-pub fn found_numbers(c: &Candidates, p: &Pairs) -> [f64; LIST + 5] {
+pub fn found_numbers(c: &Candidates, p: &Pairs) -> [f64; ROOTS + 5] {
     let pairs = [p.len as f64, p.centre[0], p.half[0], p.centre[1], p.half[1]];
     [&numbers(c.len, c.value, c.mult, 4)[..], &pairs].concat().try_into().unwrap()
 }

@@ -190,6 +190,20 @@ fn stepped(r: &mut Random, d: usize) -> [f64; 5] {
     })
 }
 
+/// A list of degree 3 or 4 with three roots near each other, as near as 2^-26 of their size or not at
+/// all, and of degree 4 one up to 2^40 times as large.
+pub fn near_triple(r: &mut Random) -> List {
+    let a = (1.0 + r.unit()) * if r.below(2) == 0 { 1.0 } else { -1.0 };
+    let apart = ldexp(1.0, -(r.below(27) as i32));
+    let near = |r: &mut Random| a * (1.0 + apart * (2.0 * r.unit() - 1.0));
+    let far = ldexp(1.0 + r.unit(), about(r, 40)) * if r.below(2) == 0 { 1.0 } else { -1.0 };
+    let x = [near(r), near(r), near(r), far];
+    let d = 3 + r.below(2) as usize;
+    let p = product(&x, d);
+    let p = if r.below(2) == 0 { p } else { stretched(r, p) };
+    usable(r, p, d)
+}
+
 /// Coefficients of which those inside become subnormal in the scaling, or 0.
 fn underflowing(r: &mut Random, d: usize) -> [f64; 5] {
     let n = d as i32;

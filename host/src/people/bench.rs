@@ -21,13 +21,24 @@ const STRETCH: usize = 10_000;
 const EXACT: u32 = Sine::OfExact.number();
 
 /// One line of the table: nanoseconds for a value by the port and by Rust's own, and the most that
-/// their ratio, or the port's time, should be.
+/// their ratio, or the port's time, should be; and of answers that list roots, how many square
+/// systems the port solves for one on average.
 struct Row {
     name: &'static str,
     port: f64,
     beside: &'static str,
     rust: f64,
     aim: Aim,
+    systems: Option<f64>,
+}
+
+impl Row {
+    /// With so many systems for each of the inputs.
+    #[cfg(geomcore)]
+    fn solving<T: Copy>(self, inputs: &[T], systems: impl Fn(T) -> u32) -> Row {
+        let all: u64 = inputs.iter().map(|input| u64::from(systems(*input))).sum();
+        Row { systems: Some(all as f64 / inputs.len() as f64), ..self }
+    }
 }
 
 enum Aim {
@@ -76,7 +87,7 @@ fn row<T: Copy>(
     rust: impl Fn(T) -> f64,
 ) -> Row {
     let (port, rust) = best(inputs, port, rust);
-    Row { name: names.0, port, beside: names.1, rust, aim }
+    Row { name: names.0, port, beside: names.1, rust, aim, systems: None }
 }
 
 fn roots(r: &mut Random) -> Vec<Row> {
@@ -224,7 +235,11 @@ fn lists(r: &mut Random) -> Vec<Row> {
             let rust = |(p, _): ([f64; 5], [u8; 40])| {
                 real_roots(&p[..=d], TOL).first().map_or(0.0, |root| root.value)
             };
-            rows.push(row((name, "geomcore's"), aim, &inputs, port, rust));
+            let systems = |(p, _): ([f64; 5], [u8; 40])| {
+                port::real_roots(Sine::OfExact, &p[..=d], TOL).systems
+            };
+            let row = row((name, "geomcore's"), aim, &inputs, port, rust);
+            rows.push(row.solving(&inputs, systems));
         }
     }
     rows
@@ -270,7 +285,11 @@ fn inquiries(r: &mut Random) -> Vec<Row> {
             let list = real_roots_touching(&p[..=d], tol, |_| false);
             list.first().map_or(0.0, |root| root.value)
         };
-        rows.push(row((name, "geomcore's"), Aim::Open, &inputs, port, rust));
+        let systems = |(p, _, n): ([f64; 5], [u8; 40], usize)| {
+            inquire(Sine::OfExact, &p[..=d], tol, &NO[..n]).map_or(0, |shown| shown.list.systems)
+        };
+        let row = row((name, "geomcore's"), Aim::Open, &inputs, port, rust);
+        rows.push(row.solving(&inputs, systems));
     }
     rows
 }
@@ -294,7 +313,11 @@ fn cranks(r: &mut Random) -> Vec<Row> {
         let (_, _, list) = equation::solve_trig(a2, b2, c1, d1, e, tol, |_| false);
         list.first().map_or(0.0, |root| root.value)
     };
-    vec![row(("crank, uniform", "geomcore's"), Aim::Open, &inputs, port, rust)]
+    let systems = |(terms, n): ([f64; 5], usize)| {
+        crank_inquire(Sine::OfExact, TOL, terms, &NO[..n]).map_or(0, |shown| shown.list.systems)
+    };
+    let row = row(("crank, uniform", "geomcore's"), Aim::Open, &inputs, port, rust);
+    vec![row.solving(&inputs, systems)]
 }
 
 /// Balls on a lane, at the confusion 2^-30: the Rust with the same equation and closure.
@@ -303,7 +326,7 @@ fn contacts(r: &mut Random) -> Vec<Row> {
     use crate::compare::answer::LIST;
     use crate::inputs::contacts::on_a_lane;
     use crate::inputs::quadratics::TOL;
-    use crate::port::contacts::pin_contact_bytes;
+    use crate::port::contacts::{pin_contact, pin_contact_bytes};
     use crate::truth::contact::Contact;
     use reference::untouched::poly::real_roots_touching;
     let inputs: Vec<_> =
@@ -318,7 +341,9 @@ fn contacts(r: &mut Random) -> Vec<Row> {
         let list = real_roots_touching(&coeffs, contact.confusion, |t| contact.touches(t));
         list.first().map_or(0.0, |root| root.value)
     };
-    vec![row(("contact, on a lane", "geomcore's"), Aim::Open, &inputs, port, rust)]
+    let systems = |contact: Contact| pin_contact(Sine::OfExact, contact.numbers()).systems;
+    let row = row(("contact, on a lane", "geomcore's"), Aim::Open, &inputs, port, rust);
+    vec![row.solving(&inputs, systems)]
 }
 
 /// Texts such as (t-2)^2*(t+1), to their coefficients and to their roots at the tolerance 2^-30, by
@@ -329,7 +354,9 @@ fn formulas(r: &mut Random) -> Vec<Row> {
     use crate::inputs::formulas::mechanics;
     use crate::inputs::quadratics::TOL;
     use crate::port::exported;
-    use crate::port::formulas::{COEFFICIENTS, formula_coefficients_bytes as by_port};
+    use crate::port::formulas::{
+        COEFFICIENTS, formula_coefficients_bytes as by_port, formula_roots,
+    };
     use crate::truth::formula::coefficients;
     use reference::untouched::poly::real_roots;
     let made: Vec<Vec<u8>> = (0..FACTORED).map(|_| mechanics(r)).collect();
@@ -347,7 +374,8 @@ fn formulas(r: &mut Random) -> Vec<Row> {
     };
     vec![
         row(("formula, expanded", "a plain reader"), Aim::Open, &inputs, expanded, plain),
-        row(("formula, roots", "and geomcore's"), Aim::Open, &inputs, port, rust),
+        row(("formula, roots", "and geomcore's"), Aim::Open, &inputs, port, rust)
+            .solving(&inputs, |text| formula_roots(Sine::OfExact, text, TOL).systems),
     ]
 }
 
@@ -408,7 +436,7 @@ fn quadratics(_: &mut Random) -> Vec<Row> {
 /// cranks in turn and numbers from -1 to 1, at the tolerance 2^-30: the time for a record.
 #[cfg(geomcore)]
 fn full_files(r: &mut Random) -> Vec<Row> {
-    use crate::truth::hall_file::{MOST_BYTES, MOST_LISTED, Record, file};
+    use crate::truth::hall_file::{MOST_BYTES, MOST_LISTED, Record, file, items};
     use crate::truth::lister::{Untouched, listing};
     const FILES: usize = 10;
     const TURN: usize = 35 + 43 + 51 + 42 + 50;
@@ -431,9 +459,11 @@ fn full_files(r: &mut Random) -> Vec<Row> {
     let port = |bytes| port::list_file(bytes, &mut vec![0; MOST_LISTED]) as f64;
     let rust = |bytes| listing(bytes, &Untouched).len() as f64;
     let names = ("full file, a record", "a plain lister");
-    let mut row = row(names, Aim::Times(3.0), &inputs, port, rust);
+    let in_file = |bytes: &[u8]| items(bytes).iter().map(port::systems::listed).sum();
+    let mut row = row(names, Aim::Times(3.0), &inputs, port, rust).solving(&inputs, in_file);
     row.port /= records as f64;
     row.rust /= records as f64;
+    row.systems = row.systems.map(|all| all / records as f64);
     vec![row]
 }
 
@@ -467,14 +497,16 @@ pub fn run() {
         rows
     });
     say(&format!("ns a value, best of {PASSES} passes over {VALUES} values, both in turns"));
+    say("systems: how many square systems an answer takes, on average");
     say(&format!(
-        "{:20}{:>8}   {:18}{:>8}{:>8}   at most",
-        "function", "port", "beside", "Rust", "ratio"
+        "{:20}{:>8}   {:18}{:>8}{:>8}{:>9}   at most",
+        "function", "port", "beside", "Rust", "ratio", "systems"
     ));
     for row in parts.iter().flatten() {
-        let Row { name, port, beside, rust, .. } = row;
+        let Row { name, port, beside, rust, systems, .. } = row;
+        let systems = systems.map(|mean| format!("{mean:.2}")).unwrap_or_default();
         let line = format!(
-            "{name:20}{port:>8.1}   {beside:18}{rust:>8.1}{:>8.1}   {}",
+            "{name:20}{port:>8.1}   {beside:18}{rust:>8.1}{:>8.1}{systems:>9}   {}",
             port / rust,
             verdict(row)
         );

@@ -5,18 +5,31 @@ use crate::people::progress::Progress;
 use crate::people::show::{ListFile, of_records, whole_listing};
 use crate::people::table::{quoted, wrapped};
 use crate::people::{As, marked, question, text};
+use crate::port;
 use crate::truth::angle::Sine;
 use crate::truth::hall_file::{Item, Kind};
 use crate::truth::lister::{Answer, Line, Listed, Reference, Total, Untouched, line};
 use crate::truth::listing::lines_and_total;
+use crate::truth::systems::counted;
 
-/// A record and its three answers.
+/// A record and its three answers; and how many square systems two of them took.
 pub struct Compared {
     pub item: Item,
     pub port: Answer,
     pub reference: Answer,
     pub untouched: Answer,
+    pub port_systems: u32,
+    pub reference_systems: u32,
 }
+
+/// What is compared: a lister, and how many systems it solves for a record.
+#[derive(Clone, Copy)]
+pub struct Port {
+    pub list_file: ListFile,
+    pub systems: fn(&Item) -> u32,
+}
+
+pub const PORT: Port = Port { list_file: port::list_file, systems: port::systems::listed };
 
 /// The total at the end of the three listings; that of the port as it is printed.
 pub struct Totals {
@@ -26,15 +39,17 @@ pub struct Totals {
 }
 
 /// All records of a file, and the totals; an error where the port's listing is not that of the file.
-pub fn compared(bytes: &[u8], list_file: ListFile) -> Result<(Vec<Compared>, Totals), String> {
-    let (lines, port) = lines_and_total(&whole_listing(bytes, list_file))?;
+pub fn compared(bytes: &[u8], by: Port) -> Result<(Vec<Compared>, Totals), String> {
+    let (lines, port) = lines_and_total(&whole_listing(bytes, by.list_file))?;
     let records = of_records(bytes, lines)?;
     let mut progress = Progress::new("records", records.len());
     let by_all = |(item, port): (Item, Line)| {
         progress.step();
-        let reference = line(&item, &Reference(Sine::OfExact)).answer;
+        let (reference, reference_systems) =
+            counted(|| line(&item, &Reference(Sine::OfExact)).answer);
         let untouched = line(&item, &Untouched).answer;
-        Compared { item, port: port.answer, reference, untouched }
+        let (port, port_systems) = (port.answer, (by.systems)(&item));
+        Compared { item, port, reference, untouched, port_systems, reference_systems }
     };
     let all: Vec<Compared> = records.into_iter().map(by_all).collect();
     let reference = Total::of(all.iter().map(|c| &c.reference));
@@ -91,8 +106,15 @@ pub fn departure(from: &Answer, other: &Answer) -> Option<String> {
 }
 
 impl Compared {
+    /// In what the port departs, in the answer or in the number of systems.
+    fn port_departs(&self) -> Option<String> {
+        let (port, reference) = (self.port_systems, self.reference_systems);
+        let systems = (port != reference).then(|| format!("systems: {port} for {reference}"));
+        departure(&self.reference, &self.port).or(systems)
+    }
+
     pub fn port_differs(&self) -> bool {
-        departure(&self.reference, &self.port).is_some()
+        self.port_departs().is_some()
     }
 
     pub fn untouched_differs(&self) -> bool {
@@ -120,15 +142,19 @@ impl Compared {
 
     /// The lines that show how the three differ.
     pub fn text(&self) -> String {
-        let Compared { item, port, reference, untouched } = self;
+        let Compared { item, port, reference, untouched, .. } = self;
         let mut all = self.head();
         if let Ok(record) = &item.record {
             let equation = question::expanded(record).unwrap_or_else(|| question::equation(record));
             all += &wrapped(&format!("  {equation}"));
         }
         all += &format!("  reference  {}\n{}", front(reference), places(reference));
-        for (name, answer) in [("port", port), ("untouched", untouched)] {
-            all += &match departure(reference, answer) {
+        let others = [
+            ("port", port, self.port_departs()),
+            ("untouched", untouched, departure(reference, untouched)),
+        ];
+        for (name, answer, departs) in others {
+            all += &match departs {
                 None => format!("  {name:9}  the same\n"),
                 Some(how) => format!("  {name:9}  {}  [{how}]\n{}", front(answer), places(answer)),
             };
@@ -138,8 +164,7 @@ impl Compared {
 
     /// The same as comma-separated values.
     pub fn csv(&self) -> String {
-        let Compared { item, port, reference, untouched } = self;
-        let how = |answer| departure(reference, answer).unwrap_or_default();
+        let Compared { item, port, reference, untouched, .. } = self;
         let fields = [
             item.number.to_string(),
             item.at.to_string(),
@@ -147,8 +172,8 @@ impl Compared {
             reference.to_string(),
             port.to_string(),
             untouched.to_string(),
-            how(port),
-            how(untouched),
+            self.port_departs().unwrap_or_default(),
+            departure(reference, untouched).unwrap_or_default(),
         ];
         fields.map(|field| quoted(&field)).join(",") + "\n"
     }
@@ -197,8 +222,8 @@ impl Report {
 }
 
 /// The records that differ; as rows the untouched Rust's departures, as CSV all records.
-pub fn report(bytes: &[u8], list_file: ListFile, how: As) -> Result<Report, String> {
-    let (all, totals) = compared(bytes, list_file)?;
+pub fn report(bytes: &[u8], by: Port, how: As) -> Result<Report, String> {
+    let (all, totals) = compared(bytes, by)?;
     let count = |is: fn(&Compared) -> bool| all.iter().filter(|c| is(c)).count();
     let text = match how {
         As::Rows => HEAD.to_string() + &all.iter().filter_map(Compared::row).collect::<String>(),
@@ -268,6 +293,15 @@ mod tests {
         len
     }
 
+    fn honest_systems(item: &Item) -> u32 {
+        counted(|| line(item, &Reference(Sine::OfExact))).1
+    }
+
+    /// A lister, and the number of systems by the reference build.
+    fn listed_by(list_file: ListFile) -> Port {
+        Port { list_file, systems: honest_systems }
+    }
+
     const TEXT: &str = "list 2^-30 2 -3 1\nlist 2^-30 -18 21 -8 1\nquad 2^-30 2^-30 1 -3 2\n";
 
     fn sample() -> Vec<u8> {
@@ -276,7 +310,7 @@ mod tests {
 
     #[test]
     fn only_what_differs_is_shown() {
-        let found = report(&sample(), honest, As::Text).unwrap();
+        let found = report(&sample(), listed_by(honest), As::Text).unwrap();
         assert!(found.equal() && found.records_differ == 0);
         let text = "\
 record 2 at byte 35: list 2^-30 -18 21 -8 1
@@ -295,7 +329,7 @@ record 2 at byte 35: list 2^-30 -18 21 -8 1
                        untouched Rust: 2 equal to the reference build, 1 not\n\
                        total: reference build T 3 4 5, port the same, untouched Rust the same";
         assert_eq!(found.summary, summary);
-        let rows = report(&sample(), honest, As::Rows).unwrap().text;
+        let rows = report(&sample(), listed_by(honest), As::Rows).unwrap().text;
         let (untouched, reference) = ("4007FFFFFFFFFFFE 2 f", "4008000000000002 2 f");
         let cells =
             [untouched, reference].map(|x| format!("ok 2 4000000000000000 1 c {x} |")).join(" ");
@@ -305,7 +339,7 @@ record 2 at byte 35: list 2^-30 -18 21 -8 1
 
     #[test]
     fn all_records_as_csv() {
-        let text = report(&sample(), honest, As::Csv).unwrap().text;
+        let text = report(&sample(), listed_by(honest), As::Csv).unwrap().text;
         let lines: Vec<&str> = text.lines().collect();
         assert_eq!(lines.len(), 4);
         assert_eq!(lines[0], NAMES.trim_end());
@@ -316,7 +350,7 @@ record 2 at byte 35: list 2^-30 -18 21 -8 1
 
     #[test]
     fn a_wrong_port_is_found() {
-        let found = report(&sample(), lying, As::Text).unwrap();
+        let found = report(&sample(), listed_by(lying), As::Text).unwrap();
         assert!((found.records_differ, found.total_differs) == (1, false) && !found.equal());
         assert!(found.text.contains("  port       ok  [bits, steps 0 3]\n"), "{}", found.text);
         assert!(found.summary.contains("port: 2 equal to the reference build, 1 not"));
@@ -325,9 +359,9 @@ record 2 at byte 35: list 2^-30 -18 21 -8 1
     #[test]
     fn a_wrong_total_is_found() {
         for how in [As::Text, As::Csv, As::Rows] {
-            let found = report(&sample(), miscounting, how).unwrap();
+            let found = report(&sample(), listed_by(miscounting), how).unwrap();
             assert!((found.records_differ, found.total_differs) == (0, true) && !found.equal());
-            assert_eq!(found.text, report(&sample(), honest, how).unwrap().text);
+            assert_eq!(found.text, report(&sample(), listed_by(honest), how).unwrap().text);
             let line = "\ntotal: reference build T 3 4 5, port T 3 5 5, untouched Rust the same";
             assert!(found.summary.ends_with(line), "{}", found.summary);
         }
@@ -342,10 +376,22 @@ record 2 at byte 35: list 2^-30 -18 21 -8 1
             out[at + 2] = b'3';
             len
         };
-        let found = report(&sample(), three, As::Text).unwrap();
+        let found = report(&sample(), listed_by(three), As::Text).unwrap();
         assert_eq!((found.records_differ, found.total_differs), (1, false));
         assert!(found.text.starts_with("record 2 at byte 35: "), "{}", found.text);
         assert!(found.text.contains("  port       ok  [multiplicity]\n"), "{}", found.text);
+    }
+
+    #[test]
+    fn a_wrong_number_of_systems_is_found() {
+        let by = Port { list_file: honest, systems: |item| 1 + honest_systems(item) };
+        let found = report(&sample(), by, As::Text).unwrap();
+        assert_eq!((found.records_differ, found.total_differs), (3, false));
+        assert!(found.text.contains("  port       two  [systems: 1 for 0]\n"), "{}", found.text);
+        let rows = report(&sample(), by, As::Csv).unwrap().text;
+        assert_eq!(rows.matches(",systems: ").count(), 3, "{rows}");
+        let untouched = report(&sample(), by, As::Rows).unwrap().text;
+        assert_eq!(untouched, report(&sample(), listed_by(honest), As::Rows).unwrap().text);
     }
 
     #[test]

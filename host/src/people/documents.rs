@@ -161,6 +161,8 @@ const KINDS: [(&str, &str); 4] = [
     ("sets ", "`sets`: these bytes stand in the lent bytes, which are otherwise unaltered"),
 ];
 
+const TALLIED: &str = "`Tallied`: its value is the definition of its arguments, and how many systems were solved for it is the one beside";
+
 /// How a contract is told apart: none where it is one equation.
 fn kind(f: &Function) -> Option<String> {
     if f.ensures.is_empty() {
@@ -174,9 +176,19 @@ fn kind(f: &Function) -> Option<String> {
             return Some(says.to_string());
         }
     }
-    let one = f.ensures.len() == 1 && !fact.contains('×') && !fact.contains('→');
-    let equation = fact.starts_with("result ≡ ");
-    if one && equation { None } else { Some(facts(&f.ensures)) }
+    let equation = |fact: &str| !fact.contains('×') && !fact.contains('→');
+    match &f.ensures[..] {
+        [fact] if fact.starts_with("result ≡ ") && equation(fact) => None,
+        [value, systems] if equation(value) && counted(value, systems) => Some(TALLIED.to_string()),
+        _ => Some(facts(&f.ensures)),
+    }
+}
+
+/// A value, or the answer of a call that may be refused, and its systems.
+fn counted(value: &str, systems: &str) -> bool {
+    let both = |a, b| value.starts_with(a) && systems.starts_with(b);
+    both("result.value ≡ ", "result.systems ≡ ")
+        || both("answer_in result ≡ ", "systems_in result ≡ ")
 }
 
 /// Names by what they share, the most first.

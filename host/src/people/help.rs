@@ -19,6 +19,9 @@ hall show [FILE] [--csv]  the same for people: each record's equation, a formula
                           finds no root marked `doubtful`; at the end how many records and roots
                           there are in all, and how often the roots count together; with --csv as
                           comma-separated values, which have no total
+hall show [FILE] --systems
+                          the same with how many square systems were solved for each record and for
+                          all of them; with --csv in its last column
 hall explain FILE         why roots are doubtful, with the numbers, and what to do about it: the
                           records that have such, or that there are none. FILE may be `-`
 hall explain FILE RECORD  the same of one record, whatever it is
@@ -33,8 +36,8 @@ hall text [FILE]          write a hall file back as lines of text, of which `hal
 hall compare FILE [--csv] each record by port, reference build (with the listing's sine) and
                           untouched Rust; prints those that differ, places with their distance in
                           doubles, how many were answered, refused and equal, and the three totals;
-                          with --csv all records. Status 1 where port and reference build differ, 2
-                          where nothing was compared
+                          with --csv all records. Status 1 where port and reference build differ, be
+                          it in how many square systems they solved; 2 where nothing was compared
 hall compare FILE --differences
                           the untouched Rust's departures as rows of a table
 hall random N SEED        a hall file of N made records on standard output; the same SEED makes the
@@ -56,6 +59,8 @@ hall damage MINUTES SEED  damage stored and made files, those again that met som
                           for each mode
 hall doubts COUNT SEED    how many good and how many false roots `hall show` marks as doubtful, over
                           COUNT made lists and cranks at the tolerance 2^-30
+hall systems COUNT SEED   which lists of degree 3 and 4 take the most square systems, searched for
+                          over COUNT lists in each mode, which are compared too
 hall coverage COUNT SEED  how often each branch of the reference build was taken, COUNT inputs of
                           each sort; with the feature `coverage`
 hall mutants COUNT SEED   after how many made inputs the comparison notices each mistake in a copy

@@ -34,12 +34,16 @@ use std::thread::sleep;
 use std::time::Duration;
 
 /// The forms of these commands; a word in capitals stands for any word that is no option.
-pub const FORMS: [&[&str]; 12] = [
+pub const FORMS: [&[&str]; 16] = [
     &["make"],
     &["list", "FILE"],
     &["text", "FILE"],
-    &["show", "FILE", "--csv"],
-    &["show", "--csv", "FILE"],
+    &["show", "FILE", "--csv", "--systems"],
+    &["show", "FILE", "--systems", "--csv"],
+    &["show", "--csv", "FILE", "--systems"],
+    &["show", "--systems", "FILE", "--csv"],
+    &["show", "--csv", "--systems", "FILE"],
+    &["show", "--systems", "--csv", "FILE"],
     &["explain", "FILE", "RECORD"],
     &["draw", "FILE", "RECORD"],
     &["compare", "FILE", "--csv"],
@@ -61,12 +65,14 @@ fn failed<T>(message: impl Into<String>) -> Result<T, Failure> {
 
 /// Does what the words say; none where they are no command of these.
 pub fn run(words: &[&str]) -> Option<ExitCode> {
-    let csv = words.contains(&"--csv");
-    let plain: Vec<&str> = words.iter().copied().filter(|word| *word != "--csv").collect();
+    const FLAGS: [&str; 2] = ["--csv", "--systems"];
+    let [csv, systems] = FLAGS.map(|flag| words.contains(&flag));
+    let plain: Vec<&str> = words.iter().copied().filter(|word| !FLAGS.contains(word)).collect();
     let named = |file: &str| !file.starts_with("--");
     let outcome = match plain[..] {
-        ["show"] => show("-", csv),
-        ["show", file] if named(file) => show(file, csv),
+        ["show"] => show("-", csv, systems),
+        ["show", file] if named(file) => show(file, csv, systems),
+        _ if systems => return None,
         ["compare", file] if named(file) => compare(file, if csv { As::Csv } else { As::Text }),
         _ if csv => return None,
         ["make"] => make(),
@@ -141,11 +147,17 @@ fn make() -> Outcome {
     }
 }
 
-fn show(file: &str, csv: bool) -> Outcome {
+fn show(file: &str, csv: bool, with_systems: bool) -> Outcome {
     let bytes = bytes_of(file)?;
-    let (all, total) =
+    let (mut all, total) =
         shown(&bytes, port::list_file).or_else(|e| failed(format!("{file}: {e}")))?;
-    let text = if csv { table::csv(&all) } else { table::table(&all, total) };
+    if with_systems {
+        all.iter_mut().for_each(|shown| shown.systems = Some(port::systems::listed(&shown.item)));
+    }
+    let text = match csv {
+        true => table::csv(&all, with_systems),
+        false => table::table(&all, total, with_systems),
+    };
     emit(text.as_bytes()).map(|()| ExitCode::SUCCESS)
 }
 
@@ -236,7 +248,7 @@ fn compare(file: &str, how: As) -> Outcome {
         let why = nothing_in(&bytes);
         return Err(Failure(format!("{}: nothing was compared: {why}", name(file)), 2));
     }
-    let found = differences::report(&bytes, port::list_file, how)
+    let found = differences::report(&bytes, differences::PORT, how)
         .or_else(|e| failed(format!("{}: by the port: {e}", name(file))))?;
     match how {
         As::Text => emit(format!("{}{}\n", found.text, found.summary).as_bytes())?,

@@ -57,6 +57,8 @@ pub struct Shown {
     pub answer: String,
     /// Its number, and the reason in words.
     pub refusal: Option<(u8, String)>,
+    /// How many square systems were solved for it, where that is to be shown.
+    pub systems: Option<u32>,
     /// The coefficients, ascending, of the polynomial whose roots are listed; empty for a refusal.
     pub coeffs: Vec<f64>,
     /// Those of a crank in the order of their angles.
@@ -121,6 +123,7 @@ fn shown_record(bytes: &[u8], item: Item, line: &Line) -> Shown {
         fault,
         answer: heading(line),
         refusal,
+        systems: None,
         roots: places(&item, &coeffs, &line.answer),
         coeffs,
         item,

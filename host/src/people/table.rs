@@ -30,12 +30,12 @@ enum Row {
 
 /// For each record its question, and then a row for each root, or one that says why there is none;
 /// at the end the total.
-pub fn table(all: &[Shown], total: Total) -> String {
+pub fn table(all: &[Shown], total: Total, with_systems: bool) -> String {
     let mut text = match all {
         [] => EMPTY.to_string(),
         _ => laid_out(&all.iter().flat_map(rows).collect::<Vec<_>>()),
     };
-    text += &wrapped(&in_all(all, total));
+    text += &wrapped(&in_all(all, total, with_systems));
     if all.iter().any(Shown::doubtful) {
         text += &wrapped(DOUBTS);
     }
@@ -43,8 +43,7 @@ pub fn table(all: &[Shown], total: Total) -> String {
 }
 
 /// The total in words.
-fn in_all(all: &[Shown], total: Total) -> String {
-    let count = |n: usize, word: &str| format!("{n} {word}{}", if n == 1 { "" } else { "s" });
+fn in_all(all: &[Shown], total: Total, with_systems: bool) -> String {
     let [records, roots] =
         [(total.records, "record"), (total.roots, "root")].map(|(n, w)| count(n, w));
     let times = match (total.roots, total.multiplicities) {
@@ -55,7 +54,17 @@ fn in_all(all: &[Shown], total: Total) -> String {
     };
     let unlisted = all.iter().flat_map(|shown| &shown.roots).any(|root| !root.listed);
     let beside = if unlisted { ", not counting the places of quads" } else { "" };
-    format!("in all: {records}, {roots}{times}{beside}")
+    let sum = || all.iter().filter_map(|shown| shown.systems).sum();
+    let systems = if with_systems { format!("; {}", solved(sum())) } else { String::new() };
+    format!("in all: {records}, {roots}{times}{beside}{systems}")
+}
+
+fn count(n: usize, word: &str) -> String {
+    format!("{n} {word}{}", if n == 1 { "" } else { "s" })
+}
+
+fn solved(systems: u32) -> String {
+    format!("{} solved", count(systems as usize, "system"))
 }
 
 /// The record's number and kind, its tolerances and its question, in lines; marks stand under what
@@ -74,6 +83,11 @@ pub fn front(shown: &Shown) -> String {
 }
 
 fn rows(shown: &Shown) -> Vec<Row> {
+    let systems = shown.systems.map(|systems| Row::Text(format!("  {}", solved(systems))));
+    answer_rows(shown).into_iter().chain(systems).collect()
+}
+
+fn answer_rows(shown: &Shown) -> Vec<Row> {
     let mut all = vec![Row::Lines(front(shown))];
     if let Some(refused) = refused(shown) {
         all.push(Row::Text(refused));
@@ -178,11 +192,12 @@ pub fn in_columns(text: &str) -> String {
 }
 
 const NAMES: &str = "record,byte,kind,tolerances,question,answer,refused,why,place,bits,times,\
-                     root kind,degrees,radians,x,y,distance,doubt,expanded\n";
+                     root kind,degrees,radians,x,y,distance,doubt,expanded";
 
 /// The same as comma-separated values: a line for each root, or one for a record without any.
-pub fn csv(all: &[Shown]) -> String {
-    NAMES.to_string() + &all.iter().map(csv_record).collect::<String>()
+pub fn csv(all: &[Shown], with_systems: bool) -> String {
+    let names = if with_systems { format!("{NAMES},systems") } else { NAMES.to_string() };
+    names + "\n" + &all.iter().map(csv_record).collect::<String>()
 }
 
 fn csv_record(shown: &Shown) -> String {
@@ -192,7 +207,8 @@ fn csv_record(shown: &Shown) -> String {
     let rest = [kind, &tolerances[..], question, answer, &number, &why].map(str::to_string);
     let front = [&place[..], &rest].concat();
     let line = |root: [String; 10]| {
-        let fields = [&front[..], &root, &[expanded.clone()]].concat();
+        let systems = shown.systems.map(|systems| systems.to_string());
+        let fields = [&front[..], &root, &[expanded.clone()], systems.as_slice()].concat();
         fields.iter().map(|field| quoted(field)).collect::<Vec<_>>().join(",") + "\n"
     };
     match &roots[..] {
@@ -233,13 +249,20 @@ mod tests {
 
     #[test]
     fn totals_in_words() {
-        let told =
-            |records, roots, multiplicities| in_all(&[], Total { records, roots, multiplicities });
+        let told = |records, roots, multiplicities| {
+            in_all(&[], Total { records, roots, multiplicities }, false)
+        };
         assert_eq!(told(0, 0, 0), "in all: 0 records, 0 roots");
         assert_eq!(told(1, 0, 0), "in all: 1 record, 0 roots");
         assert_eq!(told(1, 1, 1), "in all: 1 record, 1 root, which counts once");
         assert_eq!(told(2, 1, 4), "in all: 2 records, 1 root, which counts 4 times");
         assert_eq!(told(1, 2, 2), "in all: 1 record, 2 roots, which together count 2 times");
+        let none = in_all(&[], Total::default(), true);
+        assert_eq!(none, "in all: 0 records, 0 roots; 0 systems solved");
+        assert_eq!(
+            [0, 1, 2].map(solved),
+            ["0 systems", "1 system", "2 systems"].map(|n| n.to_string() + " solved")
+        );
     }
 
     #[test]

@@ -134,12 +134,12 @@ exported! {
 // ---- crates/pongewaru: each function that solves, in the mode of the exact c, and behind it the same
 // by the number of the mode.
 exported! {
-    /// k of the crank equation, and then what its inquiry shows, as for a list, 17 doubles.
+    /// k of the crank equation, and then what its inquiry shows, as for a list, 18 doubles.
     fn crank_inquire(confusion: f64, a2: f64, b2: f64, c1: f64, d1: f64, e: f64, replies: &[u8],
         out: &mut [u8]) -> u64;
     fn crank_inquire_by(sine: u32, confusion: f64, a2: f64, b2: f64, c1: f64, d1: f64, e: f64,
         replies: &[u8], out: &mut [u8]) -> u64;
-    /// The list of a path's contacts with a circle, every question replied as its numbers say; 13
+    /// The list of a path's contacts with a circle, every question replied as its numbers say; 14
     /// doubles as for `real_roots`.
     fn pin_contact(confusion: f64, x0: f64, x1: f64, x2: f64, y0: f64, y1: f64, y2: f64, cx: f64,
         cy: f64, r: f64, out: &mut [u8]) -> u64;
@@ -148,16 +148,17 @@ exported! {
     /// How many coefficients the polynomial of a formula has once zeros at its end are dropped, and
     /// five of them, ascending, 6 doubles; 21 where the text has more than 255 bytes.
     fn formula_coefficients(text: &[u8], out: &mut [u8]) -> u64;
-    /// The list of these coefficients; 13 doubles as for `real_roots`, or the same 21.
+    /// The list of these coefficients; 14 doubles as for `real_roots`, or the same 21.
     fn formula_roots(text: &[u8], tol: f64, out: &mut [u8]) -> u64;
     fn formula_roots_by(sine: u32, text: &[u8], tol: f64, out: &mut [u8]) -> u64;
     /// What the inquiry about the doubles in `coeffs` shows after these replies, one byte each and 0
     /// for no: 0, or 4 where a reply was refused; 1 and the place where it asks, 0 and 0 where not;
-    /// and the list as for `real_roots`; 16 doubles.
+    /// and the list as for `real_roots`; 17 doubles.
     fn inquire(coeffs: &[u8], tol: f64, replies: &[u8], out: &mut [u8]) -> u64;
     fn inquire_by(sine: u32, coeffs: &[u8], tol: f64, replies: &[u8], out: &mut [u8]) -> u64;
-    /// How many roots the list of the doubles in `coeffs` has, and four places with their
-    /// multiplicities and kinds, 13 doubles; 20 where the bytes are no whole doubles.
+    /// How many roots the list of the doubles in `coeffs` has, four places with their multiplicities
+    /// and kinds, and how many systems were solved for them, 14 doubles; 20 where the bytes are no
+    /// whole doubles.
     fn real_roots(coeffs: &[u8], tol: f64, out: &mut [u8]) -> u64;
     fn real_roots_by(sine: u32, coeffs: &[u8], tol: f64, out: &mut [u8]) -> u64;
 

@@ -11,6 +11,7 @@ pub mod exported;
 pub mod formulas;
 pub mod inquiries;
 pub mod quadratics;
+pub mod systems;
 
 pub use exported::{
     discriminant, float_abs, float_clamp, float_copysign, float_floor, float_from_bits,

@@ -43,7 +43,7 @@ fn digits(input: &str) -> usize {
 impl Made {
     /// What the list is answered with the leaf put back, and by the reference build.
     fn add(&mut self, answer: &Answer, wanted: &Answer, untouched: &Answer, input: (&[f64], f64)) {
-        if answer.same(wanted) {
+        if answer.same_roots(wanted) {
             return;
         }
         let sort = match () {
@@ -52,7 +52,7 @@ impl Made {
             _ => 0,
         };
         *[&mut self.bits, &mut self.count, &mut self.multiplicity][sort] += 1;
-        let alike = answer.same(untouched);
+        let alike = answer.same_roots(untouched);
         self.alike += alike as u64;
         let pairs = || answer.roots().iter().zip(wanted.roots()).map(|(a, b)| (a.value, b.value));
         if sort == 0 {
@@ -111,11 +111,11 @@ pub fn run(count: u64, seed: u64) -> bool {
         let mut one = false;
         for (made, (_, _, _, tree)) in all.iter_mut().zip(&ALL) {
             let answer = (tree.list)(&list, tol);
-            one |= !answer.same(&wanted);
+            one |= !answer.same_roots(&wanted);
             made.add(&answer, &wanted, &untouched, (&list, tol));
         }
-        departed += !untouched.same(&wanted) as u64;
-        by_none += (!one && !untouched.same(&wanted)) as u64;
+        departed += !untouched.same_roots(&wanted) as u64;
+        by_none += (!one && !untouched.same_roots(&wanted)) as u64;
     }
     say(&format!(
         "{answered} answered of {count} lists, seed {seed}; {departed} depart, {by_none} of them by no leaf alone"

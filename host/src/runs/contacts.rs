@@ -105,10 +105,10 @@ pub fn add(outcome: &mut Outcome, sine: Sine, contact: &Contact) {
     let given = pin_contact(sine, contact.numbers());
     outcome.inputs += 1;
     outcome.met.add(&cases(contact, &ran));
-    outcome.add_roots(ran.list.kinds());
+    outcome.add(&ran.list);
     if !given.same(&ran.list) {
         outcome.differs(|| {
-            let (given, wanted) = (given.text(), ran.list.text());
+            let (given, wanted) = (given.told(), ran.list.told());
             let record = text::line(&Record::Contact(*contact));
             format!("{record}: port {given}, reference {wanted}, asks {:?}", ran.places)
         });

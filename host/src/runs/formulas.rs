@@ -100,14 +100,14 @@ pub fn add(outcome: &mut Outcome, sine: Sine, text: &[u8], tol: f64) {
     let (expanded, roots) = (formula_coefficients(text), formula_roots(sine, text, tol));
     outcome.inputs += 1;
     outcome.met.add(&cases(text, &coeffs, &list));
-    outcome.add_roots(list.kinds());
+    outcome.add(&list);
     if let Ok([count, all @ ..]) = &coeffs {
         outcome.beside(&lists::beside(sine, &all[..*count as usize], tol), &list, true);
     }
     if !same(&expanded, &coeffs) || !roots.same(&list) {
         outcome.differs(|| {
             let record = Record::Formula { tolerance: tol, text: text.to_vec() };
-            let (line, given, wanted) = (text::line(&record), roots.text(), list.text());
+            let (line, given, wanted) = (text::line(&record), roots.told(), list.told());
             format!("{line}: port {expanded:?}, {given}, reference {coeffs:?}, {wanted}")
         });
     }

@@ -14,6 +14,7 @@ use crate::truth::kind::Root;
 use crate::truth::lister::{Touches, refusal};
 use crate::truth::reference::untouched;
 use crate::truth::refusals;
+use crate::truth::systems::counted;
 use crate::truth::touching;
 use std::cell::RefCell;
 
@@ -44,12 +45,13 @@ fn beside(sine: Sine, inquiry: &impl Inquiry, touches: Touches) -> (u64, Answer)
 /// A run, with the places asked about.
 pub fn recorded(run: impl FnOnce(Touches) -> (u64, Answer), touches: Touches) -> Ran {
     let places = RefCell::new(Vec::new());
-    let (k, list) = run(&|x| {
+    let asked = |x| {
         places.borrow_mut().push(x);
         touches(x)
-    });
-    let places = places.into_inner();
-    let silent = places.is_empty() && list.len == 0;
+    };
+    let ((k, list), systems) = counted(|| run(&asked));
+    let (list, places) = (list.solving(systems), places.into_inner());
+    let silent = places.is_empty() && list.len == 0 && systems == 0;
     assert!(list.refusal == 0 || silent, "the Rust answers what is refused");
     Ran { k, list, places }
 }
@@ -62,17 +64,21 @@ fn drawn(x: f64) -> bool {
 /// What a closure says: always no, always yes, and by a hash.
 pub const REPLIES: [fn(f64) -> bool; 3] = [|_| false, |_| true, drawn];
 
-/// Whether the port shows the question after `asked` replies, or the list after all of them.
+/// Whether the port shows the question after `asked` replies, or the list after all of them; and each
+/// time the systems of the whole run, to which replies add none.
 fn shows(given: &Result<Shown, u64>, number: u64, ran: &Ran, asked: usize) -> bool {
     match given {
         Err(refusal) => *refusal == ran.list.refusal,
         Ok(given) => {
             let same = match (given.place, ran.places.get(asked)) {
                 (Some(x), Some(wanted)) => x.to_bits() == wanted.to_bits() && given.list.len == 0,
-                (None, None) => given.list.same(&ran.list),
+                (None, None) => given.list.same_roots(&ran.list),
                 _ => false,
             };
-            same && ran.list.refusal == 0 && given.number == number && given.k == ran.k
+            same && given.list.systems == ran.list.systems
+                && ran.list.refusal == 0
+                && given.number == number
+                && given.k == ran.k
         }
     }
 }
@@ -80,8 +86,10 @@ fn shows(given: &Result<Shown, u64>, number: u64, ran: &Ran, asked: usize) -> bo
 fn said(given: &Result<Shown, u64>) -> String {
     match given {
         Err(refusal) => format!("refused {refusal}"),
-        Ok(Shown { number, k, place: Some(x), .. }) => format!("{number}: k {k}, asks {x:e}"),
-        Ok(Shown { number, k, list, .. }) => format!("{number}: k {k}, {}", list.text()),
+        Ok(Shown { number, k, place: Some(x), list }) => {
+            format!("{number}: k {k}, asks {x:e}, systems {}", list.systems)
+        }
+        Ok(Shown { number, k, list, .. }) => format!("{number}: k {k}, {}", list.told()),
     }
 }
 
@@ -100,7 +108,7 @@ fn followed(
             true => Ok(()),
             false => {
                 let (input, given) = (inquiry.text(), said(&given));
-                let (places, list) = (&ran.places, ran.list.text());
+                let (places, list) = (&ran.places, ran.list.told());
                 Err(format!(
                     "{input}, {replies:?}: port {given}, reference asks {places:?}, k {}, {list}",
                     ran.k
@@ -166,7 +174,7 @@ pub fn add(outcome: &mut Outcome, sine: Sine, inquiry: &impl Inquiry, more: bool
         more && refused == 0,
     ]);
     for (ran, touches) in [first].iter().chain(&others).zip(&REPLIES) {
-        outcome.add_roots(ran.list.kinds());
+        outcome.add(&ran.list);
         if let Err(line) = followed((sine, inquiry), ran, touches, more) {
             return outcome.differs(|| line);
         }
@@ -209,7 +217,7 @@ fn every_sequence(
         asked && shows(&given, 0, &ran, replies.len()),
         "{input}, replies {replies:?}: port asks {places:?}, {said}, reference asks {:?}, {}",
         ran.places,
-        ran.list.text()
+        ran.list.told()
     );
     1
 }

@@ -9,13 +9,16 @@ use crate::port;
 use crate::runs::parts;
 use crate::truth::angle::Sine;
 use crate::truth::lister::{Reference, Solver, Untouched, refusal};
+use crate::truth::systems::{counted, most};
 
 /// The reference build's answer. A refused list is run too: the Rust's is empty then.
 pub fn reference(sine: Sine, coeffs: &[f64], tol: f64) -> Answer {
-    let roots = Reference(sine).list(coeffs, tol);
+    let (roots, systems) = counted(|| Reference(sine).list(coeffs, tol));
     let refusal = refusal(coeffs);
-    assert!(refusal == 0 || roots.is_empty(), "the Rust lists roots of {coeffs:?}");
-    Answer::new(refusal.into(), &roots)
+    let silent = roots.is_empty() && systems == 0;
+    assert!(refusal == 0 || silent, "the Rust answers what is refused, {coeffs:?}");
+    assert!(systems <= most(coeffs), "{systems} systems: {coeffs:?}");
+    Answer::new(refusal.into(), &roots).solving(systems)
 }
 
 /// What stands beside: the untouched Rust's, and in the mode of the exact c that of the other mode.
@@ -93,10 +96,10 @@ fn add(outcome: &mut Outcome, sine: Sine, coeffs: &[f64], tol: f64) {
     let given = port::real_roots(sine, coeffs, tol);
     outcome.inputs += 1;
     outcome.met.add(&cases(coeffs, tol, &wanted));
-    outcome.add_roots(wanted.kinds());
+    outcome.add(&wanted);
     if !given.same(&wanted) {
         outcome.differs(|| {
-            let (given, wanted) = (given.text(), wanted.text());
+            let (given, wanted) = (given.told(), wanted.told());
             format!("{}: port {given}, reference {wanted}", shown(coeffs, tol))
         });
     }

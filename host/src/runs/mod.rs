@@ -1,6 +1,7 @@
 //! Comparisons of any length, each behind a command of `hall`: the port beside the reference build,
 //! and the untouched Rust beside both. `coverage`, `mutants` and `causes` say what they are worth;
-//! `doubts` holds what `hall show` marks against the exact roots.
+//! `doubts` holds what `hall show` marks against the exact roots, and `systems` searches for lists that
+//! take many square systems.
 #[cfg(feature = "causes")]
 pub mod causes;
 pub mod contacts;
@@ -17,4 +18,5 @@ pub mod lists;
 pub mod mutants;
 pub mod parts;
 pub mod quadratics;
+pub mod systems;
 pub mod trees;

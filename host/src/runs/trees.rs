@@ -27,6 +27,7 @@ macro_rules! tree {
         use crate::truth::kind::Root;
         use crate::truth::reference::$tree::equation::{self, QuadraticSolution};
         use crate::truth::reference::$tree::{Tolerance, poly};
+        use crate::truth::systems::counted;
         fn told(s: QuadraticSolution) -> (u32, [f64; 2]) {
             match s {
                 QuadraticSolution::Two(x, y) => (0, [x, y]),
@@ -56,7 +57,10 @@ macro_rules! tree {
             Tolerance { confusion, angular, parametric: 0.0 }
         }
         crate::runs::trees::Tree {
-            list: |a, tol| listed(a, &poly::real_roots(a, tol)),
+            list: |a, tol| {
+                let (roots, systems) = counted(|| poly::real_roots(a, tol));
+                listed(a, &roots).solving(systems)
+            },
             touching: |a, tol, touches| listed(a, &poly::real_roots_touching(a, tol, touches)),
             crank: |terms, tol, touches| {
                 let [a2, b2, c1, d1, e] = terms;

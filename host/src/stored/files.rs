@@ -6,7 +6,7 @@ use crate::inputs::quadratics::TOL;
 use crate::inputs::random::Random;
 use crate::people::progress::Progress;
 use crate::people::text;
-use crate::stored::{modes, telling, totals};
+use crate::stored::{modes, systems, telling, totals};
 use crate::truth::angle::Sine;
 use crate::truth::hall_file::{MOST_BYTES, Record, file};
 use crate::truth::lister::{Reference, listing};
@@ -410,6 +410,7 @@ pub fn files() -> Vec<Named> {
         named("deep_brackets", deep_brackets()),
         named("kinds", of_text(KINDS)),
         named("modes", file(&modes::records())),
+        named("systems", file(&systems::records())),
         named("tolerances", tolerances()),
         named("long_lists", long_lists()),
     ];

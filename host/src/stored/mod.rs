@@ -3,6 +3,7 @@
 pub mod files;
 pub mod leaves;
 pub mod modes;
+pub mod systems;
 pub mod telling;
 #[cfg(geomcore)]
 pub mod totals;

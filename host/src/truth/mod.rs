@@ -3,7 +3,8 @@
 //! slowly; `reference` is the Rust, `factors` its factors, and `touching` what it lists after
 //! replies; `hall_file` and `lister` have the hall file and its listing, which `listing` reads back,
 //! `contact` what document 02 makes of a path and a circle, `formula` what it makes of a text, `kind`
-//! what it says of a root; `sturm` has where a polynomial's roots are.
+//! what it says of a root; `systems` counts the square systems that are solved; `sturm` has where a
+//! polynomial's roots are.
 //! Nothing here calls the port.
 pub mod angle;
 pub mod big;
@@ -21,5 +22,6 @@ pub mod plain;
 pub mod reference;
 pub mod refusals;
 pub mod sturm;
+pub mod systems;
 #[cfg(geomcore)]
 pub mod touching;

@@ -1,9 +1,10 @@
 //! The reference build's questions and roots in either mode, and which of these a yes helped to
-//! form. The function itself asks and lists; its copy that counts yes replies gets the same replies,
-//! and must ask and list the same.
+//! form. The function itself asks and lists, and its systems count; its copy that counts yes replies
+//! gets the same replies, and must ask and list the same.
 use crate::truth::angle::Sine;
 use crate::truth::kind::Formed;
 use crate::truth::lister::Touches;
+use crate::truth::systems::uncounted;
 use std::cell::RefCell;
 use std::collections::VecDeque;
 
@@ -48,7 +49,7 @@ pub type Crank = (usize, [f64; 5], Vec<Formed>);
 macro_rules! build {
     ($name:ident, $itself:ident, $copy:ident) => {
         mod $name {
-            use super::{Crank, Formed, Replies, Touches};
+            use super::{Crank, Formed, Replies, Touches, uncounted};
             use crate::truth::reference::{$copy, $itself};
 
             fn place(r: &$itself::poly::RealRoot) -> (f64, u32) {
@@ -73,7 +74,7 @@ macro_rules! build {
                 use $itself::poly::real_roots_touching as itself;
                 let replies = Replies::new(touches);
                 let roots = itself(coeffs, tolerance, |x| replies.ask(x));
-                let again = copy(coeffs, tolerance, |x| replies.again(x));
+                let again = uncounted(|| copy(coeffs, tolerance, |x| replies.again(x)));
                 formed(replies, &roots, &again)
             }
 
@@ -83,7 +84,7 @@ macro_rules! build {
                 let replies = Replies::new(touches);
                 let tol = Tolerance { confusion, angular: 0.0, parametric: 0.0 };
                 let (k, quartic, roots) = solve_trig(a2, b2, c1, d1, e, tol, |u| replies.ask(u));
-                let again = copy(&quartic, confusion, |u| replies.again(u));
+                let again = uncounted(|| copy(&quartic, confusion, |u| replies.again(u)));
                 (k, quartic, formed(replies, &roots, &again))
             }
         }

@@ -4,11 +4,12 @@ use Rattle.crank.proofs.Theorem.{with_demand}
 use borrow.Author.Rules.{rules}
 use Rattle.crank.proofs.crank.Goals as goal
 
-pub returns-in_err-s : goal.returns-in_err-s
-returns-in_err-s c = with_demand _ _ _ (answer_refused _ _ _ _ c.in_err-s.ensures (search rules))
+pub returns-in_err-shown-clause-value : goal.returns-in_err-shown-clause-value
+returns-in_err-shown-clause-value c =
+    with_demand _ _ _ (answer_refused _ _ _ _ {a = c.from_residual.result} c.in_err-shown.ensures.value (search rules))
 
 pub unreachable-requires : goal.unreachable-requires
-unreachable-requires c = never_asks _ _ _ _ c.in_ok-s.ensures _ c.in-Question.is
+unreachable-requires c = never_asks _ _ _ _ c.in_ok-shown.ensures.value _ c.in-Question.is
 
-pub returns : goal.returns
-returns c = with_demand _ _ _ (answer_listed _ _ _ _ c.in_ok-s.ensures _ c.in-Finished.is)
+pub returns-clause-value : goal.returns-clause-value
+returns-clause-value c = rw c.with.ensures (with_demand _ _ _ (answer_listed _ _ _ _ c.in_ok-shown.ensures.value _ c.in-Finished.is))

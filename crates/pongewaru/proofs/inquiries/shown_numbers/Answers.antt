@@ -4,4 +4,4 @@ use Rattle.pongewaru.proofs.Feeding.{shown_is}
 use Rattle.pongewaru.proofs.inquiries.shown_numbers.Goals as goal
 
 pub returns : goal.returns
-returns c = shown_is _ _ _ _ _ _ c.from.ensures (c.copy_from_slice.ensures.after ∙ c.root_numbers.ensures)
+returns c = shown_is _ _ _ _ _ _ _ c.from.ensures (c.copy_from_slice.ensures.after ∙ c.told_numbers.ensures)
