@@ -155,7 +155,11 @@ module _ (v : Float) (d : Digits) (D : Decoded v (Some d)) where
   pub digits_over : 1074 ≤ d.k → 2 ^ 52 < d.w → CosineDigits (cos_of v) None
   digits_over a c = no_digits _ (cos_above v (units_above a (inr c)))
 
-  digits_one : (s : Bool) → lt v zero64 ≡ s → 1074 ≤ k → k ≤ 1074 → w ≤ 2 ^ 52 → CosineDigits (cos_of v) (Some (cond s (2 ^ 52) (2 ^ 53)))
+  -- both of these
+  pub digits_beyond : 1074 ≤ d.k → (1074 < d.k) ⊎ (2 ^ 52 < d.w) → CosineDigits (cos_of v) None
+  digits_beyond a c = no_digits _ (cos_above v (units_above a c))
+
+  pub digits_one : (s : Bool) → lt v zero64 ≡ s → 1074 ≤ k → k ≤ 1074 → w ≤ 2 ^ 52 → CosineDigits (cos_of v) (Some (cond s (2 ^ 52) (2 ^ 53)))
   digits_one s e a b l =
       all_are_digits _ _ (low s) (high s)
       (cos_is v r (le_of_eq (units_one a b l)) ∙ ap₂ (λ (s : Bool) (u : ℕ). nearest_cos s u) e (units_one a b l) ∙ at_one s)

@@ -32,6 +32,10 @@ square_lt y hi lo h e =
     let m : y * y ≤ 3 * 2 ^ 53 * (3 * 2 ^ 53) = mul-le-mul (let l : y ≤ 3 * 2 ^ 53 = omega arith in l) (let l : y ≤ 3 * 2 ^ 53 = omega arith in l) in
     omega arith
 
+-- y * y by its two words, and x the product of the two
+pub rise_is : (t hi lo x : ℕ) → let y = t - 2 ^ 53 in hi * 2 ^ 64 + lo ≡ y * y → x ≡ (y + 3 * 2 ^ 53) * (hi * 2 ^ 64 + lo) → x ≡ rise (2 ^ 53) t
+rise_is t hi lo x e f = let y = t - 2 ^ 53 in f ∙ ap (λ (z : ℕ). (y + 3 * 2 ^ 53) * z) e ∙ mul_comm (y + 3 * 2 ^ 53) (y * y)
+
 pub monotone : (level : ℕ) → Monotone (cos_le level)
 monotone level a b h t = le→leb (rise (2 ^ 53) a) level (le_trans (rise_ordered (2 ^ 53) a b h) (leb→le (rise (2 ^ 53) b) level t))
 

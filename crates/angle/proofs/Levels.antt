@@ -91,6 +91,11 @@ sum a b c d e f ea eb ec =
     ring 7 (λ a b c d e f W. (a :* W :+ b) :* W :+ c :+ ((d :* W :+ e) :* W :+ f) := ((a :+ d) :* W :+ (b :+ e)) :* W :+ (c :+ f)) tt a b c d e f (2 ^ 64)
     ∙ ap₂ (λ (x y : ℕ). x * 2 ^ 64 + y) (ap₂ (λ (x y : ℕ). x * 2 ^ 64 + y) ea eb) ec
 
+-- with what is carried where there is no rest
+pub filled : (a b c d e f A B C : ℕ) (rest : Bool) {t : Bool} → rest ≡ t → a + d ≡ A → b + e ≡ B → c + f ≡ C
+    → value A B C + cond t 1 0 ≡ 2 ^ 160 → value a b c + value d e f + cond rest 1 0 ≡ 2 ^ 160
+filled a b c d e f A B C rest r ea eb ec whole = ap₂ (λ (x : ℕ) (u : Bool). x + cond u 1 0) (sum a b c d e f ea eb ec) r ∙ whole
+
 pub top_lt : (hi mid lo : ℕ) → value hi mid lo < 2 ^ 160 → hi < 2 ^ 32
 top_lt hi mid lo h =
     lt_of_mul-lt-mul_right (2 ^ 128)

@@ -92,6 +92,12 @@ decoded_digits x n h = record {
 pub nan_none : (x : Float) → is_nan x ≡ true → Decoded x None
 nan_none x e = subst (λ (y : Float). Decoded y None) (nan_is x e) (record { regular = λ r. absurd (false≢true r); other = λ r. refl })
 
+pub self_not_nan : (x : Float) → ne x x ≡ false → T (not (is_nan x))
+unfolding ne is_nan
+self_not_nan nan e = absurd (false≢true (sym e))
+self_not_nan (inf s) e = tt
+self_not_nan (fin s m k) e = tt
+
 pub no_nan : (x : Float) → is_nan x ≡ false → T (not (is_nan x))
 no_nan x e = subst (λ (b : Bool). T (not b)) (sym e) tt
 

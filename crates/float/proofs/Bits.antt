@@ -4,7 +4,7 @@ use mathlib.Core.Bool.{Bool, true, not, false≢true}
 use Prim.Native.Nat.{ℕ, ◌%◌, ◌^◌, ◌<◌, ◌≤◌}
 use borrow.Author.Tests.{lt-ltb, le-ltb}
 use lib.Dec.{T}
-use lib.Ieee.{Float, nan, inf, fin, binary64, fits, is_nan, nan_bits, of_bits, to_bits}
+use lib.Ieee.{Float, nan, inf, fin, binary64, div, fits, is_nan, nan_bits, of_bits, to_bits}
 use lib.Ieee.Bits.{nan_bits_is, nan_bits_above, to_bits-lt}
 
 -- a test that is passed, as the format's laws have it
@@ -25,6 +25,10 @@ above_infinity n h = nan_is (of_bits binary64 n) (sym (nan_bits_is binary64 n) �
 -- any other is no NaN's
 pub up_to_infinity : (n : ℕ) → n % 0x8000_0000_0000_0000 ≤ 0x7FF0_0000_0000_0000 → T (not (nan_bits binary64 n))
 up_to_infinity n h = subst (λ (b : Bool). T (not b)) (sym (le-ltb _ _ h) ∙ sym (nan_bits_above binary64 n)) tt
+
+pub zero_over_zero : nan ≡ div binary64 (of_bits binary64 0) (of_bits binary64 0)
+unfolding div of_bits
+zero_over_zero = refl
 
 pub nan_pattern : nan ≡ of_bits binary64 0x7FF8_0000_0000_0000
 unfolding of_bits

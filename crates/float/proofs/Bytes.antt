@@ -1,7 +1,7 @@
 -- Writing eight bytes, and reading them back.
 use mathlib.Core.Path.{◌≡◌, refl, sym, ap, ◌∙◌}
 use mathlib.Core.List.{List, [], ◌∷◌, ◌++◌, append_assoc}
-use Prim.Native.Nat.{ℕ, zero, suc, ◌+◌, ◌/◌, ◌^◌, ◌<◌, ◌≤◌}
+use Prim.Native.Nat.{ℕ, zero, suc, ◌+◌, ◌-◌, ◌/◌, ◌%◌, ◌^◌, ◌<◌, ◌≤◌}
 use native.Mathlib.Nat.{mod-add-div, mod-eq_of_lt, add-zero}
 use native.Mathlib.Omega.{arith}
 use mir.Syntax.{w64}
@@ -12,7 +12,7 @@ use lib.ListN.{length, take, drop, get_or, set, length-set}
 use lib.Seq.{sets, sets-eq, drop-drop, get_or-set_same, get_or-set_other}
 use lib.Ieee.{Float, binary64, fits, of_bits, to_bits}
 use lib.Ieee.Bits.{of_bits-to_bits}
-use Rattle.float.specs.Bytes.{u64_at, f64_at, bytes_of}
+use Rattle.float.specs.Bytes.{u64_at, f64_at, low_bytes, bytes_of}
 use Rattle.float.proofs.Bits.{bits_below}
 
 -- ---- writing
@@ -35,6 +35,18 @@ stored l vs ws at k e n h =
     ap (λ (x : List ℕ). take at l ++ (x ++ drop k (drop at l))) e
     ∙ ap (λ (x : List ℕ). take at l ++ (vs ++ x)) (drop-drop k at l ∙ ap (λ (j : ℕ). drop (at + j) l) n)
     ∙ sym (append_assoc (take at l) vs _) ∙ sym (sets-eq vs l at h)
+
+-- ---- writing byte by byte: what is left, done to the buffer as it is, is the whole
+
+pub put_turn : (l : List ℕ) (at i n : ℕ) → i < 8 → sets l (at + i) (low_bytes (8 - i) n)
+    ≡ sets (set l (at + i) (n % 256)) (at + (i + 1)) (low_bytes (8 - (i + 1)) (n / 256))
+put_turn l at i n h =
+    let e : 8 - i ≡ suc (8 - (i + 1)) = omega arith in
+    let f : suc (at + i) ≡ at + (i + 1) = omega arith in
+    ap (λ (k : ℕ). sets l (at + i) (low_bytes k n)) e ∙ ap (λ (j : ℕ). sets (set l (at + i) (n % 256)) j (low_bytes (8 - (i + 1)) (n / 256))) f
+
+pub put_end : (l : List ℕ) (at i n : ℕ) → 8 ≤ i → sets l (at + i) (low_bytes (8 - i) n) ≡ l
+put_end l at i n h = let e : 8 - i ≡ 0 = omega arith in ap (λ (k : ℕ). sets l (at + i) (low_bytes k n)) e
 
 -- ---- reading back
 

@@ -1,17 +1,17 @@
 -- What comparisons with 0, with the infinities and with itself say of a float.
-use mathlib.Core.Path.{◌≡◌, refl, sym, subst}
-use mathlib.Core.Bool.{true, false, beq, ◌||◌, true≢false, false≢true}
+use mathlib.Core.Path.{◌≡◌, refl, sym, ap, subst, ◌∙◌}
+use mathlib.Core.Bool.{Bool, true, false, beq, ◌&&◌, ◌||◌, true≢false, false≢true}
 use Prim.Native.Nat.{◌+◌, ◌*◌, ◌<◌, ◌≤◌}
 use native.Mathlib.Nat.{zero-mul}
 use native.Mathlib.Omega.{arith}
 use borrow.Author.Tests.{ltb-true, ltb-false, eq-eqb}
 use lib.IntN.{pos}
 use lib.Dec.{T, eqb, eqb→eq}
-use lib.Ieee.{Float, nan, inf, fin, binary64, up, down, neg, lt, eq, ne, fits, is_nan, of_bits}
+use lib.Ieee.{Float, nan, inf, fin, binary64, up, down, neg, lt, eq, ne, fits, is_nan, of_bits, div}
 use lib.Ieee.Fits.{and_l}
 use lib.Ieee.Back.{whole_unique}
 use Rattle.std.specs.Float.{float_is_finite, is_sign_negative}
-use Rattle.float.specs.Literals.{zero64}
+use Rattle.float.specs.Literals.{zero64, one64, inf64}
 use Rattle.float.specs.Methods.{abs_of, is_finite_of, is_sign_negative_of, copysign_of}
 
 -- x differs from itself exactly where it is nan
@@ -22,6 +22,17 @@ ne_self (inf true) = refl
 ne_self (inf false) = refl
 ne_self (fin true m e) = simp (eq-eqb (m * up e * down e) (m * up e * down e) refl)
 ne_self (fin false m e) = simp (eq-eqb (m * up e * down e) (m * up e * down e) refl)
+
+-- finite: between the infinities
+between : (x : Float) → (lt (neg inf64) x && lt x inf64) ≡ is_finite_of x
+unfolding lt neg of_bits is_finite_of
+between nan = refl
+between (inf true) = refl
+between (inf false) = refl
+between (fin s m e) = refl
+
+pub finite_is : (x i : Float) → i ≡ inf64 → (lt (neg i) x && lt x i) ≡ is_finite_of x
+finite_is x i h = rw h (between x)
 
 -- std's names for what is finite and for the sign
 pub finite_as : (x : Float) → float_is_finite x ≡ is_finite_of x
@@ -77,6 +88,24 @@ level_zero (inf s) t h = absurd (false≢true h)
 level_zero (fin s m e) t h =
     let level = and_l (eqb (m * up e * 1) (0 * 1 * down e)) (beq s false || eqb (m * up e * 1) 0) (subst T (sym h) tt) in
     whole_unique binary64 (fin s m e) (fin s 0 (pos 0)) s 0 t tt (refl, eqb→eq _ _ level) (refl, refl)
+
+-- 1 / ±0 is an infinity of that sign
+over_zero : (s : Bool) → lt (div binary64 one64 (fin s 0 (pos 0))) zero64 ≡ s
+unfolding lt div of_bits
+over_zero true = refl
+over_zero false = refl
+
+-- so a division tells the sign of a zero
+pub zero_sign : (x : Float) → T (fits binary64 x) → eq x zero64 ≡ true → lt (div binary64 one64 x) zero64 ≡ is_sign_negative_of x
+zero_sign x t h = ap (λ (y : Float). lt (div binary64 one64 y) zero64) (level_zero x t h) ∙ over_zero (is_sign_negative_of x)
+
+-- of anything but a zero, a comparison with 0 does
+pub other_sign : (x : Float) → eq x zero64 ≡ false → lt x zero64 ≡ is_sign_negative_of x
+other_sign x h = told (lt x zero64) refl
+  where
+    told : (b : Bool) → lt x zero64 ≡ b → lt x zero64 ≡ is_sign_negative_of x
+    told true k = k ∙ sym (below_zero x k)
+    told false k = k ∙ sym (not_below x k h)
 
 -- ---- the size, by the sign
 

@@ -23,6 +23,7 @@ use Rattle.poly.specs.declared.Solved.{Solved}
 use Rattle.poly.specs.Coefficients.{zeros_of, counted_of, refusal_of, poly_of}
 use Rattle.poly.specs.Solve.{finished_of, solve_of, solved_in}
 use Rattle.poly.specs.Brief.{relogged, ButLogs}
+use Rattle.poly.proofs.Refusals.{solved_number}
 use Rattle.asking.specs.Asking.{Asking, done, answered, places_asked, walked}
 use Rattle.asking.proofs.Feeding.{question, finish}
 use Rattle.touching.proofs.Logs.{same_touching}
@@ -52,6 +53,16 @@ pub brief_has : (sine : Sine) (coeffs : List Float) (tol : Float) (r : Result So
 brief_has sine coeffs tol r (lg, b) =
     subst⁻¹ (λ (x : Result Solved Refusal). Has (real_roots_touching sine coeffs tol) [] (fresh_by (solved_in x))) b
     (relogged_has (real_roots_touching sine coeffs tol) lg (solve_of sine coeffs tol) (solved_has sine coeffs tol))
+
+logged_number : (lg : List Float) (q : Result Solved Refusal)
+    → outcome_of (and_then q (λ s. Ok (relogged lg s))) ≡ outcome_of q
+logged_number lg (Ok s) = refl
+logged_number lg (Err refusal) = refl
+
+pub brief_number : (sine : Sine) (coeffs : List Float) (tol : Float) (r : Result Solved Refusal)
+    → ButLogs r (solve_of sine coeffs tol) → outcome_of r ≡ refusal_of coeffs
+brief_number sine coeffs tol r (lg, b) =
+    ap outcome_of b ∙ logged_number lg (solve_of sine coeffs tol) ∙ solved_number sine coeffs tol
 
 -- a refused list asks nothing
 pub refused_asks : (sine : Sine) (coeffs : List Float) (tol : Float) → eqb (refusal_of coeffs) 0 ≡ false → real_roots_touching sine coeffs tol ≡ done []

@@ -160,6 +160,12 @@ module _ (lin : List Float) (n : ℕ) (quad : List Quad) (k : ℕ) where
       ∙ ap (all_added no_units) (append_assoc (reals lin n) (splits quad k) (quad_units_of (get_or quad k d)))
       ∙ ap (λ (l : List Unit). all_added no_units (reals lin n ++ l)) (sym (splits_more quad k d h))
 
+module _ (lin : List Float) (n : ℕ) (quad : List Quad) (k : ℕ) (u : Units)
+    (E : u ≡ all_added no_units (reals lin n ++ splits quad k)) where
+  pub splits_all : (m : ℕ) → k ≤ m → m ≤ k → u ≡ all_added no_units (reals lin n ++ splits quad m)
+  splits_all m h g =
+      E ∙ ap (λ (j : ℕ). all_added no_units (reals lin n ++ splits quad j)) (let e : k ≡ m = omega arith in e)
+
 -- What the functions' proofs rest on.
 pub ruleset units = (get_or-take, length_mapped, reals_none, reals_room, real_added, reals_all, splits_room, quad_added, units_are)
 

@@ -38,6 +38,9 @@ pub with_sized : (f : Factors) (x : Unit) → Sized f → Sized (with_unit f x)
 unfolding with_unit
 with_sized f x S = either_way Sized (is_nan x.be) (lin_sized f x.al S) (quad_sized f x.al x.be S)
 
+pub unit_sized : (f : Factors) (x : Unit) (r : Factors) → r ≡ with_unit f x → Sized f → Sized r
+unit_sized f x r e S = subst Sized (sym e) (with_sized f x S)
+
 pub none_sized : (f : Factors) → f ≡ no_factors → Sized f
 none_sized f e = subst Sized (sym e) (omega arith, omega arith)
 

@@ -1,6 +1,6 @@
 -- The large factors, taken from the units in the order of their sizes: each is taken, or ends the search.
-use mathlib.Core.Path.{◌≡◌, ap, ◌∙◌}
-use mathlib.Core.Bool.{cond}
+use mathlib.Core.Path.{◌≡◌, ap, ◌∙◌, sym}
+use mathlib.Core.Bool.{cond, Bool, true, false}
 use mathlib.Core.List.{List, map}
 use Prim.Native.Nat.{ℕ, ◌+◌, ◌≤◌, ◌<◌}
 use native.Mathlib.Nat.{min-le_left}
@@ -51,6 +51,11 @@ module _ (f : Factors) (D : degree_of f ≤ 4) (u : Units) (E : u ≡ all_added 
   large_is sizes S order want threshold r L O R =
       R ∙ ap (large_from want (mul binary64 threshold epsilon64) no_factors) (ap (λ (l : List ℕ). in_order u.at l u.n) O ∙ sorted sizes S L)
 
+-- ---- the search, from no factors on
+pub take_none : (want : ℕ) (least : Float) (l : List Unit) (large : Factors) → large ≡ no_factors
+    → large_from want least large l ≡ large_from want least no_factors l
+take_none want least l large e = ap (λ (f : Factors). large_from want least f l) e
+
 -- ---- the search: a unit is taken, or ends it; and its end
 module _ (at : List Unit) (order : List ℕ) (n i want : ℕ) (least : Float) (large : Factors) where
   abbrev next : Unit
@@ -67,6 +72,23 @@ module _ (at : List Unit) (order : List ℕ) (n i want : ℕ) (least : Float) (l
   take_all h =
       let few = length-map (take n order) (unit_at at) ∙ length-take n order in
       ap (large_from want least large) (drop_of_length-le (map (unit_at at) (take n order)) {i = i} (omega (arith, few, min-le_left n (length order))))
+
+-- by what the test of a unit found
+module _ (at : List Unit) (order : List ℕ) (n : ℕ) (N : n ≤ 4) (i : ℕ) (want : ℕ) (least : Float)
+    (large : Factors) (degree : ℕ)
+    (D : degree ≡ degree_of large) (t : Bool)
+    (X : t ≡ ends_of (unit_at at (get_or order i 0)) degree want least) (L : length order ≡ 4) (h : i < n) where
+  test : ends_of (unit_at at (get_or order i 0)) (degree_of large) want least ≡ t
+  test = ap (λ (k : ℕ). ends_of (unit_at at (get_or order i 0)) k want least) (sym D) ∙ sym X
+
+  pub take_ends : t ≡ true → large ≡ large_from want least large (drop i (in_order at order n))
+  take_ends T = sym (take_one at order n i want least large L N h ∙ rw (test ∙ T))
+
+  pub take_more : (more : Factors) → t ≡ false
+      → more ≡ with_unit large (unit_at at (get_or order i 0))
+      → large_from want least more (drop (i + 1) (in_order at order n))
+      ≡ large_from want least large (drop i (in_order at order n))
+  take_more more T M = sym (take_one at order n i want least large L N h ∙ rw (test ∙ T, M))
 
 -- What the functions' proofs rest on.
 pub ruleset taken = (get_or-take, length-take-le, none_sized, with_sized, take_one, take_all)

@@ -2,3 +2,4 @@ pub mod Gap
 pub mod Logs
 pub mod None
 pub mod Turns
+pub mod Spans

@@ -39,14 +39,19 @@ use Rattle.formula_roots.proofs.Solved.{answered_by_list}
 use Rattle.listing.specs.Printable.{Printable, CrankPrintable}
 
 -- A list within demand 1's bounds, in its array.
-within_short : (d : ℕ) (l : List RealRoot) → d < 100 → Within d l → Printable (roots_of l)
-within_short d l h w = record {
-  fits = roots_fit l w.four;
-  short = subst (λ (k : List RealRoot). multiplicities k < 100) (sym (list_roots l)) (omega (arith, w.sum));
-}
+pub within_short : (d : ℕ) (l : List RealRoot) → d < 100 → Within d l
+    → Printable (roots_of l) × ((roots_of l).len ≤ d)
+within_short d l h w = (
+  record {
+    fits = roots_fit l w.four;
+    short =
+        subst (λ (k : List RealRoot). multiplicities k < 100) (sym (list_roots l)) (omega (arith, w.sum));
+  },
+  omega (arith, length_counted l (counted l w.listed), w.sum),
+)
 
 pub none_short : Printable no_roots
-none_short = within_short 0 [] (omega arith) within_none
+none_short = (within_short 0 [] (omega arith) within_none).0
 
 -- ---- lists
 pub record ListShort (cs : List Float) (a : Result Roots Refusal) : Type 0 where
@@ -94,7 +99,7 @@ crank_short sine confusion trig = go (crank_start_of sine confusion trig) refl
         → CrankPrintable (and_then start (λ c. Ok (record { k = solved.0; roots = roots_of solved.1 })))
     go (Ok c) e = (
       subst (λ (k : ℕ). k < 8) (all.k_is (ap outcome_of e) (λ k u. false)) all.eighths,
-      within_short (degree_left (trig_quartic_of trig)) solved.1 (omega (arith, all.degree)) (all.list (λ k u. false)),
+      (within_short (degree_left (trig_quartic_of trig)) solved.1 (omega (arith, all.degree)) (all.list (λ k u. false))).0,
     )
     go (Err refusal) e = tt
 

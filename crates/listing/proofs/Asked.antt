@@ -1,7 +1,7 @@
 -- What the solver answers to a record's numbers can be printed, and is short; the roots that it lists are few.
 use mathlib.Core.Path.{◌≡◌, subst⁻¹}
 use mathlib.Core.List.{List}
-use Prim.Native.Nat.{ℕ, ◌+◌, ◌*◌, ◌-◌, ◌≤◌}
+use Prim.Native.Nat.{ℕ, ◌+◌, ◌*◌, ◌-◌, ◌≤◌, ◌<◌}
 use native.Mathlib.Omega.{arith}
 use lib.ListN.{length, drop, length-take}
 use Rattle.angle.specs.declared.Sine.{Sine}
@@ -11,8 +11,10 @@ use Rattle.roots.specs.declared.Roots.{Roots}
 use Rattle.roots.specs.Roots.{list_of}
 use Rattle.roots.specs.Listed.{multiplicities}
 use Rattle.poly.specs.RealRoots.{roots_in}
-use Rattle.std.specs.Prelude.{Result}
+use Rattle.std.specs.Prelude.{Result, Ok, Err}
 use Rattle.refusals.specs.declared.Refusal.{Refusal}
+use Rattle.refusals.specs.Refusals.{outcome_of}
+use Rattle.refusals.proofs.Numbers.{number_bounds}
 use Rattle.crank.specs.declared.CrankAnswer.{CrankAnswer}
 use Rattle.crank.proofs.Theorem.{cranks}
 use Rattle.contact.proofs.Theorem.{contacts}
@@ -28,6 +30,7 @@ use Rattle.listing.specs.Totals.{listed_at}
 use Rattle.listing.specs.Printable.{Printable, CrankPrintable}
 use Rattle.listing.proofs.Texts.{or_length, polynomial_length, quadratic_length, crank_length}
 use Rattle.listing.proofs.Answers.{none_short, ListShort, list_short, crank_short, crank_listed, contact_short, FormulaShort, formula_short}
+use Rattle.solution.specs.declared.QuadraticSolution.{QuadraticSolution}
 
 module _ (sine : Sine) (s : List ℕ) (at : ℕ) where
   polynomial_at_short : ListShort (f64s_at (count_at s at) s (at + 11)) (polynomial_at sine s at)
@@ -49,6 +52,11 @@ module _ (sine : Sine) (s : List ℕ) (at : ℕ) where
   -- ---- what printing them asks
   pub polynomial_prints : (r : Result Roots Refusal) → r ≡ polynomial_at sine s at → Printable (roots_in r)
   polynomial_prints r e = subst⁻¹ (λ (a : Result Roots Refusal). Printable (roots_in a)) e polynomial_at_short.roots
+
+  pub quadratic_prints : (r : Result QuadraticSolution Refusal) → r ≡ quadratic_at s at
+      → outcome_of r < 100
+  quadratic_prints (Ok x) e = omega arith
+  quadratic_prints (Err refusal) e = (number_bounds refusal).1
 
   pub crank_prints : (r : Result CrankAnswer Refusal) → r ≡ crank_at sine s at → CrankPrintable r
   crank_prints r e = subst⁻¹ CrankPrintable e crank_at_short

@@ -30,6 +30,14 @@ use Rattle.listing.specs.Lines.{place_text, root_text, roots_text, refused_text,
 use Rattle.listing.specs.Lines.{words_of, head_of, line_of}
 use Rattle.listing.specs.Printable.{Printable, CrankPrintable}
 
+-- ---- an answer or a refusal
+pub answered : (refused : Option Refusal) (t : List ℕ) → refused ≡ None → t ≡ or_refused refused t
+answered refused t e = rw e
+
+pub refusal : (refused : Option Refusal) (r : Refusal) (t : List ℕ) → refused ≡ Some r
+    → refused_text (number_of r) ≡ or_refused refused t
+refusal refused r t e = rw e
+
 -- ---- roots
 pub place_length : (x : Float) → length (place_text x) ≡ 17
 unfolding place_text

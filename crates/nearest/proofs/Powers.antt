@@ -14,7 +14,7 @@ use Rattle.algebra.specs.NatOrder.{pow2_join}
 use Rattle.decode.specs.declared.digits.Digits.{Digits}
 use Rattle.decode.specs.Shape.{Normal}
 use Rattle.nearest.specs.Greatest.{greatest, nearest_of, Floor, NearestHalf}
-use Rattle.nearest.proofs.ByTest.{Monotone, Sized, odd_middle, by_test, half_of_floor, half_bounds}
+use Rattle.nearest.proofs.ByTest.{Monotone, Sized, odd_middle, by_test, floor_bounds, half_of_floor, half_bounds}
 
 -- f t is t to the power e
 pub record Power (e : ℕ) (f : ℕ → ℕ) : Type 0 where
@@ -102,7 +102,7 @@ module _ (e : ℕ) (f : ℕ → ℕ) (P : Power e f) where
   -- ---- w has 53 digits, d is what is left of an exponent divided by e, and q digits more make 53 or 54 of the root
 
   module _ (q : ℕ) (full : q + 52 ≡ 53 * e) where
-    of_size : (w d : ℕ) → 2 ^ 52 ≤ w → w < 2 ^ 53 → d < e → Sized (at_root f (w * 2 ^ d * 2 ^ q))
+    pub of_size : (w d : ℕ) → 2 ^ 52 ≤ w → w < 2 ^ 53 → d < e → Sized (at_root f (w * 2 ^ d * 2 ^ q))
     of_size w d lo hi l = record {
       least = le-leb (f (2 ^ 53)) (w * 2 ^ d * 2 ^ q)
           (subst (λ (x : ℕ). x ≤ w * 2 ^ d * 2 ^ q) (sym (pow-add 2 52 q)
@@ -119,9 +119,11 @@ module _ (e : ℕ) (f : ℕ → ℕ) (P : Power e f) where
     sized n = of_size n.w (n.k % e) n.led n.short (mod-lt n.k P.degree)
 
     -- from the whole part that the search finds, to the whole number nearest to half the root
-    pub from_floor : (n : Digits) (t : ℕ) → Floor (at_root f (n.w * 2 ^ (n.k % e) * 2 ^ q)) t
-        → NearestHalf (at_root f (n.w * 2 ^ (n.k % e) * 2 ^ q)) ((t + 1) / 2)
-    from_floor n t g = half_of_floor _ (monotone _) (sized n) t g
+    pub from_floor : (w d t : ℕ) → 2 ^ 52 ≤ w → w < 2 ^ 53 → d < e → Floor (at_root f (w * 2 ^ d * 2 ^ q)) t → (t < 2 ^ 54)
+        × NearestHalf (at_root f (w * 2 ^ d * 2 ^ q)) ((t + 1) / 2)
+    from_floor w d t lo hi l g =
+        let long = of_size w d lo hi l in
+        ((floor_bounds _ (monotone _) long t g).1, half_of_floor _ (monotone _) long t g)
 
     pub half_digits : (n : Digits) (m : ℕ) → NearestHalf (at_root f (n.w * 2 ^ (n.k % e) * 2 ^ q)) m → (2 ^ 52 ≤ m) × (m ≤ 2 ^ 53)
     half_digits n m g = half_bounds _ (monotone _) (sized n) m g

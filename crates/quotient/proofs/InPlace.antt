@@ -11,8 +11,9 @@ use lib.Seq.{drop-cons, drop-set-lt, get_or-set_same, get_or-set_other}
 use lib.Ieee.{Float, nan, binary64, add, mul}
 use Rattle.facts.specs.Arrays.{fill_from, from_fn}
 use Rattle.facts.specs.Count.{count_down, down_turn, down_end}
-use Rattle.quotient.specs.Quotient.{product_term_of, next_at}
+use Rattle.quotient.specs.Quotient.{product_term_of, next_at, mul_of}
 use Rattle.quotient.proofs.Terms.{terms_all, terms_turn, none_after}
+use Rattle.quotient.specs.declared.Monic.{Monic}
 
 -- ---- an array by a rule: rules that agree below its end, and its last place
 agreeing : (g h : ℕ → Float) (i k : ℕ) → ((j : ℕ) → j < i + k → g j ≡ h j) → fill_from i k g ≡ fill_from i k h
@@ -62,6 +63,18 @@ module _ (dl : ℕ) (f : List Float) where
 
   pub all_placed : (l : List Float) → length l ≡ 5 → count_down put_next 5 l ≡ from_fn 5 (next_at l dl f)
   all_placed l e = placed 5 l (omega arith) ∙ ap (λ (r : List Float). from_fn 5 (next_at l dl f) ++ r) (drop_of_length-le l {i = 5} (omega arith))
+
+  -- t of them are put, and k = 4 - t is next
+  pub next_placed : (t : ℕ) (l : List Float) → t < 5
+      → count_down put_next (5 - t) l ≡ count_down put_next (5 - (t + 1)) (put_next (4 - t) l)
+  unfolding count_down
+  next_placed t l h =
+      ap (λ (n : ℕ). count_down put_next n l) (let e : 5 - t ≡ suc (4 - t) = omega arith in e)
+      ∙ ap (λ (n : ℕ). count_down put_next n (put_next (4 - t) l)) (let e : 4 - t ≡ 5 - (t + 1) = omega arith in e)
+
+pub mul_is : (p : Monic) (f : List Float) (l : List Float) → l ≡ from_fn 5 (next_at p.l p.dl f) → record { l = l; dl = p.dl + (length f - 1) } ≡ mul_of p f
+unfolding mul_of
+mul_is p f l e = λ i. record { l = e i; dl = p.dl + (length f - 1) }
 
 -- What the product's proof rests on.
 pub ruleset terms = (down_turn, down_end, terms_all, terms_turn, none_after, all_placed)

@@ -14,7 +14,7 @@ use Rattle.float.specs.Literals.{zero64}
 use Rattle.quotient.specs.Quotient.{product_term_of, next_at}
 
 module _ (l : List Float) (dl : ℕ) (f : List Float) (k : ℕ) where
-  term_there : (j : ℕ) (acc : Float) → j ≤ k → k - j ≤ dl
+  pub term_there : (j : ℕ) (acc : Float) → j ≤ k → k - j ≤ dl
       → product_term_of l dl f k j acc ≡ add binary64 acc (mul binary64 (get_or l (k - j) nan) (get_or f j nan))
   unfolding product_term_of
   term_there j acc h m = rw (le-leb j k h, le-leb (k - j) dl m)
@@ -31,7 +31,7 @@ module _ (l : List Float) (dl : ℕ) (f : List Float) (k : ℕ) where
   terms_below = count_down (product_term_of l dl f k)
 
   -- those above
-  none_before : (n : ℕ) (acc : Float) → terms_below n acc ≡ terms_below (min n (k + 1)) acc
+  pub none_before : (n : ℕ) (acc : Float) → terms_below n acc ≡ terms_below (min n (k + 1)) acc
   unfolding count_down
   none_before zero acc = ap (λ (m : ℕ). terms_below m acc) (let e : 0 ≡ min 0 (k + 1) = omega arith in e)
   none_before (suc j) acc =

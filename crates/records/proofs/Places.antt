@@ -12,12 +12,18 @@ use Rattle.std.specs.Array.{IsFirstChunk}
 use Rattle.std.proofs.lemmas.List.{take_rest, get_or-drop, get_or-take}
 use Rattle.std.proofs.lemmas.Option.{none-some}
 use Rattle.refusals.specs.declared.Refusal.{Refusal}
-use Rattle.refusals.specs.declared.Refusal.TheVariants.{UnknownMark, Cut, CountTooLarge}
+use Rattle.refusals.specs.declared.Refusal.TheVariants.{UnknownMark, Cut, CountTooLarge, FileTooLong}
 use Rattle.records.specs.declared.Kind.{Kind}
 use Rattle.records.specs.declared.Kind.TheVariants.{Polynomial, Quadratic, Crank, Contact, Formula, Unknown}
 use Rattle.records.specs.declared.Record.{Record}
 use Rattle.records.specs.Marks.{is_mark, marked_of, kind_at}
 use Rattle.records.specs.Records.{count_at, ended_of, held_of, counted_of, polynomial_record, formula_record, record_of, record_at, Sound}
+
+-- a record whose mark was read
+pub record_is : (s : List ℕ) (at : ℕ) → 2 ≤ length s - at → (k m : Kind) → k ≡ kind_at s at
+    → k ≡ m → record_of m s at ≡ record_at s at
+unfolding record_at
+record_is s at h k m e f = simp (le-ltb _ _ h) (ap (λ (x : Kind). record_of x s at) (sym f ∙ e))
 
 -- ---- a record whose mark was read, for `using`
 module _ (s : List ℕ) (at : ℕ) where
@@ -32,25 +38,28 @@ module _ (s : List ℕ) (at : ℕ) where
         ap (λ (x : List ℕ). get_or x i 0) first.same ∙ get_or-take 2 _ i 0 l ∙ ap (λ (x : List ℕ). get_or x i 0) (take_rest s at) ∙ get_or-drop at s i 0
         ∙ ap (λ (k : ℕ). get_or s k 0) e
 
-    record_is : record_of m s at ≡ record_at s at
-    unfolding record_at kind_at marked_of is_mark
-    record_is =
+    mark_read : record_of m s at ≡ record_at s at
+    unfolding kind_at marked_of is_mark
+    mark_read =
         let h : 2 ≤ length s - at = omega (arith, first.enough, ap length (take_rest s at), length-drop at s) in
         let same : kind_at mark 0 ≡ kind_at s at =
         ap₂ (λ (x y : ℕ). kind_at (x ∷ y ∷ []) 0) (byte_at 0 at (omega arith) (omega arith)) (byte_at 1 (at + 1) (omega arith) refl) in
-        simp (le-ltb _ _ h) (ap (λ (x : Kind). record_of x s at) (sym f ∙ e ∙ same))
+        record_is s at h k m (e ∙ same) f
 
     pub held_read : (size : ℕ) {r : Record} → r ≡ held_of k size s at → held_of m size s at ≡ record_of m s at → r ≡ record_at s at
-    held_read size is same = is ∙ ap (λ (x : Kind). held_of x size s at) f ∙ same ∙ record_is
+    held_read size is same = is ∙ ap (λ (x : Kind). held_of x size s at) f ∙ same ∙ mark_read
 
     pub unknown_read : {r : Record} → m ≡ Unknown → r ≡ ended_of k UnknownMark s → r ≡ record_at s at
     unfolding record_of
     unknown_read g is =
-        is ∙ ap (λ (x : Kind). ended_of x UnknownMark s) (f ∙ g) ∙ ap (λ (x : Kind). record_of x s at) (sym g) ∙ record_is
+        is ∙ ap (λ (x : Kind). ended_of x UnknownMark s) (f ∙ g)
+        ∙ ap (λ (x : Kind). record_of x s at) (sym g) ∙ mark_read
 
     pub list_read : {r : Record} → m ≡ Polynomial → r ≡ counted_of k 8 32 s at → r ≡ record_at s at
     unfolding counted_of record_of polynomial_record
-    list_read g is = is ∙ ap (λ (x : Kind). counted_of x 8 32 s at) (f ∙ g) ∙ ap (λ (x : Kind). record_of x s at) (sym g) ∙ record_is
+    list_read g is =
+        is ∙ ap (λ (x : Kind). counted_of x 8 32 s at) (f ∙ g)
+        ∙ ap (λ (x : Kind). record_of x s at) (sym g) ∙ mark_read
 
     -- no byte is above 255
     pub text_read : {r : Record} → m ≡ Formula → count_at s at < 256 → r ≡ counted_of k 1 255 s at → r ≡ record_at s at
@@ -58,7 +67,8 @@ module _ (s : List ℕ) (at : ℕ) where
     text_read g few is =
         let one : 1 * count_at s at ≡ count_at s at = omega arith in
         let same : counted_of Formula 1 255 s at ≡ record_of Formula s at = simp (le-ltb 255 (count_at s at) (omega arith), one) in
-        is ∙ ap (λ (x : Kind). counted_of x 1 255 s at) (f ∙ g) ∙ same ∙ ap (λ (x : Kind). record_of x s at) (sym g) ∙ record_is
+        is ∙ ap (λ (x : Kind). counted_of x 1 255 s at) (f ∙ g) ∙ same
+        ∙ ap (λ (x : Kind). record_of x s at) (sym g) ∙ mark_read
 
 pub ruleset reads = (cut_mark, held_read, unknown_read, list_read, text_read)
 
@@ -125,6 +135,10 @@ module _ (P : Record → Type 0) (s : List ℕ) (at : ℕ) (ends : (kind : Kind)
 module _ (s : List ℕ) (at : ℕ) where
   refused_sound : (kind : Kind) (refusal : Refusal) → Sound (ended_of kind refusal s) s at
   refused_sound kind refusal e = absurd (none-some refusal (sym e))
+
+  pub too_long_sound : (r : Record) → r ≡ ended_of Unknown FileTooLong s → Sound r s at
+  too_long_sound r e =
+      subst (λ (x : Record). Sound x s at) (sym e) (refused_sound Unknown FileTooLong)
 
   pub record_sound : (r : Record) → r ≡ record_at s at → Sound r s at
   record_sound r e =

@@ -1,4 +1,5 @@
--- What the functions' proofs share, and the most systems that are solved.
+-- What the functions' proofs share, the turns of `refine`, and the most systems that are solved.
 pub mod Laws
+pub mod Turns
 pub mod Sizes
 pub mod Most

@@ -45,7 +45,7 @@ four_set {A} l d k r four h = of_four (λ (l : List A). four_with l d k r ≡ se
     go (suc (suc (suc (suc k)))) h a b c e = absurd (omega arith)
 
 module _ (s : Roots) (r : RealRoot) where
-  pushed_at : (k : ℕ) → length s.root ≡ 4 → k < 4 → s.len ≡ k → record { root = four_with s.root blank k r; len = k + 1 } ≡ pushed_of s r
+  pub pushed_at : (k : ℕ) → length s.root ≡ 4 → k < 4 → s.len ≡ k → record { root = four_with s.root blank k r; len = k + 1 } ≡ pushed_of s r
   unfolding pushed_of
   pushed_at k four h e = rw (e, lt-ltb k 4 h) (ap (λ (l : List RealRoot). record { root = l; len = k + 1 }) (four_set s.root blank k r four h))
 
@@ -140,7 +140,7 @@ two_set (a ∷ []) k p e h = absurd (omega (arith, e))
 two_set (a ∷ b ∷ x ∷ l) k p e h = absurd (omega (arith, e))
 
 module _ (s : Pairs) (p : Pair) (finite : is_finite_of p.centre ≡ true) where
-  paired_at : (k : ℕ) → length s.pair ≡ 2 → k < 2 → s.len ≡ k → record { pair = two_with s.pair k p; len = k + 1 } ≡ paired_in s p
+  pub paired_at : (k : ℕ) → length s.pair ≡ 2 → k < 2 → s.len ≡ k → record { pair = two_with s.pair k p; len = k + 1 } ≡ paired_in s p
   unfolding paired_in
   paired_at k two h e = rw (finite, e, lt-ltb k 2 h) (ap (λ (l : List Pair). record { pair = l; len = k + 1 }) (two_set s.pair k p two h))
 

@@ -91,7 +91,7 @@ module _ (a : List Float) (d n k r w z : ℕ) (N : w * 2 ^ z ≡ units_of (get_o
   next {s} = subst (λ (m : ℕ). Best a d m s) (let e : suc n ≡ n + 1 = omega arith in e)
 
   -- it needs more than the others
-  best_raised : (s : ℕ) → s ≡ r → k < r → Best a d (n + 1) s
+  pub best_raised : (s : ℕ) → s ≡ r → k < r → Best a d (n + 1) s
   unfolding held_below
   best_raised s q l =
       subst (λ (t : ℕ). Best a d (n + 1) t) (sym q)
@@ -103,7 +103,7 @@ module _ (a : List Float) (d n k r w z : ℕ) (N : w * 2 ^ z ≡ units_of (get_o
       }))
 
   -- it does not
-  best_kept : (s : ℕ) → s ≡ k → r ≤ k → Best a d (n + 1) s
+  pub best_kept : (s : ℕ) → s ≡ k → r ≤ k → Best a d (n + 1) s
   unfolding held_below
   best_kept s q l =
       subst (λ (t : ℕ). Best a d (n + 1) t) (sym q)
@@ -115,14 +115,14 @@ module _ (a : List Float) (d n k r w z : ℕ) (N : w * 2 ^ z ≡ units_of (get_o
       }))
 
   -- whichever it does
-  either : (s : ℕ) → (k < r → s ≡ r) → (r ≤ k → s ≡ k) → Best a d (n + 1) s
-  either s p q = ⊎_elim (λ l. best_kept s (q l) l) (λ l. best_raised s (p l) l) (le_or_lt r k)
+  pub best_more : (s : ℕ) → (k < r → s ≡ r) → (r ≤ k → s ≡ k) → Best a d (n + 1) s
+  best_more s p q = ⊎_elim (λ l. best_kept s (q l) l) (λ l. best_raised s (p l) l) (le_or_lt r k)
 
--- s is the larger of the two, whatever function gives it
-pub best_more : (a : List Float) (d n k r : ℕ) (lead m : Digits) → Decoded (get_or a d nan) (Some lead) → Decoded (get_or a n nan) (Some m)
+-- the same by the digits of both: s is the larger of the two, whatever function gives it
+pub best_by_digits : (a : List Float) (d n k r : ℕ) (lead m : Digits) → Decoded (get_or a d nan) (Some lead) → Decoded (get_or a n nan) (Some m)
     → Least (lead.w * 2 ^ lead.k) (m.w * 2 ^ m.k) (d - n) r → Best a d n k → (s : ℕ) → (k < r → s ≡ r) → (r ≤ k → s ≡ k) → Best a d (n + 1) s
-best_more a d n k r lead m D E L B =
-    either a d n k r lead.w lead.k (decoded_normal _ _ D).value
+best_by_digits a d n k r lead m D E L B =
+    best_more a d n k r lead.w lead.k (decoded_normal _ _ D).value
     (subst (λ (u : ℕ). Least (lead.w * 2 ^ lead.k) u (d - n) r) (decoded_normal _ _ E).value L) B
 
 -- one without digits needs nothing
@@ -184,9 +184,8 @@ module _ (a : List Float) (d n k : ℕ) (R : regular_of (get_or a d nan) ≡ tru
   pub exponent_none : k ≡ 0 → pos 0 ≡ scale_exponent_of a d
   exponent_none z = rw (exponent_is, R, is_false (too_small a d 0) (subst (λ (m : ℕ). T (not (too_small a d m))) z (large k all.holds)))
 
-  -- as the machine computes it
-  pub exponent_some : (k ≡ 0 → ⊥) → scale_exponent_of a d ≡ to_z w32 (of_z w32 (to_z w32 k -ℤ pos 2098))
-  exponent_some z = sym (less k all.bound ∙ go k all (λ (h : 0 ≡ k). z (sym h)))
+  pub exponent_candidate : (k ≡ 0 → ⊥) → candidate k ≡ scale_exponent_of a d
+  exponent_candidate z = go k all (λ (h : 0 ≡ k). z (sym h))
     where
       go : (k : ℕ) → Best a d d k → (0 ≡ k → ⊥) → candidate k ≡ scale_exponent_of a d
       go zero A z = absurd (z refl)
@@ -196,6 +195,10 @@ module _ (a : List Float) (d n k : ℕ) (R : regular_of (get_or a d nan) ≡ tru
           let top = large (2 ^ 13) (held_more a d (candidate (suc m)) (candidate (2 ^ 13)) d (rising (suc m) (2 ^ 13) (omega (arith, A.bound))) A.holds) in
           rw (exponent_is, R, is_true (too_small a d 0) first) (ap (λ (x : ℕ). candidate (suc x))
           (sym (one_above (too_small a d) (falling a d) m first top low (large (suc m) A.holds))))
+
+  -- as the machine computes it
+  pub exponent_some : (k ≡ 0 → ⊥) → scale_exponent_of a d ≡ to_z w32 (of_z w32 (to_z w32 k -ℤ pos 2098))
+  exponent_some z = sym (less k all.bound ∙ exponent_candidate z)
 
 -- What the function's proof rests on.
 pub ruleset best = (decoded_irregular, decoded_regular, decoded_normal, best_none, exponent_irregular, exponent_none)

@@ -1,7 +1,7 @@
 -- The degree, the logarithms, and what the parts of Scaled::new rest on where one function hands an i32 to another, which stands there as the machine reads it.
 use mathlib.Core.Path.{◌≡◌, refl}
 use mathlib.Core.Bool.{true}
-use mathlib.Core.List.{List}
+use mathlib.Core.List.{List, [], ◌∷◌}
 use Prim.Native.Nat.{ℕ, ◌^◌, ◌≤◌, ◌<◌}
 use borrow.Author.Tests.{le-leb, lt-leb}
 use lib.IntN.{ℤ, ◌+ℤ◌, ◌*ℤ◌, nat_abs}
@@ -12,7 +12,8 @@ use mir.Val.{to_z, of_z}
 use Rattle.decode.specs.Exponent.{exponent_of}
 use Rattle.facts.specs.Arrays.{from_fn}
 use Rattle.log2.specs.Log.{log2_five_of}
-use Rattle.scaled.specs.Scaled.{top_of, sizes_of, log_size_of, log_sizes_of, scaled_of}
+use Rattle.scaled.specs.Scaled.{top_of, coefficient_of, coefficients_of, sizes_of}
+use Rattle.scaled.specs.Scaled.{log_size_of, log_sizes_of, scaled_of}
 use Rattle.scaled.proofs.Signed.{back, negated, sum, sum_small}
 use Rattle.scaled.proofs.Digits.{exponent_small}
 use Rattle.scaled.proofs.Best.{exponent_bounded}
@@ -20,6 +21,14 @@ use Rattle.scaled.proofs.Best.{exponent_bounded}
 pub degree_is : (a : List Float) (d : ℕ) → (scaled_of a d).d ≡ d
 unfolding scaled_of
 degree_is a d = refl
+
+-- the five coefficients, e' for e and top' for top as the machine reads them
+pub coefficients_are : (a : List Float) (d : ℕ) (e e' top top' : ℤ) → e' ≡ e → top' ≡ top
+    → (x0 x1 x2 x3 x4 : Float) → x0 ≡ coefficient_of a d e' top' 0 → x1 ≡ coefficient_of a d e' top' 1
+    → x2 ≡ coefficient_of a d e' top' 2 → x3 ≡ coefficient_of a d e' top' 3 → x4 ≡ coefficient_of a d e' top' 4
+    → x0 ∷ x1 ∷ x2 ∷ x3 ∷ x4 ∷ [] ≡ coefficients_of a d e top
+unfolding coefficients_of
+coefficients_are a d e e' top top' E T x0 x1 x2 x3 x4 h0 h1 h2 h3 h4 = rw (h0, h1, h2, h3, h4, E, T)
 
 -- f64::NEG_INFINITY
 abbrev pub least : Float

@@ -4,6 +4,7 @@ pub mod Needed
 pub mod Best
 pub mod Digits
 pub mod Built
+pub mod Parts
 pub mod Rounds
 pub mod Chained
 pub mod Smallest

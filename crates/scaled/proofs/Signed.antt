@@ -29,13 +29,13 @@ read z h = to_z-of_z {w = w32} (record { sfits = h })
 pub back : (z : ℤ) → nat_abs z ≤ 2 ^ 20 → to_z w32 (of_z w32 z) ≡ z
 back z h = to_z-of_z (small_fits z h)
 
-less_machine : (k : ℕ) → k ≤ 4196 → Machine (to_z w32 k -ℤ pos 2098) (pos k -ℤ pos 2098)
+pub less_machine : (k : ℕ) → k ≤ 4196 → Machine (to_z w32 k -ℤ pos 2098) (pos k -ℤ pos 2098)
 less_machine k h = machine (ap (λ (z : ℤ). z -ℤ pos 2098) (back (pos k) (omega arith))) (omega (arith, nat_abs_sub (pos k) (pos 2098)))
 
 pub less : (k : ℕ) → k ≤ 4196 → to_z w32 (of_z w32 (to_z w32 k -ℤ pos 2098)) ≡ pos k -ℤ pos 2098
 less k h = (less_machine k h).is
 
-negated_machine : (e : ℤ) → nat_abs e ≤ 2 ^ 13 → Machine (pos 0 -ℤ to_z w32 (of_z w32 e)) (neg_ℤ e)
+pub negated_machine : (e : ℤ) → nat_abs e ≤ 2 ^ 13 → Machine (pos 0 -ℤ to_z w32 (of_z w32 e)) (neg_ℤ e)
 negated_machine e h = machine (+ℤ_idl (neg_ℤ (to_z w32 (of_z w32 e))) ∙ ap neg_ℤ (back e (omega arith))) (le_trans (le_of_eq (nat_abs_neg e)) (omega arith))
 
 pub negated : (e : ℤ) → nat_abs e ≤ 2 ^ 13 → to_z w32 (of_z w32 (pos 0 -ℤ to_z w32 (of_z w32 e))) ≡ neg_ℤ e
@@ -54,6 +54,10 @@ module _ (e : ℤ) (i : ℕ) (E : nat_abs e ≤ 2 ^ 13) (I : i ≤ 4) where
 
     pub sum : nat_abs t ≤ 2 ^ 13 → Machine (to_z w32 (of_z w32 t) +ℤ to_z w32 (of_z w32 (to_z w32 (of_z w32 e) *ℤ to_z w32 i))) (t +ℤ e *ℤ pos i)
     sum T = machine (ap₂ (λ (x y : ℤ). x +ℤ y) (back t (omega arith)) product.is) (omega (arith, sum_small T))
+
+    pub sum_is : (t' : ℤ) → t ≡ t' → nat_abs t ≤ 2 ^ 13 → let m = to_z w32
+        (of_z w32 (to_z w32 (of_z w32 t) +ℤ to_z w32 (of_z w32 (to_z w32 (of_z w32 e) *ℤ to_z w32 i)))) in (m ≡ t' +ℤ e *ℤ pos i) × (nat_abs m ≤ 2 ^ 16)
+    sum_is t' q T = let s = (sum T).is in (s ∙ ap (λ (x : ℤ). x +ℤ e *ℤ pos i) q, subst (λ (z : ℤ). nat_abs z ≤ 2 ^ 16) (sym s) (sum_small T))
 
     pub difference : nat_abs t ≤ 2 ^ 16 → Machine (to_z w32 (of_z w32 (to_z w32 (of_z w32 e) *ℤ to_z w32 i)) -ℤ to_z w32 (of_z w32 t)) (e *ℤ pos i -ℤ t)
     difference T = machine (ap₂ (λ (x y : ℤ). x -ℤ y) product.is (back t (omega arith))) (omega (arith, nat_abs_sub (e *ℤ pos i) t, product_small))

@@ -1,5 +1,5 @@
 -- The gaps from the topmost down, with counts as code has them.
-use mathlib.Core.Path.{◌≡◌, ap, ◌∙◌, subst}
+use mathlib.Core.Path.{◌≡◌, refl, sym, ap, ◌∙◌, subst}
 use mathlib.Core.Bool.{true, false, cond}
 use mathlib.Core.List.{List}
 use mathlib.Core.Logic.{⊎_elim}
@@ -15,7 +15,7 @@ use Rattle.split.specs.declared.Hull.{Hull}
 use Rattle.split.specs.declared.Gap.{Gap}
 use Rattle.split.specs.Hull.{mag_of, hull_of, Rising}
 use Rattle.split.specs.Gap.{exp2_of, Inside, split_from, magnitude_split_of}
-use Rattle.split.proofs.Rises.{hull_rising}
+use Rattle.split.proofs.Rises.{neighbours, hull_rising}
 
 -- ---- k edges are left
 module _ (lg : List Float) (at : List ℕ) (k : ℕ) (P : 0 < k) (lo hi : Float) (L : lo ≡ mag_of lg at (k - 1)) (H : hi ≡ mag_of lg at (k - 1 + 1)) where
@@ -50,6 +50,32 @@ pub seek_rising : (lg : List Float) (d : ℕ) (s : Hull) → d ≤ 4 → s ≡ h
 seek_rising lg d s l e =
     let R = rw (← e) at (hull_rising lg d l) in
     record { order = R.order; below = λ k m. omega (arith, R.below k m); count = omega (arith, R.count); room = R.room }
+
+-- ---- the search by its points: what the first k hold is the whole answer
+pub record Seeking (lg : List Float) (d : ℕ) (at : List ℕ) (k : ℕ) : Type 0 where
+  pub rising : Rising (d + 1) (record { at = at; h = k })
+  pub is : split_from lg at (k - 2) ≡ magnitude_split_of lg d
+
+pub seek_first : (lg : List Float) (d : ℕ) (s : Hull) → d ≤ 4 → s ≡ hull_of lg d → Seeking lg d s.at s.h
+unfolding magnitude_split_of
+seek_first lg d s l e = subst (λ (t : Hull). Seeking lg d t.at t.h) (sym e) (record { rising = hull_rising lg d l; is = refl })
+
+-- what `mag` asks of an edge among them
+pub seek_edge : (lg : List Float) (d : ℕ) (at : List ℕ) (k : ℕ) → Seeking lg d at k → d ≤ 4 → (j : ℕ) → j + 1 < k → (j < 4)
+    × ((get_or at j 0 ≤ get_or at (j + 1) 0) × (get_or at (j + 1) 0 ≤ 4))
+seek_edge lg d at k S D j l =
+    let R = S.rising in
+    let n = neighbours (d + 1) (record { at = at; h = k }) R j l in
+    (omega (arith, R.count), (n.0, omega (arith, n.1)))
+
+pub seek_next : (lg : List Float) (d : ℕ) (at : List ℕ) (k : ℕ) → Seeking lg d at k → 2 < k
+    → split_from lg at (k - 2) ≡ split_from lg at (k - 1 - 2) → Seeking lg d at (k - 1)
+seek_next lg d at k S l e =
+    let R = S.rising in
+    record {
+      rising = record { order = λ j m. R.order j (omega arith); below = λ j m. R.below j (omega arith); count = omega (arith, R.count); room = R.room };
+      is = sym e ∙ S.is;
+    }
 
 -- ---- some roots lie below the gap, and not all
 module _ (lg : List Float) (at : List ℕ) (d h : ℕ) (R : Rising (d + 1) (record { at = at; h = h })) where

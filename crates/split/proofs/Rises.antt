@@ -100,6 +100,12 @@ module _ (lg : List Float) (i : ℕ) (s : Hull) where
   pub turn_rising : i ≤ 4 → Rising i s → Rising (i + 1) (hull_step lg i s)
   turn_rising l R = step_rising lg i s (hull_step lg i s) l refl R
 
+-- ---- a turn of the loop: what is left after it gives the whole
+pub turned : (lg : List Float) (d i : ℕ) (s r : Hull) → i < d + 1 → d ≤ 4 → r ≡ hull_step lg i s → Rising i s
+    → count_up (d + 1) (hull_step lg) (d + 1 - i) s ≡ hull_of lg d
+    → Rising (i + 1) r × (count_up (d + 1) (hull_step lg) (d + 1 - (i + 1)) r ≡ hull_of lg d)
+turned lg d i s r l D e R h = (step_rising lg i s r (omega arith) e R, rw e (sym (up_turn (d + 1) (hull_step lg) i s l) ∙ h))
+
 -- What the proofs of the hull's functions rest on.
 pub ruleset dropped = (pop_go, pop_stop, pop_end, last_two)
 

@@ -14,7 +14,7 @@ pub root_negative : (x : Float) → lt x zero64 ≡ true → nan ≡ sqrt_of x
 unfolding sqrt_of of_bits
 root_negative x e = sym (⊎_elim (λ i. ap sqrt_of i) (λ v. ap sqrt_of v.2) (negative_view x e))
 
-root_same : (x : Float) → lt x zero64 ≡ false → regular_of x ≡ false → sqrt_of x ≡ x
+pub root_same : (x : Float) → lt x zero64 ≡ false → regular_of x ≡ false → sqrt_of x ≡ x
 unfolding sqrt_of lt of_bits
 root_same nan t r = refl
 root_same (inf true) t r = absurd (false≢true (sym t))

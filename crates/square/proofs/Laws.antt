@@ -1,13 +1,16 @@
 -- One column of elimination by what its test found, and the end of the columns, at any size: the shared facts of the sizes.
-use mathlib.Core.Path.{◌≡◌, ap, sym, ◌∙◌}
-use mathlib.Core.Bool.{true, false, cond}
+use mathlib.Core.Path.{◌≡◌, refl, ap, sym, ◌∙◌, subst}
+use mathlib.Core.Bool.{Bool, true, false, cond, false≢true}
 use mathlib.Core.List.{List, [], ◌∷◌}
 use Rattle.std.specs.Prelude.{swap, None, Some}
 use Rattle.std.specs.List.{fold}
 use Prim.Native.Nat.{ℕ, suc, ◌+◌, ◌-◌, ◌≤◌, ◌<◌}
 use native.Mathlib.Omega.{arith}
 use native.Mathlib.Nat.{sub-zero, zero-add}
-use lib.ListN.{length, get_or, length-set}
+use borrow.Author.Tests.{eqb-true, eq-eqb}
+use lib.Dec.{eqb}
+use lib.ListN.{length, get_or, set, length-set}
+use lib.Seq.{get_or-set_same, get_or-set_other}
 use lib.Ieee.{Float, nan, lt, le}
 use Rattle.std.proofs.lemmas.List.{get_or_default, length-replicate}
 use Rattle.facts.specs.Cond.{either_way}
@@ -31,6 +34,28 @@ pub swap_is : {n col pivot : ℕ} (m : List (List Float)) (b : List Float) {t : 
 unfolding swap_pivot_of
 swap_is {col = col} {pivot = pivot} m b M B inside below e f g =
     rw (sym e, f, g, swapped_is [] m col pivot (omega arith) (omega arith), swapped_is nan b col pivot (omega arith) (omega arith))
+
+-- the same of the definition's exchange
+pub swapped_lines : (n col pivot : ℕ) (m : List (List Float)) (b : List Float)
+    → pivot ≡ pivot_of n m col → lines (swapped [] col pivot m) (swapped nan col pivot b) ≡ swap_pivot_of n col (lines m b)
+unfolding swap_pivot_of
+swapped_lines n col pivot m b e = rw e
+
+-- the row that comes up stands in row col then
+pub up_row : (n : ℕ) (m : List (List Float)) (col pivot : ℕ) → length m ≡ n → col < n → get_or (swapped [] col pivot m) col [] ≡ get_or m pivot []
+up_row n m col pivot L l = go (eqb col pivot) refl
+  where
+    h : col < length m
+    h = subst (λ (k : ℕ). col < k) (sym L) l
+
+    go : (b : Bool) → eqb col pivot ≡ b → get_or (swapped [] col pivot m) col [] ≡ get_or m pivot []
+    go true e =
+        let inside = subst (λ (k : ℕ). col < k) (sym (length-set m col (get_or m col []))) h in
+        let same = get_or-set_same (set m col (get_or m col [])) col (get_or m col []) [] inside in
+        subst (λ (j : ℕ). get_or (swapped [] col j m) col [] ≡ get_or m j []) (eqb-true col pivot e) same
+    go false e =
+        get_or-set_other (set m col (get_or m pivot [])) pivot col (get_or m col []) [] (λ s. false≢true (sym e ∙ eq-eqb col pivot s))
+        ∙ get_or-set_same m col (get_or m pivot []) [] h
 
 -- t is the system with the pivot's row p up, and size that of the pivot
 module _ (n : ℕ) (least : Float) (col : ℕ) (s t : Lines) (p : List Float) (size : Float) (inside : col < n) (up : t ≡ swap_pivot_of n col s)

@@ -5,7 +5,7 @@ use Prim.Native.Nat.{ℕ, suc, ◌+◌, ◌<◌, ◌≤◌}
 use native.Mathlib.Numerals.{add-one}
 use native.Mathlib.Omega.{arith}
 use lib.ListN.{length, take, get_or, set, length-append}
-use lib.Seq.{sets, take-suc, take_all}
+use lib.Seq.{sets, take-suc, take_all, length-sets}
 use Rattle.text.specs.declared.Text.{Text}
 use Rattle.text.specs.Digits.{hex_digits}
 use Rattle.text.specs.Written.{holding, Written}
@@ -18,6 +18,9 @@ sets_append l at [] t =
 sets_append l at (a ∷ s) t =
     let e : at + suc (length s) ≡ suc at + length s = omega arith in
     ap (λ (k : ℕ). sets (sets (set l at a) (suc at) s) k t) e ∙ sets_append (set l at a) (suc at) s t
+
+pub written_length : {a b : Text} {t : List ℕ} → Written a t b → length b.out.now ≡ length a.out.now
+written_length {a} {b} {t} w = ap (λ o. length o.now) w.bytes ∙ length-sets a.out.now a.at t
 
 pub written_none : (a : Text) → Written a [] a
 written_none a = record { bytes = refl; place = omega arith }
@@ -43,6 +46,10 @@ written_as {a} {b} e w = subst (λ (t : List ℕ). Written a t b) e w
 -- one byte more of s
 pub written_next : {a b c : Text} (s : List ℕ) (i : ℕ) → i < length s → Written a (take i s) b → Written b (get_or s i 0 ∷ []) c → Written a (take (i + 1) s) c
 written_next s i h p q = written_as (rw (add-one, take-suc s i 0)) (written_then p q)
+
+pub written_all : {a b : Text} (s : List ℕ) (i : ℕ) → length s ≤ i → Written a (take i s) b
+    → Written a s b
+written_all s i h w = written_as (take_all i s h) w
 
 -- ---- the texts of a list's elements, one after another
 

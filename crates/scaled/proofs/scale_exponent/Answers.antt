@@ -3,7 +3,7 @@ use mathlib.Core.Path.{sym}
 use native.Mathlib.Omega.{arith}
 use borrow.Author.Rules.{rules}
 use Rattle.decode.proofs.Class.{decoded_regular}
-use Rattle.scaled.proofs.Best.{best_more, best_same, exponent_some}
+use Rattle.scaled.proofs.Best.{best_by_digits, best_same, exponent_some}
 use Rattle.scaled.proofs.scale_exponent.Goals as goal
 use Rattle.scaled.proofs.scale_exponent.Goals.{in-Some-normal_of, in_default-normal_of}
 
@@ -11,7 +11,7 @@ pub loop-i-preserved : goal.loop-i-preserved
 loop-i-preserved c =
     elim c.match-normal_of-2.branch [
       | in-Some-normal_of w ↦
-          best_more _ _ _ _ _ _ _ c.in-Some.ensures w.in-Some-normal_of.ensures w.reach.ensures c.loop-i.invariant _ (grind arith) (grind arith)
+          best_by_digits _ _ _ _ _ _ _ c.in-Some.ensures w.in-Some-normal_of.ensures w.reach.ensures c.loop-i.invariant _ (grind arith) (grind arith)
       | in_default-normal_of w ↦ rw w.k-is (best_same _ _ _ _ _ c.in-Some.ensures w.in_default-normal_of.ensures c.loop-i.invariant)
     ]
 

@@ -1,0 +1,2 @@
+-- What the functions come to, over plain variables.
+pub mod Samples
