@@ -30,6 +30,7 @@ use Rattle.inquiry.proofs.Systems.{start_systems}
 use Rattle.crank.specs.declared.CrankInquiry.{CrankInquiry}
 use Rattle.crank.specs.declared.CrankShown.{CrankShown}
 use Rattle.crank.specs.declared.CrankAnswer.{CrankAnswer}
+use Rattle.crank.specs.declared.CrankRefused.{CrankRefused}
 use Rattle.crank.specs.Crank.{trig_quartic_of, solve_trig_of, crank_start_of, crank_in, crank_shown_of, crank_of, crank_systems_of}
 use Rattle.crank.proofs.Front.{quartic_five, started}
 use Rattle.crank.proofs.Feeding.{four_no, all_no, no_listed}
@@ -59,13 +60,6 @@ module _ (sine : Sine) (confusion : Float) (rs : Replies) where
   unfolding crank_shown_of crank_start_of
   shown_is trig = front_shown (crank_front_of trig)
 
-  pub shown_refused : (trig : TrigEquation) (front : Crank) (refusal : Refusal) {a : Result (Tallied CrankShown) Refusal} → Ok front ≡ crank_front_of trig
-      → Err refusal ≡ shown_after_of sine front.q confusion rs → a ≡ Err refusal → answer_in a ≡ crank_shown_of sine confusion trig rs
-  shown_refused trig front refusal f e is =
-      let by_front = λ (r : Result Crank Refusal).
-      and_then r (λ c. and_then (shown_after_of sine c.q confusion rs) (λ seen. Ok (record { k = c.k; seen = seen }))) in
-      ap answer_in is ∙ ap (λ (r : Result Seen Refusal). and_then r (λ seen. Ok (record { k = front.k; seen = seen }))) e ∙ ap by_front f ∙ shown_is trig
-
 -- ---- how many systems are solved: those of the front's quartic
 module _ (sine : Sine) (confusion : Float) where
   abbrev begun : ℕ → Result Inquiry Refusal → Result CrankInquiry Refusal
@@ -79,10 +73,10 @@ module _ (sine : Sine) (confusion : Float) where
   begun_systems k (Err refusal) = refl
 
   module _ (trig : TrigEquation) where
-    pub none_by_front : (refusal : Refusal) {a : Result (Tallied CrankShown) Refusal} → Err refusal ≡ crank_front_of trig → a ≡ Err refusal
+    pub none_by_front : (refusal : Refusal) (r : CrankRefused) {a : Result (Tallied CrankShown) CrankRefused} → Err refusal ≡ crank_front_of trig → a ≡ Err r
         → systems_in a ≡ crank_systems_of sine confusion trig
     unfolding crank_systems_of crank_start_of
-    none_by_front refusal e is = ap systems_in is ∙ ap systems_by e
+    none_by_front refusal r e is = ap systems_in is ∙ ap systems_by e
 
     pub systems_by_front : (front : Crank) {n : ℕ} → Ok front ≡ crank_front_of trig → n ≡ real_roots_systems_of sine front.q confusion
         → n ≡ crank_systems_of sine confusion trig

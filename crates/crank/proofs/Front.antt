@@ -13,7 +13,7 @@ use Rattle.facts.specs.Cond.{either_way}
 use Rattle.facts.specs.Count.{count_up}
 use Rattle.refusals.specs.declared.Refusal.{Refusal}
 use Rattle.refusals.specs.declared.Refusal.TheVariants.{NotFinite, TooFew, AnswerNotFinite}
-use Rattle.refusals.specs.Refusals.{number_of, outcome_of, and_then}
+use Rattle.refusals.specs.Refusals.{number_of, outcome_of, value_or, and_then}
 use Rattle.refusals.proofs.Numbers.{number_bounds}
 use Rattle.float.specs.Methods.{abs_of, all_finite_of, total_le_of}
 use Rattle.angle.specs.declared.Sine.{Sine}
@@ -31,7 +31,7 @@ use Rattle.inquiry.specs.Start.{real_roots_touching, fresh_by, start_of, inquiry
 use Rattle.inquiry.proofs.Fresh.{start_number}
 use Rattle.inquiry.proofs.Loop.{refused_asks}
 use Rattle.crank.specs.declared.CrankInquiry.{CrankInquiry}
-use Rattle.crank.specs.Crank.{trig_quartic_of, crank_start_of, crank_in}
+use Rattle.crank.specs.Crank.{trig_quartic_of, crank_start_of, crank_in, crank_k_of}
 use Rattle.crank.specs.Claims.{Numbers}
 use Rattle.crank.proofs.Finite.{numbers_finite}
 
@@ -87,6 +87,21 @@ module _ (trig : TrigEquation) where
       go : (b : Bool) → all_finite_of q ≡ b → A
       go true h = f (numbers_finite trig (sample_of trig) h) h
       go false h = g h (unmade h)
+
+  -- ---- the k that was found
+  abbrev k_in : Result Crank Refusal → ℕ
+  k_in f = (value_or (record { k = 0; q = [] }) f).k
+
+  found_made : all_finite_of numbers ≡ true → all_finite_of q ≡ true → crank_k_of trig ≡ sample_of trig
+  unfolding crank_k_of
+  found_made h g = ap k_in (made h g)
+
+  found_unmade : all_finite_of q ≡ false → crank_k_of trig ≡ 0
+  unfolding crank_k_of
+  found_unmade h = ap k_in (unmade h)
+
+  pub found_below : crank_k_of trig < 8
+  found_below = by_quartic (λ h g. rw (found_made h g) sample_below) (λ h e. rw (found_unmade h) (omega arith))
 
   pub quartic_five : trimmed_of q ≤ 5
   unfolding trimmed_of quartic_of
@@ -153,6 +168,10 @@ module _ (trig : TrigEquation) where
         go e (Err refusal) is =
             let n : number_of refusal ≡ refusal_of q = ap outcome_of (sym is) ∙ start_number sine q confusion in
             inr (refused_list (omega (arith, n, number_bounds refusal)))
+
+    -- the k that was found is the Rust's, or nothing is asked
+    pub found_k : (crank_k_of trig ≡ sample_of trig) ⊎ (real_roots_touching sine q confusion ≡ done [])
+    found_k = by_quartic (λ h g. inl (found_made h g)) (λ h e. inr (refused_list (omega (arith, quartic_refused h))))
 
     -- ---- the number
     abbrev counted : Bool → Result ℕ Refusal

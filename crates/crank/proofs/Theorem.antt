@@ -1,6 +1,6 @@
 -- Every claim about cranks, for all bits.
 use mathlib.Core.Path.{◌≡◌, refl, sym, ap, ◌∙◌, subst, subst⁻¹}
-use mathlib.Core.Logic.{⊎_elim}
+use mathlib.Core.Logic.{◌⊎◌, ⊎_elim}
 use mathlib.Core.Bool.{Bool, false}
 use mathlib.Core.List.{List, []}
 use Prim.Native.Nat.{ℕ, ◌<◌}
@@ -24,9 +24,9 @@ use Rattle.inquiry.specs.Start.{real_roots_touching}
 use Rattle.inquiry.proofs.Theorem.{start_most, start_list}
 use Rattle.crank.specs.declared.CrankInquiry.{CrankInquiry}
 use Rattle.crank.specs.declared.CrankAnswer.{CrankAnswer}
-use Rattle.crank.specs.Crank.{trig_quartic_of, solve_trig_of, places_trig_of, crank_start_of, crank_in, crank_of, crank_roots_in}
+use Rattle.crank.specs.Crank.{trig_quartic_of, solve_trig_of, places_trig_of, crank_start_of, crank_in, crank_k_of, crank_of, crank_roots_in}
 use Rattle.crank.specs.Claims.{CrankFed, Cranks}
-use Rattle.crank.proofs.Front.{front_below, quartic_five, same_inquiry, same_k, start_numbers, started, refused_nothing}
+use Rattle.crank.proofs.Front.{front_below, found_below, quartic_five, same_inquiry, same_k, found_k, start_numbers, started, refused_nothing}
 use Rattle.crank.proofs.Feeding as feeding
 use Rattle.crank.proofs.Answer.{answer_by}
 
@@ -41,20 +41,23 @@ module _ (sine : Sine) (confusion : Float) (trig : TrigEquation) where
   start = crank_in (crank_start_of sine confusion trig)
 
   module _ (touches : ℕ → Float → Bool) where
-    -- a computation that asks nothing is the same for every function
-    same_reading : {X : Type 0} (read : (Float → Bool) → Asking (List RealRoot) → X) → ((f g : Float → Bool) → read f (done []) ≡ read g (done []))
-        → read (touches start.k) (real_roots_touching sine q confusion) ≡ read (touches k) (real_roots_touching sine q confusion)
-    same_reading read none =
-        ⊎_elim (λ same. ap (λ (i : ℕ). read (touches i) (real_roots_touching sine q confusion)) same)
-        (λ stop. ap (read (touches start.k)) stop ∙ none (touches start.k) (touches k) ∙ sym (ap (read (touches k)) stop)) (same_k trig sine confusion)
+    -- by a k that is the Rust's, where anything is asked
+    module _ (j : ℕ) (same : (j ≡ k) ⊎ (real_roots_touching sine q confusion ≡ done [])) where
+      -- a computation that asks nothing is the same for every function
+      same_reading : {X : Type 0} (read : (Float → Bool) → Asking (List RealRoot) → X) → ((f g : Float → Bool) → read f (done []) ≡ read g (done []))
+          → read (touches j) (real_roots_touching sine q confusion) ≡ read (touches k) (real_roots_touching sine q confusion)
+      same_reading read none =
+          ⊎_elim (λ is. ap (λ (i : ℕ). read (touches i) (real_roots_touching sine q confusion)) is)
+          (λ stop. ap (read (touches j)) stop ∙ none (touches j) (touches k) ∙ sym (ap (read (touches k)) stop)) same
 
-    fed_so : CrankFed touches start (places_trig_of sine touches confusion trig) (solve_trig_of sine touches confusion trig).1
-    unfolding answered places_asked
-    fed_so =
-        rw (sym (same_reading places_asked (λ f g. refl)), sym (same_reading answered (λ f g. refl)))
-        (subst⁻¹ (λ (i : Inquiry). CrankFed touches (record { k = start.k; inquiry = i }) (places_asked (touches start.k)
-        (real_roots_touching sine q confusion)) (answered (touches start.k) (real_roots_touching sine q confusion))) (same_inquiry trig sine confusion)
-        (feeding.fed_so sine touches start.k q confusion))
+      fed_by : CrankFed touches (record { k = j; inquiry = start.inquiry }) (places_trig_of sine touches confusion trig)
+          (solve_trig_of sine touches confusion trig).1
+      unfolding answered places_asked
+      fed_by =
+          rw (sym (same_reading places_asked (λ f g. refl)), sym (same_reading answered (λ f g. refl)))
+          (subst⁻¹ (λ (i : Inquiry). CrankFed touches (record { k = j; inquiry = i }) (places_asked (touches j)
+          (real_roots_touching sine q confusion)) (answered (touches j) (real_roots_touching sine q confusion))) (same_inquiry trig sine confusion)
+          (feeding.fed_so sine touches j q confusion))
 
     refused : 0 < outcome_of (crank_start_of sine confusion trig) → (places_trig_of sine touches confusion trig ≡ [])
         × ((solve_trig_of sine touches confusion trig).1 ≡ [])
@@ -77,7 +80,9 @@ module _ (sine : Sine) (confusion : Float) (trig : TrigEquation) where
         numbers = start_numbers trig sine confusion;
         eighths = front_below trig sine confusion;
         k_is = λ z touches. ap (λ (r : Result CrankInquiry Refusal). (crank_in r).k) (started trig sine confusion z);
-        fed_so = fed_so;
+        fed_so = λ touches. fed_by touches start.k (same_k trig sine confusion);
+        found_eighths = found_below trig;
+        found_fed = λ touches. fed_by touches (crank_k_of trig) (found_k trig sine confusion);
         refused = λ h touches. refused touches h;
         degree = omega (arith, quartic_five trig);
         most = λ touches. start_most sine (touches k) q confusion;

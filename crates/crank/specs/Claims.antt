@@ -15,7 +15,7 @@ use Rattle.trig_quartic.specs.Crank.{numbers_of}
 use Rattle.inquiry.specs.declared.Asked.TheVariants.{Question, Finished}
 use Rattle.crank.specs.declared.CrankInquiry.{CrankInquiry}
 use Rattle.crank.specs.Crank.{trig_quartic_of, solve_trig_of, places_trig_of, crank_start_of, crank_in, crank_asked_of, crank_replied_of, crank_after}
-use Rattle.crank.specs.Crank.{crank_fed, crank_of, crank_roots_in}
+use Rattle.crank.specs.Crank.{crank_fed, crank_of, crank_roots_in, crank_k_of}
 
 -- Each number, 0 for a start too, stands exactly for its condition: on the equation's five numbers, and on the quartic's coefficients q.
 pub record Numbers (number : ℕ) (numbers q : List Float) : Type 0 where
@@ -44,6 +44,11 @@ pub record Cranks (sine : Sine) (confusion : Float) (trig : TrigEquation) : Type
   pub fed_so : (touches : ℕ → Float → Bool)
       → CrankFed touches (crank_in (crank_start_of sine confusion trig)) (places_trig_of sine touches confusion trig)
       (solve_trig_of sine touches confusion trig).1
+  -- both of the k that was found, which a refusal has beside it
+  pub found_eighths : crank_k_of trig < 8
+  pub found_fed : (touches : ℕ → Float → Bool)
+      → CrankFed touches (record { k = crank_k_of trig; inquiry = (crank_in (crank_start_of sine confusion trig)).inquiry })
+      (places_trig_of sine touches confusion trig) (solve_trig_of sine touches confusion trig).1
   -- what is refused is not asked about, and the Rust's list is empty
   pub refused : 0 < outcome_of (crank_start_of sine confusion trig) → (touches : ℕ → Float → Bool)
       → (places_trig_of sine touches confusion trig ≡ []) × ((solve_trig_of sine touches confusion trig).1 ≡ [])

@@ -1,5 +1,5 @@
 -- `solve_trig` of equation.rs up to its list of r, `touches` an argument; the inquiry that starts it; and an inquiry that is fed. Definitions only.
-use Rattle.std.specs.Prelude.{Bool, false, List, ℕ, zero, suc, Float, Result, Ok}
+use Rattle.std.specs.Prelude.{Bool, false, List, [], ℕ, zero, suc, Float, Result, Ok, Err}
 use Rattle.refusals.specs.declared.Refusal.{Refusal}
 use Rattle.refusals.specs.Refusals.{value_or, and_then}
 use Rattle.roots.specs.declared.RealRoot.{RealRoot}
@@ -16,6 +16,7 @@ use Rattle.crank.specs.declared.CrankInquiry.{CrankInquiry}
 use Rattle.crank.specs.declared.CrankAsked.{CrankAsked}
 use Rattle.crank.specs.declared.CrankShown.{CrankShown}
 use Rattle.crank.specs.declared.CrankAnswer.{CrankAnswer}
+use Rattle.crank.specs.declared.CrankRefused.{CrankRefused}
 
 -- ---- the Rust's function, for all bits
 module _ (trig : TrigEquation) where
@@ -37,6 +38,15 @@ module _ (sine : Sine) (touches : ℕ → Float → Bool) (confusion : Float) (t
 unfoldable pub crank_start_of : Sine → Float → TrigEquation → Result CrankInquiry Refusal
 crank_start_of sine confusion trig =
     and_then (crank_front_of trig) (λ front. and_then (start_of sine front.q confusion) (λ inquiry. Ok (record { k = front.k; inquiry = inquiry })))
+
+-- the k that was found: 0 where the equation is refused
+unfoldable pub crank_k_of : TrigEquation → ℕ
+crank_k_of trig = (value_or (record { k = 0; q = [] }) (crank_front_of trig)).k
+
+-- what is given, and with a refusal k
+abbrev pub with_k : {A : Type 0} → ℕ → Result A Refusal → Result A CrankRefused
+with_k k (Ok a) = Ok a
+with_k k (Err refusal) = Err (record { refusal = refusal; k = k })
 
 -- what theorems say of a start that is refused too: that its inquiry is about nothing
 abbrev pub crank_in : Result CrankInquiry Refusal → CrankInquiry

@@ -8,7 +8,7 @@ ghost use Rattle.roots.specs.Listed.{Within};
 ghost use Rattle.poly.specs.Coefficients.{degree_left};
 ghost use Rattle.tally.specs.Tally.{answer_in, systems_in};
 ghost use Rattle.crank.specs.Crank.{trig_quartic_of, crank_start_of, crank_asked_of, crank_replied_of, crank_shown_of, crank_of, crank_roots_in};
-ghost use Rattle.crank.specs.Crank.{crank_systems_of};
+ghost use Rattle.crank.specs.Crank.{crank_systems_of, crank_k_of, with_k};
 
 use angle::Sine;
 use inquiry::Asked;
@@ -44,17 +44,46 @@ pub struct CrankAnswer {
     pub roots: roots::Roots,
 }
 
-// 1 and 5 are refused by the equation; 2 by the list, as for any list.
-#[tactic(auto, unfolding(crate::specs::Crank::crank_start_of))]
-pub fn start(sine: Sine, confusion: f64, trig: TrigEquation) -> Result<CrankInquiry, Refusal>
-    ensures { result ≡ crank_start_of sine confusion trig }
+// Why a start is refused, and the k that was found: 0 where the equation itself is refused.
+#[derive(Clone, Copy)]
+pub struct CrankRefused {
+    pub refusal: Refusal,
+    pub k: u32,
+}
+
+// An equation that is refused has no k.
+impl From<Refusal> for CrankRefused {
+    ghost from_gives = { λ refusal r. (r.refusal ≡ refusal) × (r.k ≡ 0) };
+
+    fn from(refusal: Refusal) -> CrankRefused {
+        CrankRefused { refusal, k: 0 }
+    }
+}
+
+impl From<CrankRefused> for Refusal {
+    ghost from_gives = { λ r refusal. refusal ≡ r.refusal };
+
+    fn from(refused: CrankRefused) -> Refusal {
+        refused.refusal
+    }
+}
+
+// 1 and 5 are refused by the equation; 2 by the list, as for any list: then k is found, and said beside the refusal.
+#[tactic(auto, using(crate::proofs::Refused::starts))]
+pub fn start(sine: Sine, confusion: f64, trig: TrigEquation) -> Result<CrankInquiry, CrankRefused>
+    ensures { result ≡ with_k (crank_k_of trig) (crank_start_of sine confusion trig) }
 {
     let front = crank_front(trig)?;
-    let inquiry = inquiry::start(sine, &front.q, confusion)?;
-    Ok(CrankInquiry {
-        k: front.k,
-        inquiry,
-    })
+    match inquiry::start(sine, &front.q, confusion) {
+        Ok(inquiry) => Ok(CrankInquiry {
+            k: front.k,
+            inquiry,
+        }),
+        Err(refusal) => {
+            let k = front.k;
+            Err(CrankRefused { refusal, k })
+        }
+    }
 }
 
 impl CrankInquiry {
@@ -82,20 +111,24 @@ impl CrankInquiry {
 }
 
 // What `start` and `see` show with these replies put in at once.
-#[tactic(auto, unfolding(crate::specs::Crank::crank_shown_of, crate::specs::Crank::crank_start_of, inquiry::specs::Start::shown_after_of))]
+#[tactic(auto, using(crate::proofs::Refused::shows))]
 pub fn shown_after(
     sine: Sine,
     confusion: f64,
     trig: TrigEquation,
     replies: touching::Replies,
-) -> Result<Tallied<CrankShown>, Refusal>
-    ensures value { answer_in result ≡ crank_shown_of sine confusion trig replies }
+) -> Result<Tallied<CrankShown>, CrankRefused>
+    ensures value { answer_in result ≡ with_k (crank_k_of trig) (crank_shown_of sine confusion trig replies) }
     ensures systems { systems_in result ≡ crank_systems_of sine confusion trig }
 {
     let made = crank_front(trig)?;
-    let shown = inquiry::shown_after(sine, &made.q, confusion, replies)?;
-    let seen = shown.value;
-    Ok(shown.with(CrankShown { k: made.k, seen }))
+    match inquiry::shown_after(sine, &made.q, confusion, replies) {
+        Ok(shown) => {
+            let seen = shown.value;
+            Ok(shown.with(CrankShown { k: made.k, seen }))
+        }
+        Err(refusal) => Err(CrankRefused { refusal, k: made.k }),
+    }
 }
 
 // Every question replied no: at most three are asked, so four replies at hand answer them all, and no question is left.

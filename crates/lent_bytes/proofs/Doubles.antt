@@ -1,18 +1,20 @@
 -- How many doubles are read; those read, as an array made place by place, of such an array with zeros behind them, and each by its place.
-use mathlib.Core.Path.{◌≡◌, refl, ap, ◌∙◌}
+use mathlib.Core.Path.{◌≡◌, refl, ap, ◌∙◌, sym}
 use mathlib.Core.Bool.{cond}
 use mathlib.Core.List.{List, [], ◌∷◌, ◌++◌}
 use Prim.Native.Nat.{ℕ, zero, suc, ◌+◌, ◌-◌, ◌*◌, ◌<◌, ◌≤◌}
 use native.Mathlib.Omega.{arith}
+use native.Mathlib.Numerals.{add-one}
 use borrow.Author.Tests.{lt-ltb, le-ltb}
 use lib.Dec.{ltb}
-use lib.ListN.{length, take, replicate}
+use lib.ListN.{length, take, replicate, set}
 use lib.Seq.{take_at}
 use lib.Ieee.{Float}
 use denote.Param.Members.{Mut, Called}
 use Rattle.std.specs.Array.{IsFromFnResult}
 use Rattle.float.proofs.Made.{made_by}
 use Rattle.facts.specs.Arrays.{fill_from, from_fn}
+use Rattle.facts.specs.Lists.{padded_push}
 use Rattle.float.specs.Literals.{zero64}
 use Rattle.float.specs.Bytes.{f64_at}
 use Rattle.lent_bytes.specs.Bytes.{f64s_at}
@@ -21,6 +23,29 @@ pub f64s_length : (k : ℕ) (s : List ℕ) (at : ℕ) → length (f64s_at k s at
 unfolding f64s_at
 f64s_length zero s at = refl
 f64s_length (suc k) s at = ap suc (f64s_length k s (at + 8))
+
+-- one more behind those read
+f64s_suc : (i : ℕ) (s : List ℕ) (at : ℕ)
+    → f64s_at (suc i) s at ≡ f64s_at i s at ++ (f64_at s (at + 8 * i) ∷ [])
+unfolding f64s_at
+f64s_suc zero s at =
+    let e : at ≡ at + 8 * 0 = omega arith in
+    ap (λ (k : ℕ). f64_at s k ∷ []) e
+f64s_suc (suc i) s at =
+    let e : at + 8 + 8 * i ≡ at + 8 * suc i = omega arith in
+    ap (λ (l : List Float). f64_at s at ∷ l) (f64s_suc i s (at + 8) ∙ ap (λ (k : ℕ). f64s_at i s (at + 8) ++ (f64_at s k ∷ [])) e)
+
+pub f64s_none : (s : List ℕ) (at : ℕ) (l : List Float) → l ≡ f64s_at 0 s at ++ l
+unfolding f64s_at
+f64s_none s at l = refl
+
+-- the store of the next double behind those read, in an array of m
+pub f64s_next : (m i : ℕ) (s : List ℕ) (at : ℕ) (x : Float) → i < m → x ≡ f64_at s (at + 8 * i)
+    → set (f64s_at i s at ++ replicate (m - i) zero64) i x
+    ≡ f64s_at (i + 1) s at ++ replicate (m - (i + 1)) zero64
+f64s_next m i s at x h e =
+    let one : f64s_at i s at ++ x ∷ [] ≡ f64s_at (i + 1) s at = rw (add-one, e) (sym (f64s_suc i s at)) in
+    simp f64s_length at (rw one at (padded_push m zero64 (f64s_at i s at) x (omega (arith, f64s_length i s at))))
 
 -- those read, as the start of the array
 pub f64s_taken : (k : ℕ) (s : List ℕ) (at : ℕ) (l r : List Float) → r ≡ f64s_at k s at ++ l → take k r ≡ f64s_at k s at

@@ -101,6 +101,11 @@ module _ (answer : Result (List Float) Refusal) (l : List ℕ) where
       subst⁻¹ (λ (a : Result (List Float) Refusal). Answered (outcome_of a) (value_or [] a) l n l) is
       (subst⁻¹ (λ (k : ℕ). Answered (number_of refusal) [] l k l) e (refused [] l (number_of refusal) (λ z. omega (arith, z, number_bounds refusal))))
 
+  pub told_by : {refusal : Refusal} {n r : ℕ} {m : List ℕ} → answer ≡ Err refusal → n ≡ number_of refusal → Answered n [] l r m
+      → Answered (outcome_of answer) (value_or [] answer) l r m
+  told_by {refusal = refusal} {r = r} {m = m} is e w =
+      subst⁻¹ (λ (a : Result (List Float) Refusal). Answered (outcome_of a) (value_or [] a) l r m) is (answered_as e refl w)
+
 -- ---- by what a test of the input found
 module _ {A : Type 0} (other x : A) {p b : Bool} (e : b ≡ p) where
   pub is_other : b ≡ true → other ≡ unless other p x

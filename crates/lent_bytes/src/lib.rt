@@ -15,11 +15,17 @@ pub mod lists;
 
 // The k doubles from at on, at the start of an array of 32, zeros behind them.
 // (Not doubles_at: k is read from the bytes, so it is no const argument, and there is no heap for a Vec.)
+#[tactic(auto, using(crate::proofs::Doubles::f64s_none, crate::proofs::Doubles::f64s_next))]
 pub fn f64s_at(s: &[u8], at: usize, k: usize) -> [f64; 32]
     requires { (k ≤ 32) × (at + 8 * k ≤ length s.now) }
     ensures { result ≡ f64s_at k s.now at ++ replicate (32 - k) zero64 }
 {
-    std::array::from_fn(|i| if i < k { f64_at(s, at + 8 * i) } else { 0.0 })
+    let mut xs = [0.0; 32];
+    // (By place: a closure of each place would test 32 of them, where most records have few.)
+    for i in 0..k {
+        xs[i] = f64_at(s, at + 8 * i);
+    }
+    xs
 }
 
 // The N doubles from at on.
@@ -62,13 +68,26 @@ pub fn store(out: &mut [u8], xs: &[f64]) -> u64
     8 * xs.len() as u64
 }
 
-// The same for an answer that may be refused: nothing is stored then, and the refusal's number is said.
-#[tactic(auto, using(crate::proofs::Whole::answered, crate::proofs::Whole::told))]
+// The same for an answer that is refused where number is not 0: nothing is stored then, and the number is said.
+#[inline(always)]
+#[tactic(auto, using(crate::proofs::Whole::answered_as, crate::proofs::Whole::refused))]
+pub fn answer_numbered(out: &mut [u8], number: u32, xs: &[f64]) -> u64
+    ensures { Answered number xs.now out.old result out.new }
+{
+    if number == 0 {
+        return store(out, xs);
+    }
+    number as u64
+}
+
+// The same for numbers, or the refusal that stands in their place. (In line, as above: numbers that were just made are not copied.)
+#[inline(always)]
+#[tactic(auto, using(crate::proofs::Whole::answered, crate::proofs::Whole::told_by))]
 pub fn answer<const N: usize>(out: &mut [u8], answer: Result<[f64; N], Refusal>) -> u64
     ensures { Answered (outcome_of answer.entry) (value_or [] answer.entry) out.old result out.new }
 {
     match answer {
-        Ok(xs) => store(out, &xs),
-        Err(refusal) => u32::from(refusal) as u64,
+        Ok(xs) => answer_numbered(out, 0, &xs),
+        Err(refusal) => answer_numbered(out, u32::from(refusal), &[]),
     }
 }

@@ -8,7 +8,7 @@ ghost use Rattle.parts.specs.Polynomial.{coefficient_of, trimmed};
 ghost use Rattle.parts.specs.Value.{limited, joined, power_of};
 ghost use Rattle.parts.specs.Products.{made_of, made_length, operator_of};
 ghost use Rattle.parts.specs.Kept.{Ends, small_of};
-ghost use Rattle.parts.specs.Part.{coefficient_in, value_in, length_in};
+ghost use Rattle.parts.specs.Part.{value_in, length_in};
 
 pub use part::Part;
 use refusals::Refusal;
@@ -56,11 +56,11 @@ pub fn letter() -> Part
 
 // ---- coefficients
 
-// That of t^k, zero beyond t^4.
-pub fn entry(a: Part, k: usize) -> i64
-    ensures { result ≡ coefficient_in a k }
+// That of t^k, zero beyond t^4. (Of any five numbers, not of a part's alone.)
+pub fn entry(coeffs: [i64; 5], k: usize) -> i64
+    ensures { result ≡ coefficient_of coeffs k }
 {
-    a.coeffs.get(k).copied().unwrap_or(0)
+    coeffs.get(k).copied().unwrap_or(0)
 }
 
 // How many there are up to the last that is no zero.

@@ -1,6 +1,6 @@
 -- What an answer to lent bytes says and stores, where a test of them may refuse them first; and that an answered list has no more than its places.
 use mathlib.Core.Path.{◌≡◌, refl, sym, ap, ◌∙◌, subst}
-use mathlib.Core.Bool.{Bool, false}
+use mathlib.Core.Bool.{Bool, false, true}
 use mathlib.Core.List.{List}
 use Prim.Native.Nat.{ℕ, ◌≤◌, ◌<◌}
 use native.Mathlib.Omega.{arith}
@@ -27,7 +27,7 @@ use Rattle.formula.proofs.Texts.{few}
 use Rattle.formula_roots.specs.FormulaRoots.{formula_roots_of}
 use Rattle.formula_roots.proofs.Solved.{formula_fits}
 use Rattle.lent_bytes.specs.Bytes.{unless, Answered}
-use Rattle.lent_bytes.proofs.Whole.{answered_as, answered_if, is_given}
+use Rattle.lent_bytes.proofs.Whole.{answered_as, answered_if, is_given, refused, is_other}
 use Rattle.pongewaru.proofs.Answers.{told_list, told_coefficients}
 use Rattle.pongewaru.proofs.Once.{inquired_fits}
 
@@ -38,6 +38,12 @@ unstored n xs ys h w = answered_if refl (λ z. absurd (omega (arith, z, h))) w
 pub answered_then : (n k : ℕ) (ys : List Float) {l : List ℕ} {p b : Bool} {r : ℕ} {m : List ℕ} → b ≡ p → b ≡ false → Answered k ys l r m
     → Answered (unless n p k) ys l r m
 answered_then n k ys e t w = answered_as (is_given n k e t refl) refl w
+
+-- what is said and stored of bytes that are refused, under n
+module _ (n k : ℕ) (ys : List Float) (l : List ℕ) {p b : Bool} (e : b ≡ p) where
+  pub refused_first : 0 < n → b ≡ true → Answered (unless n p k) ys l n l
+  refused_first h t =
+      answered_as (is_other n k e t) refl (refused ys l n (λ z. omega (arith, z, h)))
 
 -- ---- an answered list
 module _ {answer : Result Roots Refusal} {s : Result (Tallied Roots) Refusal} {x : Tallied Roots} (fits : Fits (roots_in answer)) (is : answer_in s ≡ answer)

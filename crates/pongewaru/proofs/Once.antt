@@ -153,8 +153,7 @@ abbrev pub seen_told : Tallied Seen → List Float
 seen_told t = seen_numbers t.value t.systems
 
 module _ (sine : Sine) (coeffs : List Float) (tol : Float) (rs : List ℕ) (s : Result (Tallied Seen) Refusal)
-    (is : answer_in s ≡ shown_after_of sine (short_of coeffs) tol (first_replies rs))
-    (count : systems_in s ≡ real_roots_systems_of sine (short_of coeffs) tol) where
+    (is : answer_in s ≡ shown_after_of sine (short_of coeffs) tol (first_replies rs)) where
   abbrev shows : Result Inquiry Refusal → Result Seen Refusal
   shows start = and_then start (λ p. Ok (seen_of (given p (first_replies rs))))
 
@@ -162,7 +161,7 @@ module _ (sine : Sine) (coeffs : List Float) (tol : Float) (rs : List ℕ) (s : 
   unfolding shown_after_of
   short_shows = is ∙ ap shows (short_starts sine coeffs tol)
 
-  shown_number : outcome_of s ≡ outcome_of (start_of sine coeffs tol)
+  pub shown_number : outcome_of s ≡ outcome_of (start_of sine coeffs tol)
   shown_number =
       same_number s ∙ ap outcome_of short_shows ∙ then_number (λ p. seen_of (given p (first_replies rs))) (start_of sine coeffs tol)
 
@@ -174,14 +173,19 @@ module _ (sine : Sine) (coeffs : List Float) (tol : Float) (rs : List ℕ) (s : 
         go (Ok p) h = cc
         go (Err refusal) h = absurd cc
 
-    shown_count : x.systems ≡ (inquiry_in (start_of sine coeffs tol)).systems
-    shown_count = sym (ap systems_in e) ∙ count ∙ short_systems sine coeffs tol ∙ sym (start_systems sine coeffs tol)
-
-    shown_fits : Fits (list_in x.value.asked)
+    pub shown_fits : Fits (list_in x.value.asked)
     shown_fits = subst⁻¹ (λ (t : Seen). Fits (list_in t.asked)) shown_is (seen_fits _)
 
-    shown_numbers_are : seen_told x ≡ inquiry_numbers (fed_all rs (inquiry_in (start_of sine coeffs tol)))
-    shown_numbers_are = (λ i. seen_numbers (shown_is i) (shown_count i)) ∙ fed_once sine coeffs tol rs
+    module _ (count : systems_in s ≡ real_roots_systems_of sine (short_of coeffs) tol) where
+      shown_count : x.systems ≡ (inquiry_in (start_of sine coeffs tol)).systems
+      shown_count =
+          sym (ap systems_in e) ∙ count ∙ short_systems sine coeffs tol
+          ∙ sym (start_systems sine coeffs tol)
+
+      pub shown_numbers_are : seen_told x
+          ≡ inquiry_numbers (fed_all rs (inquiry_in (start_of sine coeffs tol)))
+      shown_numbers_are =
+          (λ i. seen_numbers (shown_is i) (shown_count i)) ∙ fed_once sine coeffs tol rs
 
 -- for `using`: of the replies f that are put in at once, the six numbers in place of the coefficients
 module _ (sine : Sine) (coeffs short : List Float) (tol : Float) (rs : List ℕ) (f : Replies) (s : Result (Tallied Seen) Refusal) (h : short ≡ short_of coeffs)
@@ -193,12 +197,13 @@ module _ (sine : Sine) (coeffs short : List Float) (tol : Float) (rs : List ℕ)
   count_in_short = rw h at count
 
   pub inquired_fits : {x : Tallied Seen} → s ≡ Ok x → Fits (list_in x.value.asked)
-  inquired_fits e = shown_fits sine coeffs tol rs s in_short count_in_short _ e
+  inquired_fits e = shown_fits sine coeffs tol rs s in_short _ e
 
   pub inquired : (y : Result (List Float) Refusal) {l : List ℕ} {r : ℕ} {m : List ℕ} → Mapped seen_told s y → Answered (outcome_of y) (value_or [] y) l r m
       → Answered (outcome_of (start_of sine coeffs tol)) (inquiry_numbers (fed_all rs (inquiry_in (start_of sine coeffs tol)))) l r m
   inquired y same a =
-      told_as seen_told s y same (shown_number sine coeffs tol rs s in_short count_in_short) (shown_numbers_are sine coeffs tol rs s in_short count_in_short) a
+      told_as seen_told s y same (shown_number sine coeffs tol rs s in_short)
+      (λ x e. shown_numbers_are sine coeffs tol rs s in_short x e count_in_short) a
 
 -- ---- a crank's inquiry, k beside it
 abbrev with : ℕ → Inquiry → CrankInquiry
@@ -235,11 +240,11 @@ abbrev pub crank_told : Tallied CrankShown → List Float
 crank_told t = crank_shown_numbers t.value t.systems
 
 module _ (sine : Sine) (confusion : Float) (trig : TrigEquation) (rs : List ℕ) (s : Result (Tallied CrankShown) Refusal)
-    (is : answer_in s ≡ crank_shown_of sine confusion trig (first_replies rs)) (count : systems_in s ≡ crank_systems_of sine confusion trig) where
+    (is : answer_in s ≡ crank_shown_of sine confusion trig (first_replies rs)) where
   abbrev shows_at : CrankInquiry → CrankShown
   shows_at c = record { k = c.k; seen = seen_of (given c.inquiry (first_replies rs)) }
 
-  crank_number : outcome_of s ≡ outcome_of (crank_start_of sine confusion trig)
+  pub crank_number : outcome_of s ≡ outcome_of (crank_start_of sine confusion trig)
   unfolding crank_shown_of
   crank_number = same_number s ∙ ap outcome_of is ∙ then_number shows_at (crank_start_of sine confusion trig)
 
@@ -252,15 +257,18 @@ module _ (sine : Sine) (confusion : Float) (trig : TrigEquation) (rs : List ℕ)
         go (Ok c) h = cc
         go (Err refusal) h = absurd cc
 
-    crank_count : x.systems ≡ (crank_in (crank_start_of sine confusion trig)).inquiry.systems
-    unfolding crank_systems_of
-    crank_count = sym (ap systems_in e) ∙ count
-
-    crank_fits : Fits (list_in x.value.seen.asked)
+    pub crank_fits : Fits (list_in x.value.seen.asked)
     crank_fits = subst⁻¹ (λ (t : CrankShown). Fits (list_in t.seen.asked)) crank_is (seen_fits _)
 
-    crank_numbers_are : crank_told x ≡ shown_after rs (crank_start_of sine confusion trig)
-    crank_numbers_are = (λ i. crank_shown_numbers (crank_is i) (crank_count i)) ∙ crank_once sine confusion trig rs
+    module _ (count : systems_in s ≡ crank_systems_of sine confusion trig) where
+      crank_count : x.systems ≡ (crank_in (crank_start_of sine confusion trig)).inquiry.systems
+      unfolding crank_systems_of
+      crank_count = sym (ap systems_in e) ∙ count
+
+      pub crank_numbers_are : crank_told x ≡ shown_after rs (crank_start_of sine confusion trig)
+      crank_numbers_are =
+          (λ i. crank_shown_numbers (crank_is i) (crank_count i))
+          ∙ crank_once sine confusion trig rs
 
 module _ (sine : Sine) (confusion : Float) (trig : TrigEquation) (rs : List ℕ) (f : Replies) (s : Result (Tallied CrankShown) Refusal)
     (first : f ≡ first_replies rs) (is : answer_in s ≡ crank_shown_of sine confusion trig f) (count : systems_in s ≡ crank_systems_of sine confusion trig) where
@@ -268,9 +276,10 @@ module _ (sine : Sine) (confusion : Float) (trig : TrigEquation) (rs : List ℕ)
   cranked = rw first at is
 
   pub turned_fits : {x : Tallied CrankShown} → s ≡ Ok x → Fits (list_in x.value.seen.asked)
-  turned_fits e = crank_fits sine confusion trig rs s cranked count _ e
+  turned_fits e = crank_fits sine confusion trig rs s cranked _ e
 
   pub turned : (y : Result (List Float) Refusal) {l : List ℕ} {r : ℕ} {m : List ℕ} → Mapped crank_told s y → Answered (outcome_of y) (value_or [] y) l r m
       → Answered (outcome_of (crank_start_of sine confusion trig)) (shown_after rs (crank_start_of sine confusion trig)) l r m
   turned y same a =
-      told_as crank_told s y same (crank_number sine confusion trig rs s cranked count) (crank_numbers_are sine confusion trig rs s cranked count) a
+      told_as crank_told s y same (crank_number sine confusion trig rs s cranked)
+      (λ x e. crank_numbers_are sine confusion trig rs s cranked x e count) a

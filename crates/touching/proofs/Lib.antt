@@ -1,4 +1,5 @@
 pub mod Lists
 pub mod Steps
+pub mod Pairs
 pub mod Bound
 pub mod Logs

@@ -18,7 +18,8 @@ use Rattle.roots.specs.declared.Roots.{Roots}
 use Rattle.roots.specs.declared.Pair.{Pair}
 use Rattle.roots.specs.declared.Pairs.{Pairs}
 use Rattle.roots.specs.Roots.{list_of, pair_list_of, pushed_of}
-use Rattle.roots.specs.Listed.{multiplicities, Fits, PairsFit, blank_pair}
+use Rattle.roots.specs.Listed.{multiplicities, Fits, PairsFit, blank_pair, blank}
+use Rattle.roots.proofs.Laws.{roots_cons, roots_nil}
 use Rattle.std.specs.Prelude.{Option, Some, None, fold}
 use Rattle.std.specs.List.{list_all}
 use Rattle.std.specs.Prelude.{IsErr, IfOk, Result, Ok, Err}
@@ -27,8 +28,8 @@ use Rattle.std.proofs.Common.{drop_of_length-le}
 use Rattle.critical.specs.Critical.{extremum_of}
 use Rattle.finish.specs.Finish.{by_value}
 use Rattle.poly.specs.RealRoots.{unscaled_of}
-use Rattle.asking.specs.Asking.{Asking, done, Stage, asks, ended, walked, each}
-use Rattle.asking.proofs.Laws.{asked_then, ended_then}
+use Rattle.asking.specs.Asking.{Asking, done, Stage, asks, ended, walked, each, onward}
+use Rattle.asking.proofs.Laws.{asked_then, ended_then, walked_then, each_end, each_turn}
 use Rattle.touching.specs.declared.Replies.{Replies}
 use Rattle.touching.specs.declared.Question.{Question}
 use Rattle.touching.specs.declared.Walk.{Walk}
@@ -97,6 +98,33 @@ unfolding reach_of
 reach_fold m r [] = refl
 reach_fold m r (it ∷ l) = reach_fold m (min_of r (mul binary64 half64 (abs_of (sub binary64 it.value m)))) l
 
+-- the same of an array, place by place
+module _ (s : Roots) (k : ℕ) (fit : Fits s) where
+  pub reach_turn : (m r : Float) → k < s.len
+      → reach_of m r (drop k (list_of s))
+      ≡ reach_of m (min_of r (mul binary64 half64 (abs_of (sub binary64 (get_or s.root k blank).value m))))
+      (drop (k + 1) (list_of s))
+  unfolding reach_of
+  reach_turn m r h = ap (λ (l : List RealRoot). reach_of m r l) (roots_cons s k fit h)
+
+  pub reach_end : (m r : Float) → s.len ≤ k → reach_of m r (drop k (list_of s)) ≡ r
+  unfolding reach_of
+  reach_end m r h = ap (λ (l : List RealRoot). reach_of m r l) (roots_nil s k fit h)
+
+  pub apart_stop : (b y : Float) → k < s.len → apart_by b y (get_or s.root k blank) ≡ false
+      → all_apart b y (drop k (list_of s)) ≡ false
+  unfolding all_apart
+  apart_stop b y h e = ap (λ (l : List RealRoot). all_apart b y l) (roots_cons s k fit h) ∙ simp e
+
+  pub apart_go : (b y : Float) → k < s.len → apart_by b y (get_or s.root k blank) ≡ true
+      → all_apart b y (drop k (list_of s)) ≡ all_apart b y (drop (k + 1) (list_of s))
+  unfolding all_apart
+  apart_go b y h e = ap (λ (l : List RealRoot). all_apart b y l) (roots_cons s k fit h) ∙ simp e
+
+  pub apart_end : (b y : Float) → s.len ≤ k → all_apart b y (drop k (list_of s)) ≡ true
+  unfolding all_apart
+  apart_end b y h = ap (λ (l : List RealRoot). all_apart b y l) (roots_nil s k fit h)
+
 -- ---- pair_at and pair_turn
 module _ (poly : Scaled) (tol : Float) (rs : List Bool) (its : List RealRoot) where
   pub pair_near : (y : Float) → all_apart (apart_of poly tol y) y its ≡ false → ended its rs ≡ walked rs (pair_at poly tol its (Some y))
@@ -115,6 +143,13 @@ module _ (poly : Scaled) (tol : Float) (rs : List Bool) (its : List RealRoot) wh
       → ended (its ++ pair_item y r ∷ []) left ≡ walked rs (pair_at poly tol its (Some y))
   unfolding pair_at
   pair_heard y r left e h = rw e (ended_done (its ++ pair_item y r ∷ []) left ∙ ended_then rs (touches_at poly.e y) (added y) r left h)
+
+  pub pair_far : (y : Float) (s : Stage Bool) → all_apart (apart_of poly tol y) y its ≡ true
+      → s ≡ walked rs (touches_at poly.e y)
+      → onward s (λ r. done (its ++ pair_item y r ∷ [])) ≡ walked rs (pair_at poly tol its (Some y))
+  unfolding pair_at
+  pair_far y s e h =
+      rw (e, h) (sym (walked_then rs (touches_at poly.e y) (λ r. done (its ++ pair_item y r ∷ []))))
 
   pub pair_nowhere : ended its rs ≡ walked rs (pair_at poly tol its None)
   unfolding pair_at walked
@@ -135,9 +170,9 @@ at_most_two true = omega arith
 at_most_two false = omega arith
 
 -- a reply adds an item
-pair_added : (s : Roots) (y : Float) (reply : Bool) → Fits s → s.len < 4
+pair_grown : (s : Roots) (y : Float) (reply : Bool) → Fits s → s.len < 4
     → (list_of (pushed_of s (pair_item y reply)) ≡ list_of s ++ pair_item y reply ∷ []) × PairAdds s (pushed_of s (pair_item y reply))
-pair_added s y reply fits room =
+pair_grown s y reply fits room =
     let r = pair_item y reply in
     let grown = pushed_more s r fits room in
     let sum : multiplicities (list_of (pushed_of s r)) ≡ multiplicities (list_of s) + r.multiplicity = ap multiplicities grown.0
@@ -145,14 +180,29 @@ pair_added s y reply fits room =
     let two : r.multiplicity ≤ 2 = at_most_two reply in
     (grown.0, (grown.1, omega (arith, grown.2), omega arith))
 
+pub pair_added : (poly : Scaled) (tol : Float) (s s' : Roots) (y : Float) (r : RealRoot) (reply : Bool)
+    (rs left : List Bool) → Fits s → s.len < 4 → s' ≡ pushed_of s r → r ≡ pair_item y reply
+    → all_apart (apart_of poly tol y) y (list_of s) ≡ true
+    → ended reply left ≡ walked rs (touches_at poly.e y)
+    → (ended (list_of s') left ≡ walked rs (pair_at poly tol (list_of s) (Some y))) × PairAdds s s'
+pair_added poly tol s s' y r reply rs left fits room e er far heard =
+    let is : s' ≡ pushed_of s (pair_item y reply) = e ∙ ap (λ (x : RealRoot). pushed_of s x) er in
+    let grown = pair_grown s y reply fits room in
+    rw is (
+      ap (λ (l : List RealRoot). ended l left) grown.0
+          ∙ pair_heard poly tol rs (list_of s) y reply left far heard,
+      grown.1,
+    )
+
 pub pair_more : (poly : Scaled) (tol : Float) (rs left : List Bool) (s : Roots) (y : Float) (reply : Bool) → Fits s → s.len < 4
     → all_apart (apart_of poly tol y) y (list_of s) ≡ true → ended reply left ≡ walked rs (touches_at poly.e y)
     → ended (list_of (pushed_of s (pair_item y reply))) left ≡ walked rs (pair_at poly tol (list_of s) (Some y))
 pair_more poly tol rs left s y reply fits room far h =
-    ap (λ (l : List RealRoot). ended l left) (pair_added s y reply fits room).0 ∙ pair_heard poly tol rs (list_of s) y reply left far h
+    (pair_added poly tol s (pushed_of s (pair_item y reply)) y (pair_item y reply) reply rs left fits room refl refl
+    far h).0
 
 pub pair_adds : (s : Roots) (y : Float) (reply : Bool) → Fits s → s.len < 4 → PairAdds s (pushed_of s (pair_item y reply))
-pair_adds s y reply fits room = (pair_added s y reply fits room).1
+pair_adds s y reply fits room = (pair_grown s y reply fits room).1
 
 -- ---- pairs: in their order
 pub order_short : (q : Pair) (ps : Pairs) → PairsFit ps → (ps.len ≡ 2 → ⊥)
@@ -278,6 +328,23 @@ module _ (poly : Scaled) (tol : Float) (rs : List Bool) (out : List RealRoot) (c
       → ended (parted poly.e out c it) rs ≡ walked rs (item_turn poly tol (c, out) it)
   item_parted n m g = link_nowhere poly.e rs out c it ∙ item_link None n m g
 
+-- ---- chains
+module _ (f : Chain × List RealRoot → RealRoot → Asking (Chain × List RealRoot)) (s : Roots)
+    (k : ℕ) (fit : Fits s) where
+  pub chains_turn : (st st' : Stage (Chain × List RealRoot)) → k < s.len
+      → st' ≡ onward st (λ u. f u (get_or s.root k blank))
+      → onward st' (λ u. each f u (drop (k + 1) (list_of s)))
+      ≡ onward st (λ u. each f u (drop k (list_of s)))
+  chains_turn st st' h e =
+      ap (λ (v : Stage (Chain × List RealRoot)). onward v (λ u. each f u (drop (k + 1) (list_of s)))) e
+      ∙ sym (each_turn f st (get_or s.root k blank) (drop (k + 1) (list_of s)))
+      ∙ ap (λ (l : List RealRoot). onward st (λ u. each f u l)) (sym (roots_cons s k fit h))
+
+  pub chains_end : (st : Stage (Chain × List RealRoot)) → s.len ≤ k
+      → onward st (λ u. each f u (drop k (list_of s))) ≡ st
+  chains_end st h =
+      ap (λ (l : List RealRoot). onward st (λ u. each f u l)) (roots_nil s k fit h) ∙ each_end f st
+
 -- ---- chained, and the whole
 module _ (poly : Scaled) (tol : Float) (rs : List Bool) where
   abbrev closed : Chain × List RealRoot → Asking (List RealRoot)
@@ -303,7 +370,7 @@ module _ (poly : Scaled) (tol : Float) (rs : List Bool) where
     unfolding touching
     touching_asks x h = asked_then rs (each (pair_turn poly tol) roots (pair_order pairs)) onto x h
 
-    touching_goes : (its its' : List RealRoot) (left : List Bool) → its' ≡ ordered pairs its
+    pub touching_goes : (its its' : List RealRoot) (left : List Bool) → its' ≡ ordered pairs its
         → ended its left ≡ walked rs (each (pair_turn poly tol) roots (pair_order pairs))
         → walked left (chained poly tol its') ≡ walked rs (touching poly tol roots pairs)
     unfolding touching
@@ -323,6 +390,10 @@ module _ (poly : Scaled) (tol : Float) (rs : List Bool) where
 pub sum_next : (l : List RealRoot) (d : RealRoot) (k : ℕ) → k < length l → multiplicities (drop k l)
     ≡ (get_or l k d).multiplicity + multiplicities (drop (k + 1) l)
 sum_next l d k h = ap multiplicities (drop_next l k d h)
+
+pub sum_turn : (s : Roots) (k : ℕ) → Fits s → k < s.len → multiplicities (drop k (list_of s))
+    ≡ (get_or s.root k blank).multiplicity + multiplicities (drop (k + 1) (list_of s))
+sum_turn s k f h = ap multiplicities (roots_cons s k f h)
 
 -- ---- the laws that each function's proof takes
 pub ruleset touches = (reply_cons, reply_nil, touch_none, touch_reply, touch_ask)

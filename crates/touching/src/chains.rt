@@ -1,11 +1,12 @@
 // The chains of real_roots_touching: items linked by a touching critical point between them, and the list of their contacts.
-ghost use Rattle.std.specs.Prelude.{◌≡◌, ◌+◌, ◌≤◌, ◌&&◌, Some, Ok, IfOk};
+ghost use Rattle.std.specs.Prelude.{◌≡◌, ◌+◌, ◌≤◌, ◌&&◌, [], Some, Ok, IfOk};
 ghost use Rattle.std.specs.Float.Ieee.{lt};
 ghost use Rattle.roots.specs.Roots.{list_of};
 ghost use Rattle.roots.specs.Listed.{multiplicities, Fits};
-ghost use Rattle.asking.specs.Asking.{ended, walked};
-ghost use Rattle.touching.specs.Touching.{double_of, opened_by, extended_by, contact_of, emitted, parted, link_at, item_turn, chained};
-ghost use Rattle.touching.specs.Walk.{left_of, walk_at, links_at, chain_of, Tidy, counts, ItemAdds, ItemRoom};
+ghost use Rattle.asking.specs.Asking.{ended, walked, each};
+ghost use Rattle.touching.specs.Touching.{no_chain, double_of, opened_by, extended_by, contact_of, emitted, parted, link_at, item_turn};
+ghost use Rattle.touching.specs.Touching.{chained};
+ghost use Rattle.touching.specs.Walk.{left_of, walk_at, links_at, chain_of, Tidy, at_hand, counts, ItemAdds, ItemRoom};
 
 use crate::items::touches_at;
 use crate::{Chain, Links, Question, Walk, Walker};
@@ -154,11 +155,12 @@ impl Walker {
         }
     }
 
-    // The loop over the items, from the replies used so far. The last chain ends with the last of them.
-    pub fn chained(&self, its: roots::Roots, used: usize) -> Result<Walk, Question>
+    // The loop over the items, from the replies used so far.
+    pub fn chains(&self, its: roots::Roots, used: usize) -> Result<Links, Question>
         requires { Fits its × (multiplicities (list_of its) ≤ 4) }
-        ensures { (walk_at self.now.replies result ≡ walked (left_of self.now.replies used) (chained self.now.poly self.now.tol (list_of its)))
-            × IfOk result (λ r. Tidy r.items) }
+        ensures { (links_at self.now.replies result
+            ≡ walked (left_of self.now.replies used) (each (item_turn self.now.poly self.now.tol) (no_chain, []) (list_of its)))
+            × IfOk result (λ r. Tidy r.out × (r.out.len + at_hand r.chain ≤ 4)) }
     {
         let mut w = Links {
             chain: None,
@@ -168,6 +170,16 @@ impl Walker {
         for it in &its.root[..its.len] {
             w = self.item_turn(*it, w)?;
         }
+        Ok(w)
+    }
+
+    // The same, and the last chain ends with the last item.
+    pub fn chained(&self, its: roots::Roots, used: usize) -> Result<Walk, Question>
+        requires { Fits its × (multiplicities (list_of its) ≤ 4) }
+        ensures { (walk_at self.now.replies result ≡ walked (left_of self.now.replies used) (chained self.now.poly self.now.tol (list_of its)))
+            × IfOk result (λ r. Tidy r.items) }
+    {
+        let w = self.chains(its, used)?;
         let items = emit(self.poly.e, w.out, w.chain);
         Ok(Walk {
             items,

@@ -4,5 +4,5 @@ use Rattle.pongewaru.proofs.cranks.pongewaru_crank_inquire_by.Goals as goal
 
 pub returns : goal.returns
 returns c =
-    let s = c.shown_after-s.ensures in
+    let s = c.crank_shown-s.ensures in
     turned _ _ _ _ _ _ c.first_replies.ensures (rw c.from.ensures at s.value) (rw c.from.ensures at s.systems) _ c.map.ensures.cases c.answer.ensures
