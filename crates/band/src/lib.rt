@@ -64,7 +64,8 @@ fn radius(t: [f64; 5], d: usize, budget: f64) -> f64
     r
 }
 
-// The noise, with the budget at hand.
+// The noise, with the budget at hand. (In line: else its caller copies a polynomial that was just made.)
+#[inline(always)]
 pub fn noise_within(p: Polynomial, y: f64, budget: f64) -> f64
     ensures { result ≡ noise_within p.f p.d y budget }
 {

@@ -1,5 +1,5 @@
 -- What the C functions below the list are handed, and that counts and multiplicities stay within theirs.
-use mathlib.Core.Path.{◌≡◌, refl, sym, ap, ◌∙◌}
+use mathlib.Core.Path.{◌≡◌, refl, sym, ap, ◌∙◌, subst⁻¹}
 use mathlib.Core.Bool.{Bool, false, ◌||◌}
 use mathlib.Core.List.{List, [], ◌∷◌}
 use Prim.Native.Nat.{ℕ, zero, suc, ◌^◌, ◌≤◌, ◌<◌}
@@ -17,13 +17,16 @@ use Rattle.roots.specs.declared.Roots.{Roots}
 use Rattle.roots.specs.declared.Pair.{Pair}
 use Rattle.roots.specs.declared.Pairs.{Pairs}
 use Rattle.roots.specs.Listed.{multiplicities, Fits, PairsFit}
-use Rattle.roots.proofs.Laws.{kept_fits, paired_fits}
+use Rattle.roots.proofs.Laws.{kept_fits, paired_fits, roots_fit}
+use Rattle.roots.specs.Roots.{roots_of}
 use Rattle.push.specs.declared.Found.{Found}
 use Rattle.push.specs.Quadratic.{Factor, double, apart, complex, quadratic_roots_of, push_factor_in, push_quadratic_in}
 use Rattle.lent_bytes.proofs.Five.{none_holds, accepted}
 use Rattle.lent_bytes.proofs.Whole.{no_bytes}
 use Rattle.float.proofs.Bits.{nan_pattern}
 use Rattle.c_clusters.specs.Clustering.{turning_or_nan, candidate_at, candidates_at, pair_at, pairs_at, lacks_of}
+use Rattle.finish.specs.Finish.{finish_of}
+use Rattle.finish.proofs.Counts.{finish_counts}
 
 pub holding : (c : List ℕ) (size n m : ℕ) {b : Bool} → b ≡ lacks_of c size n m → b ≡ false → (size ≤ length c) × ((n ≤ 4) × (m ≤ 2))
 unfolding lacks_of
@@ -59,7 +62,8 @@ sum_taken zero l = omega arith
 sum_taken (suc n) [] = omega arith
 sum_taken (suc n) (r ∷ l) = let h = sum_taken n l in omega arith
 
-four_bytes : (n : ℕ) (p q r s : RealRoot) → p.multiplicity < 256 → q.multiplicity < 256 → r.multiplicity < 256 → s.multiplicity < 256
+pub four_bytes : (n : ℕ) (p q r s : RealRoot) → p.multiplicity < 256 → q.multiplicity < 256
+    → r.multiplicity < 256 → s.multiplicity < 256
     → multiplicities (take n (p ∷ q ∷ r ∷ s ∷ [])) < 2 ^ 32
 four_bytes n p q r s e f g h = let t = sum_taken n (p ∷ q ∷ r ∷ s ∷ []) in omega arith
 
@@ -90,3 +94,8 @@ quadratic_fits poly al be tol c n m h k o p e =
     let fit = factor_fits (record { roots = candidates_at c n; pairs = pairs_at c m }) (quadratic_roots_of poly al be tol)
     (candidates_fit c n h) (pairs_fit c m k) in
     rw (e, o, p) fit
+
+pub finish_fits : (poly : Scaled) (c : List RealRoot) (tol : Float) {s : Roots}
+    → s ≡ roots_of (finish_of poly c tol) → Fits s
+finish_fits poly c tol e =
+    subst⁻¹ Fits e (roots_fit (finish_of poly c tol) (finish_counts poly c tol))

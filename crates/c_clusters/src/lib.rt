@@ -165,12 +165,12 @@ pub extern "C" fn pongewaru_push_quadratic(
 ) -> u64
     ensures { Stored (pushed_numbers a.now d al be tol c.now n m) out.old result out.new }
 {
-    let Some(p) = poly_at(a, d) else {
-        return 0;
-    };
     if lacks(c, 68, n, m) {
         return 0;
     }
+    let Some(p) = poly_at(a, d) else {
+        return 0;
+    };
     let roots = candidates_at(c, n);
     let pairs = pairs_at(c, m);
     let found = push::Found { roots, pairs };
@@ -191,12 +191,12 @@ pub extern "C" fn pongewaru_finish(
 ) -> u64
     ensures { Stored (finished_numbers a.now d c.now n tol) out.old result out.new }
 {
-    let Some(p) = poly_at(a, d) else {
-        return 0;
-    };
     if lacks(c, 36, n, 0) {
         return 0;
     }
+    let Some(p) = poly_at(a, d) else {
+        return 0;
+    };
     let s = finish::finish(p, candidates_at(c, n), tol);
     store(out, &root_numbers(s))
 }

@@ -18,7 +18,7 @@ use Rattle.split.specs.declared.Gap.{Gap}
 use Rattle.split.specs.Gap.{Inside, magnitude_split_of}
 use Rattle.split.proofs.Gaps.{split_inside}
 use Rattle.factors.specs.declared.Factors.{Factors}
-use Rattle.factors.specs.Factors.{degree_of}
+use Rattle.factors.specs.Factors.{degree_of, Sized}
 use Rattle.large_factors.specs.Large.{large_of}
 use Rattle.large_factors.proofs.Sizes.{large_sized}
 use Rattle.factorize.specs.Factorize.{out_of, factorize_of}
@@ -41,6 +41,10 @@ module _ (f : Factors) (want : ℕ) (threshold : Float) where
 
   pub few_quads : (large_of f want threshold).nquad ≤ 2
   few_quads = (large_sized f want threshold).1
+
+pub sized : (f : Factors) (want : ℕ) (threshold : Float) (large : Factors)
+    → large ≡ large_of f want threshold → Sized large
+sized f want threshold large e = subst Sized (sym e) (large_sized f want threshold)
 
 module _ (s : List Float) (small : ℕ) where
   pub sub_degree : (scaled_of s small).d ≡ small
@@ -68,6 +72,11 @@ module _ (sine : Sine) (sub : Scaled) (depth : ℕ) (D : sub.d ≤ 4) where
 
   pub inner_quads : (factorize_of sine sub depth).nquad ≤ 2
   inner_quads = omega (arith, inner_degree)
+
+pub inner_sized : (sine : Sine) (sub : Scaled) (depth : ℕ) (inner : Factors)
+    → inner ≡ factorize_of sine sub depth → sub.d ≤ 4 → Sized inner
+inner_sized sine sub depth inner e D =
+    subst Sized (sym e) (inner_lins sine sub depth D, inner_quads sine sub depth D)
 
 -- What the function's proof rests on.
 pub ruleset sizes = (handed_on, out_fits, gap_inside, few_lins, few_quads, sub_degree, exponent_read, sub_exponent, inner_lins, inner_quads)

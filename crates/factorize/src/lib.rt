@@ -102,7 +102,8 @@ fn plain(f: factors::Factors) -> Tallied<Rooted>
     }
 }
 
-// The factors at this scale.
+// The factors at this scale. (In line: so what it makes is not copied out.)
+#[inline(always)]
 #[tactic(auto, unfolding(crate::specs::Factorize::out_of, crate::specs::Factorize::out_systems_of))]
 fn out_of(sine: Sine, g: [f64; 5], d: usize) -> Tallied<Rooted>
     ensures value { result.value ≡ rooted_of (out_of sine g d) }

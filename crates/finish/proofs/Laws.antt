@@ -2,7 +2,7 @@
 use mathlib.Core.Path.{◌≡◌, sym, ap, ◌∙◌}
 use mathlib.Core.Bool.{Bool}
 use mathlib.Core.List.{List, map}
-use Prim.Native.Nat.{ℕ, zero, suc, ◌+◌, ◌≤◌}
+use Prim.Native.Nat.{ℕ, zero, suc, ◌+◌, ◌≤◌, ◌<◌}
 use native.Mathlib.Numerals.{add-one}
 use native.Mathlib.Omega.{arith}
 use lib.ListN.{length, drop, drop_of_length-le}
@@ -43,6 +43,11 @@ module _ (poly : Scaled) (c : Roots) (f : length c.root ≡ 4) (few : c.len ≤ 
 
   pub placed_sum : multiplicities (polished_of 4 poly (from_fn c.len (ordered_at (by_value (list_of c))))) ≡ multiplicities (list_of c)
   placed_sum = ap multiplicities placed_list ∙ sum_polished 4 poly (list_of c)
+
+pub placed_bound : (poly : Scaled) (c : Roots) (p : List RealRoot) (most : ℕ)
+    → p ≡ polished_of 4 poly (ordered_of (list_of c))
+    → multiplicities (list_of c) < most → multiplicities p < most
+placed_bound poly c p most e h = rw (e, sum_polished 4 poly (list_of c)) h
 
 -- What the function's proof rests on.
 pub ruleset placed = (length_mapped, placed_list, placed_sum)

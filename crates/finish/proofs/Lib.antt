@@ -2,5 +2,6 @@
 pub mod Laws
 pub mod Runs
 pub mod Places
+pub mod Sorted
 pub mod Counts
 pub mod Simple

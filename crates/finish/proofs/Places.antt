@@ -1,16 +1,17 @@
 -- The places of an array of four by their numbers: in order and polished. Each law is of any place k.
 use mathlib.Core.Path.{◌≡◌, refl, sym, ap, ap₂, ◌∙◌}
-use mathlib.Core.List.{List, ◌∷◌, map}
+use mathlib.Core.Bool.{Bool, true, false, cond}
+use mathlib.Core.List.{List, [], ◌∷◌, map}
 use Prim.Native.Nat.{ℕ, zero, suc, ◌+◌, ◌-◌, ◌≤◌, ◌<◌}
 use native.Mathlib.Omega.{arith}
 use borrow.Author.Tests.{lt-ltb, le-ltb}
 use lib.Dec.{ltb}
-use lib.ListN.{length, get_or, take}
+use lib.ListN.{length, get_or, take, set}
 use lib.Seq.{get_or-take}
 use lib.Ieee.{Float, nan, binary64, sub}
 use Rattle.facts.specs.Arrays.{fill_from, from_fn}
 use Rattle.facts.specs.Cond.{if_taken, if_left}
-use Rattle.facts.specs.Lists.{length_mapped}
+use Rattle.facts.specs.Lists.{length_mapped, of_four}
 use Rattle.float.specs.Literals.{inf64}
 use Rattle.float.specs.Methods.{min_of, total_le_of}
 use Rattle.order.specs.Order.{order_of}
@@ -40,6 +41,13 @@ taken_made {A} rule f (suc n) (suc m) i h e =
 -- what the array of the places' values gives at each place
 abbrev pub ValuesOf : List Float → List RealRoot → Type 0
 ValuesOf values l = (i : ℕ) → i < 4 → get_or values i nan ≡ value_at l i
+
+pub values_made : (l : List RealRoot) {values : List Float} → values ≡ from_fn 4 (value_at l) → ValuesOf values l
+values_made l e zero h = ap (λ (v : List Float). get_or v 0 nan) e
+values_made l e (suc zero) h = ap (λ (v : List Float). get_or v 1 nan) e
+values_made l e (suc (suc zero)) h = ap (λ (v : List Float). get_or v 2 nan) e
+values_made l e (suc (suc (suc zero))) h = ap (λ (v : List Float). get_or v 3 nan) e
+values_made l e (suc (suc (suc (suc i)))) h = absurd (omega (arith, h))
 
 -- place k of those read in this order
 abbrev pub read_at : List RealRoot → List ℕ → ℕ → RealRoot
@@ -97,6 +105,12 @@ module _ (poly : Scaled) (o : Roots) where
   unfolding ordered_at polished_at
   polished_is k h g e = e ∙ rw (get_or-take o.len o.root k blank h, g)
 
+module _ (poly : Scaled) (o : Roots) where
+  pub none_polished : o.len ≡ 0
+      → list_of o ≡ polished_of 4 poly (from_fn o.len (ordered_at (list_of o)))
+  unfolding polished_of
+  none_polished e = rw e
+
 pub all_polished : (poly : Scaled) (o : Roots) {l : List RealRoot} → o.len ≤ 4 → l ≡ from_fn 4 (place_polished poly o)
     → take o.len l ≡ polished_of 4 poly (from_fn o.len (ordered_at (list_of o)))
 unfolding polished_of
@@ -104,6 +118,42 @@ all_polished poly o h e =
     ap (take o.len) e
     ∙ taken_made (place_polished poly o) (polished_in poly o) o.len 4 0 h (λ j l. rw (lt-ltb j o.len (omega arith)))
     ∙ sym (map_filled (polished_at 4 poly) (ordered_at (list_of o)) 0 o.len)
+
+-- ---- polished place by place, in an array of four
+module _ (poly : Scaled) (o : Roots) where
+  -- place j, where the first k are polished
+  abbrev half_polished : ℕ → ℕ → RealRoot
+  half_polished k j = cond (ltb j k) (place_polished poly o j) (get_or o.root j blank)
+
+  abbrev pub polished_up_to : ℕ → List RealRoot
+  polished_up_to k = half_polished k 0 ∷ half_polished k 1 ∷ half_polished k 2 ∷ half_polished k 3 ∷ []
+
+  pub polished_none : length o.root ≡ 4 → o.root ≡ polished_up_to 0
+  polished_none four = of_four (λ (l : List RealRoot). l ≡ get_or l 0 blank ∷ get_or l 1 blank ∷ get_or l 2 blank ∷ get_or l 3 blank ∷ [])
+      (λ a b c d. refl) o.root four
+
+  pub polished_next : (k : ℕ) (x : RealRoot) → k < 4 → x ≡ place_polished poly o k → set (polished_up_to k) k x ≡ polished_up_to (k + 1)
+  polished_next zero x h e = ap (λ (y : RealRoot). y ∷ half_polished 1 1 ∷ half_polished 1 2 ∷ half_polished 1 3 ∷ []) e
+  polished_next (suc zero) x h e = ap (λ (y : RealRoot). half_polished 2 0 ∷ y ∷ half_polished 2 2 ∷ half_polished 2 3 ∷ []) e
+  polished_next (suc (suc zero)) x h e = ap (λ (y : RealRoot). half_polished 3 0 ∷ half_polished 3 1 ∷ y ∷ half_polished 3 3 ∷ []) e
+  polished_next (suc (suc (suc zero))) x h e = ap (λ (y : RealRoot). half_polished 4 0 ∷ half_polished 4 1 ∷ half_polished 4 2 ∷ y ∷ []) e
+  polished_next (suc (suc (suc (suc k)))) x h e = absurd (omega (arith, h))
+
+  -- a place that does not count is as it is
+  half_is : (j : ℕ) → half_polished o.len j ≡ place_polished poly o j
+  unfolding place_polished
+  half_is j = go (ltb j o.len)
+    where
+      go : (b : Bool) → cond b (cond b (polished_at 4 poly (ordered_at (list_of o) j)) (get_or o.root j blank)) (get_or o.root j blank)
+          ≡ cond b (polished_at 4 poly (ordered_at (list_of o) j)) (get_or o.root j blank)
+      go true = refl
+      go false = refl
+
+  pub polished_all : (k : ℕ) {l : List RealRoot} → o.len ≤ 4 → k ≡ o.len → l ≡ polished_up_to k
+      → take o.len l ≡ polished_of 4 poly (from_fn o.len (ordered_at (list_of o)))
+  polished_all k h n e =
+      all_polished poly o h
+      (e ∙ rw n (λ i. half_is 0 i ∷ half_is 1 i ∷ half_is 2 i ∷ half_is 3 i ∷ []))
 
 -- What the functions' proofs rest on.
 pub ruleset gaps = (length_mapped, length_list, below_first, below_next, above_last, above_next)

@@ -79,6 +79,10 @@ module _ (poly : Scaled) (tol : Float) (whole : Roots) (l : List RealRoot) (k : 
   pub next_adds : k < length l → Joining poly tol whole l k run → more.at.multiplicity + multiplicities (drop (k + 1) l) < 2 ^ 32
   next_adds h w = omega (arith, ap multiplicities (drop_next l k blank h), next_sum poly tol run (get_or l k blank), w.adds)
 
+  pub joins_next : {r : Run} → k < length l → Joining poly tol whole l k run
+      → r ≡ next_run poly run (get_or l k blank) tol → Joining poly tol whole l (k + 1) r
+  joins_next h w e = rw e (record { gives = next_gives h w; adds = next_adds h w })
+
   pub joins_last : length l ≤ k → Joining poly tol whole l k run → kept_in run.out run.at ≡ whole
   unfolding runs_of
   joins_last h w = sym (ap (runs_of poly tol run) (drop_of_length-le l {i = k} h)) ∙ w.gives

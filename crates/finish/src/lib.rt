@@ -41,7 +41,12 @@ pub fn ordered(c: Roots) -> Roots
     requires { c.len ≤ 4 }
     ensures { (list_of result ≡ by_value (list_of c)) × (result.len ≡ c.len) }
 {
-    let at = order::sorted(c.root.map(|r| r.value), c.len, float::total_le);
+    if c.len < 2 {
+        return c;
+    }
+    // (Not by `map`, which takes the array by value.)
+    let values = std::array::from_fn(|k| c.root[k].value);
+    let at = order::sorted(values, c.len, float::total_le);
     Roots {
         root: std::array::from_fn(|k| c.root[at[k]]),
         len: c.len,
@@ -51,11 +56,11 @@ pub fn ordered(c: Roots) -> Roots
 impl Placed {
     // The distance to the nearer neighbour: there is none below the first place and above the last.
     #[tactic(auto, using(crate::proofs::Places::gaps))]
-    fn gap(self, k: usize) -> f64
-        requires { k < self.roots.len }
-        ensures { result ≡ min_of (below_of (list_of self.roots) k) (above_of (list_of self.roots) k) }
+    fn gap(&self, k: usize) -> f64
+        requires { k < self.now.roots.len }
+        ensures { result ≡ min_of (below_of (list_of self.now.roots) k) (above_of (list_of self.now.roots) k) }
     {
-        let o = self.roots;
+        let o = &self.roots;
         let here = o.root[k].value;
         let below = if k > 0 {
             here - o.root[k - 1].value
@@ -85,8 +90,8 @@ fn join(a: RealRoot, b: RealRoot) -> RealRoot
 impl Banded {
     // A root at this gap from its nearest neighbour, polished where it is simple.
     #[tactic(auto, unfolding(crate::specs::Finish::polished_at))]
-    fn polished_by(self, r: RealRoot, gap: f64) -> RealRoot
-        ensures { result ≡ polished_at 4 self.poly (place_of r gap) }
+    fn polished_by(&self, r: RealRoot, gap: f64) -> RealRoot
+        ensures { result ≡ polished_at 4 self.now.poly (place_of r gap) }
     {
         if r.multiplicity != 1 {
             return RealRoot::new(r.value, r.multiplicity);
@@ -97,9 +102,9 @@ impl Banded {
 
     // Place k, where it counts.
     #[tactic(auto, using(crate::proofs::Places::polished_is))]
-    fn place_polished(self, o: Placed, k: usize) -> RealRoot
+    fn place_polished(&self, o: &Placed, k: usize) -> RealRoot
         requires { k < 4 }
-        ensures { result ≡ place_polished self.poly o.roots k }
+        ensures { result ≡ place_polished self.now.poly o.now.roots k }
     {
         if k < o.roots.len {
             return self.polished_by(o.roots.root[k], o.gap(k));
@@ -107,11 +112,15 @@ impl Banded {
         o.roots.root[k]
     }
 
-    fn polished(self, o: Placed) -> Placed
-        ensures { (list_of result.roots ≡ polished_of 4 self.poly (from_fn o.roots.len (ordered_at (list_of o.roots))))
+    fn polished(&self, o: Placed) -> Placed
+        ensures { (list_of result.roots ≡ polished_of 4 self.now.poly (from_fn o.roots.len (ordered_at (list_of o.roots))))
             × (result.roots.len ≡ o.roots.len) }
     {
-        let root = std::array::from_fn(|k| self.place_polished(o, k));
+        let mut root = o.roots.root;
+        // (By place: a closure of each place would copy all four, where most lists have fewer.)
+        for k in 0..o.roots.len {
+            root[k] = self.place_polished(&o, k);
+        }
         let roots = Roots {
             root,
             len: o.roots.len,
@@ -121,17 +130,17 @@ impl Banded {
 
     // Whether the next place is within the band of y.
     #[tactic(auto, unfolding(crate::specs::Finish::is_near_of))]
-    fn is_near(self, y: f64, next: f64) -> bool
-        ensures { result ≡ is_near_of self.poly y next self.tol }
+    fn is_near(&self, y: f64, next: f64) -> bool
+        ensures { result ≡ is_near_of self.now.poly y next self.now.tol }
     {
         band::within_band(self.poly, 0.5 * (next - y), 0.5 * (next + y), self.tol)
     }
 
     // The next place b joins the run, or ends it and begins the next one.
     #[tactic(auto, using(crate::proofs::Runs::next))]
-    fn next_run(self, run: Run, b: RealRoot) -> Run
+    fn next_run(&self, run: Run, b: RealRoot) -> Run
         requires { run.at.multiplicity + b.multiplicity < 2 ^ 32 }
-        ensures { result ≡ next_run self.poly run b self.tol }
+        ensures { result ≡ next_run self.now.poly run b self.now.tol }
     {
         let out = run.out;
         let a = run.at;
@@ -144,12 +153,12 @@ impl Banded {
     }
 
     #[tactic(auto, using(crate::proofs::Runs::runs))]
-    fn joined(self, placed: Placed) -> Roots
-        requires { multiplicities (list_of placed.roots) < 2 ^ 32 }
-        ensures { result ≡ roots_of (joined_of self.poly self.tol (list_of placed.roots)) }
+    fn joined(&self, placed: &Placed) -> Roots
+        requires { multiplicities (list_of placed.now.roots) < 2 ^ 32 }
+        ensures { result ≡ roots_of (joined_of self.now.poly self.now.tol (list_of placed.now.roots)) }
     {
         let out = Roots::default();
-        let p = placed.roots;
+        let p = &placed.roots;
         let Some((at, rest)) = p.root[..p.len].split_first() else {
             return out;
         };
@@ -170,5 +179,5 @@ pub fn finish(poly: Scaled, c: Roots, tol: f64) -> Roots
 {
     let b = Banded { poly, tol };
     let o = Placed { roots: ordered(c) };
-    b.joined(b.polished(o))
+    b.joined(&b.polished(o))
 }

@@ -5,9 +5,9 @@ use mathlib.Core.List.{List, [], ◌∷◌, ◌++◌}
 use mathlib.Core.Logic.{⊎_elim}
 use mathlib.Core.Option.{Option, none, some}
 use Prim.Native.Nat.{ℕ, ◌+◌, ◌≤◌, ◌<◌}
-use lib.Dec.{ltb, eqb}
+use lib.Dec.{ltb, eqb, leb}
 use lib.ListN.{length, get_or, drop, drop_of_length-le}
-use borrow.Author.Tests.{ltb-true, lt-ltb, le-ltb}
+use borrow.Author.Tests.{ltb-true, lt-ltb, le-ltb, leb-true}
 use Rattle.algebra.specs.NatOrder.{le_or_lt}
 use Rattle.facts.specs.Cond.{first_holds, second_holds}
 use Rattle.facts.specs.Lists.{drop_next}
@@ -16,6 +16,8 @@ use Rattle.parts.specs.Products.{operator_of}
 use Rattle.formula.specs.Grammar.{is_digit, Sign, plus, minus}
 use Rattle.formula.specs.Parts.{sign_of}
 use Rattle.formula.specs.Reading.{if_some, after, after_sign, digits_of, behind_digits}
+use Rattle.std.specs.Option.{is_some}
+use Rattle.std.specs.Prelude as Prelude
 use Rattle.std.specs.Prelude.{Some, None}
 use Rattle.parts.specs.declared.Operator.{Operator}
 use Rattle.formula.specs.Readers.{is_at, sign_at, digit_at, operator_at, sign_operator}
@@ -33,6 +35,14 @@ digit_inside s i e = ltb-true i (length s) (first_holds (ltb i (length s)) (is_d
 pub digit_is : (s : List ℕ) (i : ℕ) → digit_at s i ≡ true → is_digit (get_or s i 0) ≡ true
 unfolding digit_at
 digit_is s i e = second_holds (ltb i (length s)) (is_digit (get_or s i 0)) e
+
+pub digit_low : (s : List ℕ) (i : ℕ) → digit_at s i ≡ true → 48 ≤ get_or s i 0
+digit_low s i e =
+    let b = get_or s i 0 in leb-true 48 b (first_holds (leb 48 b) (leb b 57) (digit_is s i e))
+
+pub digit_high : (s : List ℕ) (i : ℕ) → digit_at s i ≡ true → get_or s i 0 ≤ 57
+digit_high s i e =
+    let b = get_or s i 0 in leb-true b 57 (second_holds (leb 48 b) (leb b 57) (digit_is s i e))
 
 -- ---- a byte
 after_at : (s : List ℕ) (i b : ℕ) → after b (drop i s) ≡ cond (is_at s i b) (some (drop (i + 1) s)) none
@@ -114,6 +124,10 @@ sign_none s i = go (sign_at s i)
     go : (b : Bool) → None ≡ cond b (Some (operator_at s i)) None → b ≡ false
     go true e = absurd cc
     go false e = refl
+
+pub sign_missing : (s : List ℕ) (i : ℕ) (o : Prelude.Option Operator) → o ≡ sign_operator s i → is_some o ≡ false → sign_at s i ≡ false
+sign_missing s i None e h = sign_none s i e
+sign_missing s i (Some op) e h = absurd (true≢false h)
 
 -- ---- a digit
 pub digits_true : (s : List ℕ) (i : ℕ) → digit_at s i ≡ true → digits_of (drop i s) ≡ get_or s i 0 ∷ digits_of (drop (i + 1) s)

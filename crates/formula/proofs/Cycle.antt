@@ -19,7 +19,7 @@ use Rattle.formula.specs.Expansion.{sum_of, term_of, factor_of}
 use Rattle.formula.specs.Reading.{Read, fails, reads, and_then, if_some, read_unit, read_closed, read_sum, more_terms, read_term, more_factors, read_factor}
 use Rattle.std.specs.Prelude as Prelude
 use Rattle.std.specs.Prelude.{Some, None, IfSome}
-use Rattle.formula.specs.Readers.{is_at, sign_at, operator_at, Ahead, HasRead, Reads, Based, Closed, Powered, Joined}
+use Rattle.formula.specs.Readers.{is_at, sign_at, operator_at, Ahead, Further, HasRead, Reads, Based, Closed, Powered, Shut, Joined, Joins}
 use Rattle.formula.proofs.Bytes.{at_inside, sign_inside, after_true, after_false, sign_true, sign_false, sign_next, operator_is}
 use Rattle.formula.proofs.Complete.{factors_end, terms_end}
 use Rattle.formula.proofs.Cursors.{ahead_then}
@@ -35,6 +35,27 @@ module _ (s : List ℕ) (at : ℕ) where
   by_first : ℕ → Option (List ℕ) → Read Factor
   by_first f o = if_some o (read_unit (drop at s)) (λ u. and_then (read_sum f u) read_closed)
 
+  pub factor_bracket : (inner c : Prelude.Option Cursor) → is_at s at 40 ≡ true → Reads read_sum sum_of 3 s (at + 1) inner → Further s inner c
+      → Shut s inner c → Reads read_factor factor_of 1 s at c
+  unfolding read_factor by_first
+  factor_bracket inner c e r h k = record { ahead = h at (ahead_then s at (at + 1) inner (omega arith) r.ahead); means = means }
+    where
+      means : (f : ℕ) → 3 * (length s - at) + 1 ≤ f → HasRead factor_of s (read_factor f (drop at s)) c
+      means zero g = absurd (omega arith)
+      means (suc f) g =
+          subst (λ (x : Read Factor). HasRead factor_of s x c) (sym (ap (by_first f) (after_true s at 40 e)))
+          (k (read_sum f (drop (at + 1) s)) (r.means f (omega (arith, at_inside s at 40 e))))
+
+  pub factor_bare : (c : Prelude.Option Cursor) → is_at s at 40 ≡ false → IfSome c (Ahead s at) → HasRead factor_of s (read_unit (drop at s)) c
+      → Reads read_factor factor_of 1 s at c
+  unfolding read_factor by_first
+  factor_bare c e h k = record { ahead = h; means = means }
+    where
+      means : (f : ℕ) → 3 * (length s - at) + 1 ≤ f → HasRead factor_of s (read_factor f (drop at s)) c
+      means zero g = absurd (omega arith)
+      means (suc f) g = subst (λ (x : Read Factor). HasRead factor_of s x c) (sym (ap (by_first f) (after_false s at 40 e))) k
+
+  -- ---- by what is read but the power
   pub bracket_none : is_at s at 40 ≡ true → Reads read_sum sum_of 3 s (at + 1) None → Reads read_factor factor_of 1 s at None
   unfolding read_factor by_first
   bracket_none e r = record { ahead = tt; means = means }
@@ -73,9 +94,6 @@ module _ (s : List ℕ) (at : ℕ) where
     ahead = ahead_then s at base.next c b.ahead.low h;
     means = λ f g. let m = b.means f g in subst (λ (x : Read Factor). HasRead factor_of s x c) (sym m.1) (p m.0 m.2);
   }
-
--- what its refusals show
-pub ruleset factors = (at_inside, bracket_none, base_unit, factor_none)
 
 -- ---- what is read so far: `more g a` goes on behind the tree a
 abbrev SoFar : {A : Type 0} → (ℕ → A → List ℕ → Read A) → (A → Value) → List ℕ → Cursor → Read A → Type 0
@@ -233,3 +251,43 @@ module _ (s : List ℕ) (at : ℕ) (c : Cursor) where
 
     pub sum_last : sign_at s c.next ≡ false → Reads read_sum sum_of 3 s at (Some c)
     sum_last e = last read_sum more_terms sum_of 3 s at c (λ g a l. terms_end g a (drop c.next s) l (sign_false s c.next e)) w
+
+-- ---- what is read so far, if it was read
+abbrev pub TermSoFar : List ℕ → ℕ → Prelude.Option Cursor → Type 0
+TermSoFar s at None = Reads read_term term_of 2 s at None
+TermSoFar s at (Some c) = TermFar s at c
+
+pub term_begun : (s : List ℕ) (at : ℕ) (c : Prelude.Option Cursor) → Reads read_factor factor_of 1 s at c → TermSoFar s at c
+term_begun s at None r = term_none s at r
+term_begun s at (Some c) r = term_first s at c r
+
+pub term_more : (s : List ℕ) (at : ℕ) (c : Cursor) → TermFar s at c → is_at s c.next 42 ≡ true → (right d : Prelude.Option Cursor)
+    → Reads read_factor factor_of 1 s (c.next + 1) right → Joins Product (Some c) right d → TermSoFar s at d
+term_more s at c w e None d r j = subst (TermSoFar s at) (sym j) (term_next_none s at c w e r)
+term_more s at c w e (Some b) None r j = absurd j
+term_more s at c w e (Some b) (Some d) r j = term_next s at c w e b d r j
+
+abbrev pub SumSoFar : List ℕ → ℕ → Prelude.Option Cursor → Type 0
+SumSoFar s at None = Reads read_sum sum_of 3 s at None
+SumSoFar s at (Some c) = SumFar s at c
+
+pub sum_begun : (s : List ℕ) (at : ℕ) (c : Prelude.Option Cursor) → Reads read_term term_of 2 s at c → SumSoFar s at c
+sum_begun s at None r = sum_none s at r
+sum_begun s at (Some c) r = sum_first s at c r
+
+pub sum_more : (s : List ℕ) (at : ℕ) (c : Cursor) → SumFar s at c → sign_at s c.next ≡ true → (op : Operator) → op ≡ operator_at s c.next
+    → (right d : Prelude.Option Cursor) → Reads read_term term_of 2 s (c.next + 1) right → Joins op (Some c) right d → SumSoFar s at d
+sum_more s at c w e op o None d r j = subst (SumSoFar s at) (sym j) (sum_next_none s at c w e r)
+sum_more s at c w e op o (Some b) None r j = absurd j
+sum_more s at c w e op o (Some b) (Some d) r j = sum_next s at c w e b d op o r j
+
+-- how much is left to read
+abbrev pub unread : List ℕ → Prelude.Option Cursor → ℕ
+unread s None = 0
+unread s (Some c) = length s - c.next
+
+pub unread_falls : (s : List ℕ) (op : Operator) (c : Cursor) (right d : Prelude.Option Cursor) → c.next < length s → IfSome right (Ahead s (c.next + 1))
+    → Joins op (Some c) right d → unread s d < unread s (Some c)
+unread_falls s op c None d h r j = subst (λ (o : Prelude.Option Cursor). unread s o < unread s (Some c)) (sym j) (omega (arith, h))
+unread_falls s op c (Some b) None h r j = absurd j
+unread_falls s op c (Some b) (Some d) h r j = omega (arith, h, r.low, r.high, j.next)

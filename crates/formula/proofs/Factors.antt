@@ -6,7 +6,8 @@ use mathlib.Core.Logic.{⊎_elim}
 use mathlib.Core.Option.{Option}
 use Prim.Native.Nat.{ℕ, suc, ◌+◌, ◌-◌, ◌*◌, ◌^◌, ◌≤◌, ◌<◌}
 use native.Mathlib.Omega.{arith}
-use lib.Dec.{T, leb}
+use native.Mathlib.Nat.{le_refl, lt_of_lt_of_le, pow-le-pow_right}
+use lib.Dec.{T, leb, lit≤}
 use lib.ListN.{length, get_or, drop, drop_of_length-le}
 use lib.IntN.{pos}
 use borrow.Author.Tests.{le-leb, lt-leb}
@@ -18,14 +19,15 @@ use Rattle.formula.specs.declared.cursor.Cursor.{Cursor}
 use Rattle.formula.specs.Grammar.{is_digit, all_digits, is_number, Number, Power, plain, power, Sum, Factor, number, letter, bracket}
 use Rattle.formula.specs.Parts.{digits_from}
 use Rattle.formula.specs.Expansion.{powered_of, factor_of}
-use Rattle.formula.specs.Reading.{Read, fails, reads, if_some, digits_of, behind_digits, checked}
-use Rattle.formula.specs.Reading.{read_digit, read_power, read_number, read_unit}
+use Rattle.formula.specs.Reading.{Read, fails, reads, and_then, if_some, digits_of, behind_digits, checked}
+use Rattle.formula.specs.Reading.{read_digit, read_power, read_number, read_unit, read_closed}
 use Rattle.std.specs.Prelude as Prelude
 use Rattle.std.specs.Prelude.{Some, None, Ok}
-use Rattle.formula.specs.Readers.{is_at, digit_at, Digit, Ahead, Based, Closed, Powered}
+use Rattle.formula.specs.Readers.{is_at, digit_at, Digit, Ahead, Further, Based, Closed, Powered, Shut}
 use Rattle.formula.proofs.Bytes.{at_inside, digit_inside, digit_is, after_true, after_false, no_digit}
 use Rattle.formula.proofs.Bytes.{digits_true, digits_false, behind_true, behind_false}
 use Rattle.formula.proofs.Complete.{checked_true}
+use Rattle.formula.proofs.Cursors.{ahead_then}
 
 -- ---- brackets
 module _ (s : List ℕ) (inner : Cursor) where
@@ -98,6 +100,22 @@ module _ (s : List ℕ) (base : Cursor) where
               v ∙ ap (power_of (value_in base.part)) d.1 ∙ sym (p q),
             )
 
+-- ---- brackets with no power
+pub shut_plain : (s : List ℕ) (inner base : Cursor) → is_at s base.next 94 ≡ false → Closed s inner (Some base) → Shut s (Some inner) (Some base)
+shut_plain s inner base e k x h =
+    let m = k h.0 h.2 in
+    let p = powered_plain s base e m.0 m.2 in
+    (p.0, ap (λ (y : Read Sum). and_then y read_closed) h.1 ∙ m.1 ∙ p.1, p.2)
+
+pub bracket_none : (s : List ℕ) → Shut s None None
+bracket_none s x e = ap (λ (y : Read Sum). and_then y read_closed) e
+
+pub bracket_plain : (s : List ℕ) (inner c : Cursor) → is_at s inner.next 41 ≡ true → is_at s (inner.next + 1) 94 ≡ false → c.next ≡ inner.next + 1
+    → c.part ≡ inner.part → Further s (Some inner) (Some c) × Shut s (Some inner) (Some c)
+bracket_plain s inner c e f n q =
+    let w = closed_shut s inner e c n q in
+    (λ at h. ahead_then s at inner.next (Some c) h.low w.0, shut_plain s inner c (subst (λ (i : ℕ). is_at s i 94 ≡ false) (sym n) f) w.1)
+
 -- ---- whole numbers
 all_are_digits : (s : List ℕ) → all_digits (digits_of s) ≡ true
 all_are_digits [] = refl
@@ -119,6 +137,26 @@ pub record Counted (s : List ℕ) (at i n : ℕ) : Type 0 where
   pub value : digits_from 0 (digits_of (drop at s)) ≡ digits_from n (digits_of (drop i s))
   pub count : at + length (digits_of (drop at s)) ≡ i + length (digits_of (drop i s))
   pub behind : behind_digits (drop at s) ≡ behind_digits (drop i s)
+
+pub counted_none : (s : List ℕ) (at : ℕ) → at ≤ length s → Counted s at at 0
+counted_none s at h = record {
+  low = le_refl at;
+  high = h;
+  few = omega arith;
+  below = subst (λ (k : ℕ). 0 < 10 ^ k) (sym none_yet) (lit≤ tt);
+  value = refl;
+  count = refl;
+  behind = refl;
+}
+  where
+    none_yet : at - at ≡ 0
+    none_yet = omega arith
+
+pub counted_small : (s : List ℕ) (at i n : ℕ) → Counted s at i n → n < 10 ^ 9
+counted_small s at i n w = lt_of_lt_of_le w.below (pow-le-pow_right (lit≤ tt) few)
+  where
+    few : i - at ≤ 9
+    few = omega (arith, w.few)
 
 pub counted_next : (s : List ℕ) (at i n d : ℕ) → Counted s at i n → (i - at ≡ 9 → ⊥) → digit_at s i ≡ true → (d ≡ get_or s i 0 - 48) × (d < 10)
     → Counted s at (i + 1) (10 * n + d)

@@ -1,9 +1,9 @@
 -- A whole text: what its first sum says of it.
 use mathlib.Core.Path.{◌≡◌, refl, sym, ap, ◌∙◌}
-use mathlib.Core.List.{List}
-use Prim.Native.Nat.{ℕ, ◌+◌, ◌*◌, ◌<◌}
+use mathlib.Core.List.{List, []}
+use Prim.Native.Nat.{ℕ, ◌+◌, ◌*◌, ◌<◌, ◌-◌, ◌≤◌}
 use native.Mathlib.Omega.{arith}
-use lib.ListN.{length, drop, drop_of_length-le}
+use lib.ListN.{length, drop, drop_of_length-le, length-drop}
 use Rattle.std.specs.Prelude.{Some, Err, None}
 use Rattle.refusals.specs.declared.Refusal.TheVariants.{NotASum}
 use Rattle.facts.specs.Lists.{drop_next}
@@ -13,7 +13,7 @@ use Rattle.formula.specs.declared.cursor.Cursor.{Cursor}
 use Rattle.formula.specs.Grammar.{Sum}
 use Rattle.formula.specs.Expansion.{sum_of}
 use Rattle.formula.specs.Reading.{Read, reads, if_some, read_sum, whole, reading_of}
-use Rattle.formula.specs.Formula.{formula_of}
+use Rattle.formula.specs.Formula.{formula_of, answered_of, expand_of}
 use Rattle.formula.specs.Readers.{Reads}
 
 -- what is answered where x was read
@@ -50,3 +50,13 @@ module _ (s : List ℕ) where
     text_read e =
         let none = drop_of_length-le s {i = c.next} (omega arith) in
         met.2 ∙ sym (is ∙ ap value_of met.1 ∙ ap (λ (u : List ℕ). value_of (reads met.0 u)) none)
+
+-- a text that is longer than its first sum
+pub text_met : (s : List ℕ)
+    → expand_of s
+    ≡ answered_of (if_some (whole (read_sum (3 * length s + 3) s)) (Err NotASum) sum_of)
+unfolding expand_of formula_of reading_of sum_of
+text_met s = refl
+
+pub none_left : (n : ℕ) (s : List ℕ) → drop n s ≡ [] → length s ≤ n
+none_left n s e = let is : 0 ≡ length s - n = ap length (sym e) ∙ length-drop n s in omega arith

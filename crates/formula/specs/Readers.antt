@@ -10,7 +10,7 @@ use Rattle.formula.specs.declared.cursor.Cursor.{Cursor}
 use Rattle.formula.specs.Grammar as Grammar
 use Rattle.formula.specs.Grammar.{is_digit, Power, Factor}
 use Rattle.formula.specs.Expansion.{powered_of, sum_of, factor_of}
-use Rattle.formula.specs.Reading.{Read, fails, reads, read_power, read_closed}
+use Rattle.formula.specs.Reading.{Read, fails, reads, and_then, read_power, read_closed}
 
 -- whether the byte b, a sign or a digit stands at i
 unfoldable pub is_at : List ℕ → ℕ → ℕ → Bool
@@ -40,6 +40,14 @@ pub record Ahead (s : List ℕ) (at : ℕ) (c : Cursor) : Type 0 where
   pub low : at ≤ c.next
   pub high : c.next ≤ length s
 
+-- code ends in the text
+abbrev pub Inside : List ℕ → Cursor → Type 0
+Inside s c = c.next ≤ length s
+
+-- where b ends behind a place, c does too, or nothing was read
+abbrev pub Further : List ℕ → Option Cursor → Option Cursor → Type 0
+Further s b c = (at : ℕ) → IfSome b (Ahead s at) → IfSome c (Ahead s at)
+
 -- code has read what the definition reads
 abbrev pub HasRead : {A : Type 0} → (A → Value) → List ℕ → Read A → Option Cursor → Type 0
 HasRead value s x None = x ≡ fails
@@ -65,7 +73,18 @@ Powered s base c =
     (make : Power → Factor) → ((p : Power) → factor_of (make p) ≡ powered_of p (value_in base.part))
     → HasRead factor_of s (read_power make (drop base.next s)) c
 
+-- c has a factor in brackets, where inner has what was read of the sum in them
+abbrev pub Shut : List ℕ → Option Cursor → Option Cursor → Type 0
+Shut s inner c = (x : Read Grammar.Sum) → HasRead sum_of s x inner → HasRead factor_of s (and_then x read_closed) c
+
 -- c has what is joined of a and b
 pub record Joined (op : Operator) (a b c : Cursor) : Type 0 where
   pub next : c.next ≡ b.next
   pub value : value_in c.part ≡ joined (operator_of op) (value_in a.part) (value_in b.part)
+
+-- c has what is joined of a and b, where both were read
+abbrev pub Joins : Operator → Option Cursor → Option Cursor → Option Cursor → Type 0
+Joins op None b c = c ≡ None
+Joins op (Some a) None c = c ≡ None
+Joins op (Some a) (Some b) None = ⊥
+Joins op (Some a) (Some b) (Some c) = Joined op a b c

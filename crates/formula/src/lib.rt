@@ -10,7 +10,7 @@ ghost use Rattle.parts.specs.Part.{coefficient_in, value_in};
 ghost use Rattle.formula.specs.Expansion.{sum_of, term_of, factor_of};
 ghost use Rattle.formula.specs.Reading.{read_sum, read_term, read_factor, read_unit, read_number};
 ghost use Rattle.formula.specs.Formula.{formula_of, expanded_of, expand_of};
-ghost use Rattle.formula.specs.Readers.{is_at, sign_operator, Digit, Ahead, Reads, Based, Closed, Powered, Joined};
+ghost use Rattle.formula.specs.Readers.{is_at, sign_operator, Digit, Ahead, Inside, Further, HasRead, Reads, Based, Closed, Powered, Shut, Joined, Joins};
 
 use cursor::Cursor;
 use parts::{Operator, Part};
@@ -118,9 +118,8 @@ fn closed(s: &[u8], inner: Cursor) -> Option<Cursor>
     None
 }
 
-// What was read, to the power that comes next, if one does. (Its copies stand in no reader's frame: that spares stack for each open bracket.)
+// What was read, to the power that comes next, if one does.
 #[tactic(auto, using(crate::proofs::Factors::powered_none))]
-#[inline(never)]
 fn powered(s: &[u8], base: Cursor) -> Option<Cursor>
     requires { base.next ≤ length s.now }
     ensures ahead { IfSome result (Ahead s.now base.next) }
@@ -137,10 +136,31 @@ fn powered(s: &[u8], base: Cursor) -> Option<Cursor>
     })
 }
 
+// A factor with no brackets. (Out of line, as `bracketed` and `join`: what they copy stands in no reader's frame, which spares stack for each open bracket.)
+#[inline(never)]
+fn bare(s: &[u8], at: usize) -> Option<Cursor>
+    requires { at ≤ length s.now }
+    ensures ahead { IfSome result (Ahead s.now at) }
+    ensures read { HasRead factor_of s.now (read_unit (drop at s.now)) result }
+{
+    let base = unit(s, at)?;
+    powered(s, base)
+}
+
+// A factor in brackets, by the sum in them, if that was read.
+#[inline(never)]
+fn bracketed(s: &[u8], inner: Option<Cursor>) -> Option<Cursor>
+    requires { IfSome inner (Inside s.now) }
+    ensures further { Further s.now inner result }
+    ensures shut { Shut s.now inner result }
+{
+    let base = closed(s, inner?)?;
+    powered(s, base)
+}
+
 // ---- joins
 
-// The result takes the place of the right operand. (Likewise.)
-#[inline(never)]
+// The result takes the place of the right operand.
 fn joined(op: Operator, left: Cursor, right: Cursor) -> Cursor
     ensures { Joined op left right result }
 {
@@ -150,6 +170,17 @@ fn joined(op: Operator, left: Cursor, right: Cursor) -> Cursor
         next: right.next,
         part,
     }
+}
+
+// Both, in the left one's place, if both were read.
+#[inline(never)]
+fn join(op: Operator, left: &mut Option<Cursor>, right: Option<Cursor>)
+    ensures { Joins op left.old right left.new }
+{
+    *left = match (*left, right) {
+        (Some(a), Some(b)) => Some(joined(op, a, b)),
+        _ => None,
+    };
 }
 
 // ---- the readers: a sum reads terms, a term factors, and a factor in brackets a sum, from a place on. (A text and a place, not what is left of it: a slice in
@@ -162,13 +193,24 @@ fn sum(s: &[u8], at: usize) -> Option<Cursor>
     requires { at ≤ length s.now }
     ensures { Reads read_sum sum_of 3 s.now at result }
 {
-    let mut left = term(s, at)?;
-    // (A while: a sign says whether one more term comes, and that term's text where the next sign stands; no iterator knows how far that is.)
-    while let Some(op) = operator_at(s, left.next) {
-        let right = term(s, left.next + 1)?;
-        left = joined(op, left, right);
+    let first = term(s, at);
+    let Some(c) = first else {
+        return None;
+    };
+    // (What is one term is copied no more than once, whatever it opens.)
+    if operator_at(s, c.next).is_none() {
+        return first;
     }
-    Some(left)
+    let mut left = first;
+    // (A while: a sign says whether one more term comes, and that term's text where the next sign stands; no iterator knows how far that is.)
+    while let Some(c) = left {
+        let Some(op) = operator_at(s, c.next) else {
+            return left;
+        };
+        let right = term(s, c.next + 1);
+        join(op, &mut left, right);
+    }
+    left
 }
 
 #[tactic(auto, using(crate::proofs::Bytes::at_inside))]
@@ -177,28 +219,48 @@ fn term(s: &[u8], at: usize) -> Option<Cursor>
     requires { at ≤ length s.now }
     ensures { Reads read_term term_of 2 s.now at result }
 {
-    let mut left = factor(s, at)?;
-    // (A while, likewise.)
-    while is_at(s, left.next, b'*') {
-        let right = factor(s, left.next + 1)?;
-        left = joined(Operator::Product, left, right);
+    let first = factor(s, at);
+    let Some(c) = first else {
+        return None;
+    };
+    if !is_at(s, c.next, b'*') {
+        return first;
     }
-    Some(left)
+    let mut left = first;
+    // (A while, likewise.)
+    while let Some(c) = left {
+        if !is_at(s, c.next, b'*') {
+            return left;
+        }
+        let right = factor(s, c.next + 1);
+        join(Operator::Product, &mut left, right);
+    }
+    left
 }
 
-#[tactic(auto, using(crate::proofs::Cycle::factors))]
+// (In line in `term`: a frame and a copy less for each open bracket.)
+#[tactic(auto, using(crate::proofs::Bytes::at_inside))]
 #[cycle(factor_sum_term)]
+#[inline(always)]
 fn factor(s: &[u8], at: usize) -> Option<Cursor>
     requires { at ≤ length s.now }
     ensures { Reads read_factor factor_of 1 s.now at result }
 {
-    let base = if is_at(s, at, b'(') {
-        let inner = sum(s, at + 1)?;
-        closed(s, inner)?
-    } else {
-        unit(s, at)?
+    if !is_at(s, at, b'(') {
+        return bare(s, at);
+    }
+    let inner = sum(s, at + 1);
+    let Some(c) = inner else {
+        return None;
     };
-    powered(s, base)
+    // (`bracketed` says the same. Most brackets carry no power, and then nothing more is called.)
+    if is_at(s, c.next, b')') && !is_at(s, c.next + 1, b'^') {
+        return Some(Cursor {
+            next: c.next + 1,
+            ..c
+        });
+    }
+    bracketed(s, inner)
 }
 
 // ---- the answer
@@ -207,7 +269,7 @@ fn factor(s: &[u8], at: usize) -> Option<Cursor>
 fn float_at(a: Part, k: usize) -> f64
     ensures { result ≡ of_int binary64 (coefficient_in a k) }
 {
-    parts::entry(a, k) as f64
+    parts::entry(a.coeffs, k) as f64
 }
 
 // (No From<Part>: a public impl, whose one call is this; its name would say no more than answered does.)

@@ -81,16 +81,17 @@ fn dist(x: Complex, y: Complex) -> f64
     a * a + b * b
 }
 
+// (By reference, here and in greatest: so the loop is unrolled, which it isn't over the array's own items.)
 fn least(near: [f64; 3]) -> f64
     ensures { result ≡ least_of near }
 {
-    near.into_iter().fold(f64::INFINITY, float::min)
+    near.iter().copied().fold(f64::INFINITY, float::min)
 }
 
 fn greatest(apart: [f64; 3]) -> f64
     ensures { result ≡ greatest_of apart }
 {
-    apart.into_iter().fold(0.0, float::max)
+    apart.iter().copied().fold(0.0, float::max)
 }
 
 #[tactic(auto, unfolding(crate::specs::Isolated::is_better_of))]

@@ -7,16 +7,17 @@ use native.Mathlib.Numerals.{add-one, one-add}
 use native.Mathlib.Nat.{min-le_left}
 use native.Mathlib.Omega.{arith}
 use borrow.Rule.Slice.PartMut.{put_mid}
+use lib.Dec.{ltb, eqb, leb}
 use lib.ListN.{length, take, drop, get_or, length-append, length-map, length-take, get_or-map}
 use lib.Seq.{take_at, drop-append-add, drop-cons, get_or-take, length-take-le}
 use lib.Ieee.{Float, nan}
 use Rattle.std.specs.List.{prefix_len}
 use Rattle.std.proofs.lemmas.List.{get_or_default, get_or-drop}
 use Rattle.std.proofs.lemmas.List.Sums.{prefix_len-le-length}
-use Rattle.facts.specs.Lists.{AllOf, all_at, of_four}
+use Rattle.facts.specs.Lists.{AllOf, all_append, all_at, of_four}
 use Rattle.facts.specs.Sort.{inserted_by, inserted_all, sorted_by}
-use Rattle.facts.proofs.Sort.{length_sorted, sorted_same, map_sorted}
-use Rattle.order.specs.Order.{numbers_from, keys_before, order_of, insertion_of, Places}
+use Rattle.facts.proofs.Sort.{length_sorted, all_sorted, sorted_same, map_sorted}
+use Rattle.order.specs.Order.{numbers_from, keys_before, order_of, insertion_of, entry_of, Places}
 
 -- ---- where i goes
 -- a list read at a place of it
@@ -31,7 +32,7 @@ insertion_low before key at i =
     omega (arith, prefix_len-le-length (λ j. keys_before before key j i) (take i at), length-take i at, min-le_left i (length at))
 
 -- x inserted stands behind those before it
-inserted_at : (before : ℕ → ℕ → Bool) (x : ℕ) (l : List ℕ)
+pub inserted_at : (before : ℕ → ℕ → Bool) (x : ℕ) (l : List ℕ)
     → take (prefix_len (λ y. before y x) l) l ++ x ∷ drop (prefix_len (λ y. before y x) l) l ≡ inserted_by before x l
 unfolding inserted_by
 inserted_at before x [] = refl
@@ -69,7 +70,7 @@ turned_of (suc (suc (suc zero))) (suc (suc (suc zero))) h l a b c d e = ap (λ (
 turned_of (suc (suc (suc zero))) (suc (suc (suc (suc p)))) h l a b c d e = absurd (omega (arith, l))
 turned_of (suc (suc (suc (suc i)))) p h l a b c d e = absurd (omega (arith, h))
 
-turned_is : (at : List ℕ) (i p : ℕ) → length at ≡ 4 → i < 4 → p ≤ i → TurnedIn i p at
+pub turned_is : (at : List ℕ) (i p : ℕ) → length at ≡ 4 → i < 4 → p ≤ i → TurnedIn i p at
 turned_is at i p four h l = of_four (TurnedIn i p) (turned_of i p h l) at four
 
 -- what is turned is one of four places still
@@ -163,7 +164,86 @@ module _ (before : Float → Float → Bool) (key : List Float) where
       let four : length at ≡ 4 = rw o (length_order i (omega arith)) in
       ap (put_mid p (i + 1 - p) at) t ∙ turned_is at i p four h low here ∙ inserted_turn at i p h o e
 
--- What the proof of sorted rests on.
+  -- a turn as the definition has it: i inserted among the first i
+  pub order_inserted : (i : ℕ) → i < 4
+      → inserted_by (keys_before before key) i (take i (order_of before key i)) ++ drop (i + 1) (order_of before key i) ≡ order_of before key (i + 1)
+  unfolding order_of
+  order_inserted i h =
+      let left : 4 - i ≡ suc (4 - (i + 1)) = omega arith in
+      rw (take_order i, drop_order i 1, left, sorted_next i h)
+
+  -- each entry is one of four
+  pub order_places : (n : ℕ) → n ≤ 4 → Places (order_of before key n)
+  unfolding order_of
+  order_places n h =
+      λ k. all_at (λ (j : ℕ). j < 4) (order_of before key n) 0 k (λ out. omega arith)
+      (all_append (λ (j : ℕ). j < 4) (sorted_numbers n) (numbers_from n (4 - n))
+      (all_sorted (keys_before before key) (λ (j : ℕ). j < 4) (numbers_from 0 n) (all_numbers 4 0 n (omega arith)))
+      (all_numbers 4 n (4 - n) (omega arith)))
+
+-- ---- i put in, entry by entry
+abbrev pub entries_of : List ℕ → ℕ → ℕ → List ℕ
+entries_of at i p = entry_of at i p 0 ∷ entry_of at i p 1 ∷ entry_of at i p 2 ∷ entry_of at i p 3 ∷ []
+
+-- i put in at its place among the first i is i inserted: by i, and by which of them stand before it
+module _ (before : Float → Float → Bool) (key : List Float) where
+  -- (what is said of an array)
+  abbrev Inserts : ℕ → List ℕ → Type 0
+  Inserts i at = entries_of at i (insertion_of before key at i) ≡ inserted_by (keys_before before key) i (take i at) ++ drop (i + 1) at
+
+  inserted_of : (i : ℕ) → i < 4 → (a b c d : ℕ) → Inserts i (a ∷ b ∷ c ∷ d ∷ [])
+  unfolding insertion_of entry_of inserted_by
+  inserted_of zero h a b c d = refl
+  inserted_of (suc zero) h a b c d = go (keys_before before key a 1)
+    where
+      go : (x : Bool) → entries_of (a ∷ b ∷ c ∷ d ∷ []) 1 (cond x (1 + 0) 0) ≡ cond x (a ∷ 1 ∷ []) (1 ∷ a ∷ []) ++ c ∷ d ∷ []
+      go true = refl
+      go false = refl
+  inserted_of (suc (suc zero)) h a b c d = go (keys_before before key a 2) (keys_before before key b 2)
+    where
+      go : (x y : Bool) → entries_of (a ∷ b ∷ c ∷ d ∷ []) 2 (cond x (1 + cond y (1 + 0) 0) 0)
+          ≡ cond x (a ∷ cond y (b ∷ 2 ∷ []) (2 ∷ b ∷ [])) (2 ∷ a ∷ b ∷ []) ++ d ∷ []
+      go true true = refl
+      go true false = refl
+      go false y = refl
+  inserted_of (suc (suc (suc zero))) h a b c d = go (keys_before before key a 3) (keys_before before key b 3) (keys_before before key c 3)
+    where
+      go : (x y z : Bool) → entries_of (a ∷ b ∷ c ∷ d ∷ []) 3 (cond x (1 + cond y (1 + cond z (1 + 0) 0) 0) 0)
+          ≡ cond x (a ∷ cond y (b ∷ cond z (c ∷ 3 ∷ []) (3 ∷ c ∷ [])) (3 ∷ b ∷ c ∷ [])) (3 ∷ a ∷ b ∷ c ∷ []) ++ []
+      go true true true = refl
+      go true true false = refl
+      go true false z = refl
+      go false y z = refl
+  inserted_of (suc (suc (suc (suc i)))) h a b c d = absurd (omega (arith, h))
+
+  pub inserted_entries : (at : List ℕ) (i : ℕ) → length at ≡ 4 → i < 4
+      → entries_of at i (insertion_of before key at i) ≡ inserted_by (keys_before before key) i (take i at) ++ drop (i + 1) at
+  inserted_entries at i e h = of_four (Inserts i) (inserted_of i h) at e
+
+  pub entries_turn : (at next : List ℕ) (i p : ℕ) → at ≡ order_of before key i → i < 4 → p ≡ insertion_of before key at i
+      → next ≡ entries_of at i p → next ≡ order_of before key (i + 1)
+  entries_turn at next i p o h e n =
+      let four : length at ≡ 4 = rw o (length_order before key i (omega arith)) in
+      let turned : entries_of at i p ≡ inserted_by (keys_before before key) i (take i at) ++ drop (i + 1) at = rw e (inserted_entries at i four h) in
+      n ∙ turned ∙ rw o (order_inserted before key i h)
+
+-- an entry is one of four places still
+pub entry_low : (at : List ℕ) (i p k : ℕ) → Places at → i < 4 → entry_of at i p k < 4
+unfolding entry_of
+entry_low at i p k P h = go (ltb k p) (eqb k p) (leb k i)
+  where
+    go : (a b c : Bool) → cond a (get_or at k 0) (cond b i (cond c (get_or at (k - 1) 0) (get_or at k 0))) < 4
+    go true b c = P k
+    go false true c = h
+    go false false true = P (k - 1)
+    go false false false = P k
+
+pub entries_places : (at next : List ℕ) (i p : ℕ) → Places at → i < 4 → next ≡ entries_of at i p → Places next
+entries_places at next i p P h n =
+    λ k. all_at (λ (j : ℕ). j < 4) next 0 k (λ out. omega arith)
+    (subst (AllOf (λ (j : ℕ). j < 4)) (sym n) (entry_low at i p 0 P h, (entry_low at i p 1 P h, (entry_low at i p 2 P h, (entry_low at i p 3 P h, tt)))))
+
+-- What the proof of a sort by turns rests on.
 pub ruleset orders = (order_none, order_turn, turned_places)
 
 -- ---- reading through the order

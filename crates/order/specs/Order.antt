@@ -1,5 +1,5 @@
 -- The order of at most four keys, as numbers of places: the sorts of factorize and finish in poly.rs; ties stay in their earlier order. Definitions only.
-use Rattle.std.specs.Prelude.{◌≡◌, Bool, List, ◌++◌, ℕ, ◌-◌, ◌<◌, take, get_or, Float}
+use Rattle.std.specs.Prelude.{◌≡◌, Bool, cond, List, ◌++◌, ℕ, ◌-◌, ◌<◌, ltb, eqb, leb, take, get_or, Float}
 use Rattle.std.specs.List.{prefix_len}
 use Rattle.std.specs.Float.{nan}
 use Rattle.facts.specs.Arrays.{fill_from}
@@ -31,6 +31,10 @@ Tells post f = (a b : Float) (r : _) → post a b r → r ≡ f a b
 -- where i goes among the first i numbers: behind those that stand before it, up to the first that does not
 unfoldable pub insertion_of : (Float → Float → Bool) → List Float → List ℕ → ℕ → ℕ
 insertion_of before key at i = prefix_len (λ j. keys_before before key j i) (take i at)
+
+-- entry k, once i is put in at p and those from there on have gone one further
+unfoldable pub entry_of : List ℕ → ℕ → ℕ → ℕ → ℕ
+entry_of at i p k = cond (ltb k p) (get_or at k 0) (cond (eqb k p) i (cond (leb k i) (get_or at (k - 1) 0) (get_or at k 0)))
 
 -- each is the number of one of four places
 abbrev pub Places : List ℕ → Type 0

@@ -3,7 +3,7 @@
 #![tactic(auto)]
 
 ghost use Rattle.std.specs.Prelude.{◌≡◌, ◌≤◌, ◌<◌, Float, Bool};
-ghost use Rattle.order.specs.Order.{falling_of, order_of, insertion_of, Tells, Places};
+ghost use Rattle.order.specs.Order.{falling_of, order_of, insertion_of, entry_of, Tells, Places};
 
 // How many of the first i numbers stand before i, up to the first that does not.
 fn place<F: Fn(f64, f64) -> bool>(key: [f64; 4], at: [usize; 4], i: usize, before: &F) -> usize
@@ -19,10 +19,27 @@ fn place<F: Fn(f64, f64) -> bool>(key: [f64; 4], at: [usize; 4], i: usize, befor
         .count()
 }
 
+// Entry k, once i is put in at p and those from there on have gone one further.
+#[tactic(auto, unfolding(crate::specs::Order::entry_of))]
+fn entry(at: &[usize; 4], i: usize, p: usize, k: usize) -> usize
+    requires { k < 4 }
+    ensures { result ≡ entry_of at.now i p k }
+{
+    if k < p {
+        at[k]
+    } else if k == p {
+        i
+    } else if k <= i {
+        at[k - 1]
+    } else {
+        at[k]
+    }
+}
+
 // The numbers 0..n in the order that the test gives their keys: whether a stands before b, or level with it. (By hand: std's stable sort takes a heap, and for
 // its unstable one an order of (key, place), NaN first, and its laws would be longer.)
 // (key with n beside it, here and below: the places are below 4, whatever n is, so each is one of an array of four, and not of a slice of n.)
-#[tactic(auto, using(crate::proofs::Laws::orders))]
+#[tactic(auto, using(crate::proofs::Laws::order_none))]
 pub fn sorted<F: Fn(f64, f64) -> bool>(key: [f64; 4], n: usize, before: F) -> [usize; 4]
     requires n_high { n ≤ 4 }
     requires callable { F.IsAlwaysCallable before }
@@ -32,7 +49,9 @@ pub fn sorted<F: Fn(f64, f64) -> bool>(key: [f64; 4], n: usize, before: F) -> [u
     let mut at = [0, 1, 2, 3];
     for i in 0..n {
         let p = place(key, at, i, &before);
-        at[p..=i].rotate_right(1);
+        // (By entry, and not by `rotate_right`, which calls `memmove`: a controller's archive would need that name.)
+        let next = std::array::from_fn(|k| entry(&at, i, p, k));
+        at = next;
     }
     at
 }

@@ -6,10 +6,12 @@ use mathlib.Core.List.{List, [], ◌∷◌}
 use Prim.Native.Nat.{ℕ, zero, suc, ◌+◌, ◌-◌, ◌≤◌, ◌<◌}
 use native.Mathlib.Nat.{eq-or-lt_of_le}
 use native.Mathlib.Omega.{arith}
+use native.Mathlib.Numerals.{add-one}
 use borrow.Author.Tests.{leb-true, leb-false, not-true, not-false}
 use lib.Dec.{leb}
-use lib.ListN.{length, get_or}
+use lib.ListN.{length, get_or, drop, drop_of_length-le}
 use lib.Ieee.{Float, nan, eq, ne}
+use lib.Seq.{drop-cons}
 use Rattle.std.specs.List.{prefix_len}
 use Rattle.std.proofs.Common.{one-add}
 use Rattle.facts.specs.Cond.{either_way}
@@ -35,6 +37,26 @@ trimmed_at s i (suc m) h last zeros =
     below : i < m → trimmed_from s m ≡ i + 1 → trimmed_from s (suc m) ≡ i + 1
     below l rest = rw (zeros m (omega arith) (omega arith)) rest
 
+trim_turn : (s : List Float) (n : ℕ) → 0 < n
+    → trimmed_from s n ≡ cond (eq (get_or s (n - 1) nan) zero64) (trimmed_from s (n - 1)) n
+unfolding trimmed_from
+trim_turn s n h =
+    let e : n ≡ suc (n - 1) = omega arith in
+    ap (λ (k : ℕ). trimmed_from s k) e
+    ∙ ap (λ (k : ℕ). cond (eq (get_or s (n - 1) nan) zero64) (trimmed_from s (n - 1)) k) (sym e)
+
+pub trim_stop : (s : List Float) (n : ℕ) → 0 < n → eq (get_or s (n - 1) nan) zero64 ≡ false
+    → trimmed_from s n ≡ n
+trim_stop s n h t = trim_turn s n h ∙ simp t
+
+pub trim_go : (s : List Float) (n : ℕ) → 0 < n → eq (get_or s (n - 1) nan) zero64 ≡ true
+    → trimmed_from s n ≡ trimmed_from s (n - 1)
+trim_go s n h t = trim_turn s n h ∙ simp t
+
+pub trim_end : (s : List Float) (n : ℕ) → n ≤ 0 → trimmed_from s n ≡ 0
+unfolding trimmed_from
+trim_end s n h = let e : n ≡ 0 = omega arith in ap (λ (k : ℕ). trimmed_from s k) e
+
 -- up to the last one that is no zero
 pub trimmed_last : (s : List Float) (i : ℕ) → i < length s → ne (get_or s i nan) zero64 ≡ true
     → ((k : ℕ) → i + 1 ≤ k → k < length s → ne (get_or s k nan) zero64 ≡ false) → i + 1 ≡ trimmed_of s
@@ -58,6 +80,26 @@ pub zeros_prefix : (s : List Float) → prefix_len is_zero s ≡ zeros_of s
 unfolding zeros_of
 zeros_prefix [] = refl
 zeros_prefix (c ∷ s) = ap (λ (n : ℕ). cond (eq c zero64) n 0) (one-add (prefix_len is_zero s) ∙ ap (λ (n : ℕ). suc n) (zeros_prefix s))
+
+zeros_turn : (s : List Float) (i : ℕ) → i < length s
+    → zeros_of (drop i s) ≡ cond (eq (get_or s i nan) zero64) (suc (zeros_of (drop (i + 1) s))) 0
+unfolding zeros_of
+zeros_turn s i h = rw (add-one, drop-cons s i nan)
+
+pub zeros_go : (s : List Float) (i : ℕ) → i < length s → eq (get_or s i nan) zero64 ≡ true
+    → i + zeros_of (drop i s) ≡ i + 1 + zeros_of (drop (i + 1) s)
+zeros_go s i h t =
+    let e : zeros_of (drop i s) ≡ suc (zeros_of (drop (i + 1) s)) = zeros_turn s i h ∙ simp t in
+    omega arith
+
+pub zeros_stop : (s : List Float) (i : ℕ) → i < length s → eq (get_or s i nan) zero64 ≡ false
+    → i + zeros_of (drop i s) ≡ i
+zeros_stop s i h t = let e : zeros_of (drop i s) ≡ 0 = zeros_turn s i h ∙ simp t in omega arith
+
+pub zeros_end : (s : List Float) (i : ℕ) → length s ≤ i → i + zeros_of (drop i s) ≡ i
+unfolding zeros_of
+zeros_end s i h =
+    let e : zeros_of (drop i s) ≡ 0 = ap zeros_of (drop_of_length-le s {i = i} h) in omega arith
 
 -- ---- the last one left is no zero, so fewer zeros than are left come first
 pub last_left : (s : List Float) (m : ℕ) → 0 < trimmed_from s m → eq (get_or s (trimmed_from s m - 1) nan) zero64 ≡ false

@@ -9,7 +9,7 @@ ghost use Rattle.factorize.specs.Factorize.{factorize_of, factorize_systems_of};
 ghost use Rattle.factorize.specs.Discs.{rooted_of};
 ghost use Rattle.roots.specs.Roots.{roots_of, list_of};
 ghost use Rattle.push.specs.Quadratic.{found_of};
-ghost use Rattle.roots.specs.Listed.{Within};
+ghost use Rattle.roots.specs.Listed.{Within, Fits};
 ghost use Rattle.poly.specs.Coefficients.{trimmed_of, degree_left, zeros_of, counted_of, middle_of};
 ghost use Rattle.poly.specs.Solve.{zero_roots_of, candidates_of, finished_of, solve_of};
 ghost use Rattle.poly.specs.Found.{with_lin_in, with_quad_in};
@@ -98,9 +98,9 @@ fn zero_roots(zeros: usize) -> roots::Roots
 
 // The candidates with the roots of the linear factors.
 #[tactic(auto, using(crate::proofs::Turns::turns))]
-fn with_lins(f: factors::Factors, start: roots::Roots) -> roots::Roots
-    requires { f.nlin ≤ 4 }
-    ensures { result ≡ count_up f.nlin (with_lin_in f) f.nlin start }
+fn with_lins(f: &factors::Factors, start: roots::Roots) -> roots::Roots
+    requires { f.now.nlin ≤ 4 }
+    ensures { result ≡ count_up f.now.nlin (with_lin_in f.now) f.now.nlin start }
 {
     let mut s = start;
     for r in &f.lin[..f.nlin] {
@@ -112,9 +112,9 @@ fn with_lins(f: factors::Factors, start: roots::Roots) -> roots::Roots
 impl Stripped {
     // The candidates with the roots of the quadratic factors, and the pairs.
     #[tactic(auto, using(crate::proofs::Turns::turns, push::proofs::Laws::same_push, factorize::proofs::Discs::disc_is))]
-    fn with_quads(self, r: factorize::Rooted, start: push::Found) -> push::Found
-        requires { (r.f.nquad ≤ 2) × (r ≡ rooted_of r.f) }
-        ensures { result ≡ count_up r.f.nquad (with_quad_in self.poly r.f self.tol) r.f.nquad start }
+    fn with_quads(&self, r: &factorize::Rooted, start: push::Found) -> push::Found
+        requires { (r.now.f.nquad ≤ 2) × (r.now ≡ rooted_of r.now.f) }
+        ensures { result ≡ count_up r.now.f.nquad (with_quad_in self.now.poly r.now.f self.now.tol) r.now.f.nquad start }
     {
         let mut s = start;
         // By index: that what a zip of the two arrays has left is their rest does not prove from one turn to the next.
@@ -126,13 +126,13 @@ impl Stripped {
     }
 
     // The candidates and the complex pairs.
-    fn candidates(self, sine: Sine) -> Tallied<push::Found>
-        ensures value { result.value ≡ found_of (candidates_of self.poly self.zeros (factorize_of sine self.poly 0) self.tol) }
-        ensures systems { result.systems ≡ factorize_systems_of sine self.poly 0 }
+    fn candidates(&self, sine: Sine) -> Tallied<push::Found>
+        ensures value { result.value ≡ found_of (candidates_of self.now.poly self.now.zeros (factorize_of sine self.now.poly 0) self.now.tol) }
+        ensures systems { result.systems ≡ factorize_systems_of sine self.now.poly 0 }
     {
         let factors = factorize::factorize_rooted(sine, self.poly, 0);
-        let r = factors.value;
-        let roots = with_lins(r.f, zero_roots(self.zeros));
+        let r = &factors.value;
+        let roots = with_lins(&r.f, zero_roots(self.zeros));
         let pairs = roots::Pairs::default();
         let value = self.with_quads(r, push::Found { roots, pairs });
         factors.with(value)
@@ -140,8 +140,8 @@ impl Stripped {
 
     // Factored and finished.
     #[tactic(auto, using(crate::proofs::Steps::finished_is))]
-    fn finished(self, sine: Sine) -> Solved
-        ensures { result ≡ finished_of sine self.poly self.zeros self.tol }
+    fn finished(&self, sine: Sine) -> Solved
+        ensures { result ≡ finished_of sine self.now.poly self.now.zeros self.now.tol }
     {
         let poly = self.poly;
         let tol = self.tol;
@@ -208,9 +208,9 @@ pub fn solve_brief(sine: Sine, coeffs: &[f64], tol: f64) -> Result<Solved, Refus
 
 // The roots in x = y * 2^e that are finite.
 #[tactic(auto, using(crate::proofs::Arrays::unscaled_end), unfolding(crate::specs::RealRoots::unscaled_all))]
-fn unscaled_all(s: roots::Roots, e: i32) -> roots::Roots
-    requires { s.len ≤ 4 }
-    ensures { result ≡ roots_of (unscaled_all e (list_of s)) }
+fn unscaled_all(s: &roots::Roots, e: i32) -> roots::Roots
+    requires { Fits s.now }
+    ensures { result ≡ roots_of (unscaled_all e (list_of s.now)) }
 {
     let mut out = roots::Roots::default();
     for r in &s.root[..s.len] {
@@ -226,8 +226,14 @@ pub fn real_roots(sine: Sine, coeffs: &[f64], tol: f64) -> Result<Tallied<roots:
         × Within (degree_left coeffs.now) (list_of (roots_in (answer_in result))) }
     ensures systems { systems_in result ≡ real_roots_systems_of sine coeffs.now tol }
 {
-    let s = solve_brief(sine, coeffs, tol)?;
-    let value = unscaled_all(s.roots, s.poly.e);
-    let systems = s.systems;
-    Ok(Tallied { value, systems })
+    // (By reference, and not by `?`, which copies what was solved.)
+    let solved = solve_brief(sine, coeffs, tol);
+    match &solved {
+        Ok(s) => {
+            let value = unscaled_all(&s.roots, s.poly.e);
+            let systems = s.systems;
+            Ok(Tallied { value, systems })
+        }
+        Err(refusal) => Err(*refusal),
+    }
 }
