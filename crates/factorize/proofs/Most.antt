@@ -121,5 +121,5 @@ pub systems_few : (sine : Sine) (sc : Scaled) (depth : ℕ) → sc.d ≤ 4 → f
 unfolding systems_most
 systems_few sine sc depth D = le_trans (factorize_most sine sc depth D) (at_most (leb sc.d 2) (eqb sc.d 3) (omega arith) (le_refl 32))
 
--- What the proof of `factorize_rooted` rests on: the sum fits.
+-- What the proof of `parted` rests on: the sum fits.
 pub ruleset bounds = (out_few, systems_few)

@@ -102,36 +102,48 @@ fn plain(f: factors::Factors) -> Tallied<Rooted>
     }
 }
 
-// The factors at this scale. (In line: so what it makes is not copied out.)
-#[inline(always)]
+// The factors of degree 2 and below at this scale: no system is solved for them.
 #[tactic(auto, unfolding(crate::specs::Factorize::out_of, crate::specs::Factorize::out_systems_of))]
-fn out_of(sine: Sine, g: [f64; 5], d: usize) -> Tallied<Rooted>
-    ensures value { result.value ≡ rooted_of (out_of sine g d) }
-    ensures systems { result.systems ≡ out_systems_of sine g d }
+fn few_of(g: &[f64; 5], d: usize) -> Tallied<Rooted>
+    requires { d ≤ 2 }
+    ensures value { (sine : Sine) → result.value ≡ rooted_of (out_of sine g.now d) }
+    ensures systems { (sine : Sine) → result.systems ≡ out_systems_of sine g.now d }
 {
     match d {
         0 => plain(factors::Factors::default()),
         1 => plain(factors::Factors::default().push_lin(-g[0])),
-        2 => plain(factors::Factors::default().push_quad(g[1], g[0])),
-        3 => {
-            let out = cubic_factors(sine, g[2], g[1], g[0]);
-            out.with(with_discs(out.value))
-        }
-        _ => quartic_factors(sine, g[3], g[2], g[1], g[0]),
+        _ => plain(factors::Factors::default().push_quad(g[1], g[0])),
     }
 }
 
-// A quadratic needs no second scaling: its roots are accurate each.
-#[tactic(auto, using(crate::proofs::Ways::ways, crate::proofs::Ways::counts, crate::proofs::Sizes::sizes, crate::proofs::Most::bounds))]
-pub fn factorize_rooted(sine: Sine, sc: scaled::Scaled, depth: u32) -> Tallied<Rooted>
-    requires { sc.d ≤ 4 }
-    ensures value { result.value ≡ rooted_of (factorize_of sine sc depth) }
-    ensures systems { result.systems ≡ factorize_systems_of sine sc depth }
+// The factors of degree 3 and 4. (In line: so what it makes is not copied out.)
+#[inline(always)]
+#[tactic(auto, unfolding(crate::specs::Factorize::out_of, crate::specs::Factorize::out_systems_of))]
+fn out_of(sine: Sine, g: &[f64; 5], d: usize) -> Tallied<Rooted>
+    requires { (3 ≤ d) × (d ≤ 4) }
+    ensures value { result.value ≡ rooted_of (out_of sine g.now d) }
+    ensures systems { result.systems ≡ out_systems_of sine g.now d }
 {
-    let g = sc.g;
+    if d == 3 {
+        let out = cubic_factors(sine, g[2], g[1], g[0]);
+        return out.with(with_discs(out.value));
+    }
+    quartic_factors(sine, g[3], g[2], g[1], g[0])
+}
+
+// The same, and where a gap parts the roots, those of the small ones from a second scaling.
+// (Out of line: smaller degrees do without its frame.)
+#[inline(never)]
+#[tactic(auto, using(crate::proofs::Ways::ways, crate::proofs::Ways::counts, crate::proofs::Sizes::sizes, crate::proofs::Most::bounds))]
+#[cycle(scalings)]
+fn parted(sine: Sine, sc: &scaled::Scaled, depth: u32) -> Tallied<Rooted>
+    requires { (3 ≤ sc.now.d) × (sc.now.d ≤ 4) }
+    ensures value { result.value ≡ rooted_of (factorize_of sine sc.now depth) }
+    ensures systems { result.systems ≡ factorize_systems_of sine sc.now depth }
+{
     let d = sc.d;
-    let out = out_of(sine, g, d);
-    if depth >= 3 || d <= 2 {
+    let out = out_of(sine, &sc.g, d);
+    if depth >= 3 {
         return out;
     }
     let Some(gap) = split::magnitude_split(sc.lg, d) else {
@@ -142,7 +154,7 @@ pub fn factorize_rooted(sine: Sine, sc: scaled::Scaled, depth: u32) -> Tallied<R
     if large.degree() != d - small {
         return out;
     }
-    let s = quotient::quotient(g, quotient::product(large), small);
+    let s = quotient::quotient(sc.g, quotient::product(large), small);
     if !quotient::usable(s, small) {
         return out;
     }
@@ -155,6 +167,41 @@ pub fn factorize_rooted(sine: Sine, sc: scaled::Scaled, depth: u32) -> Tallied<R
         value: with_discs(merged),
         systems: out.systems + inner.systems,
     }
+}
+
+// Of a polynomial that is lent. A quadratic needs no second scaling: its roots are accurate each.
+#[tactic(auto, using(crate::proofs::Ways::ways, crate::proofs::Ways::counts))]
+#[cycle(scalings)]
+pub fn factorize_lent(sine: Sine, sc: &scaled::Scaled, depth: u32) -> Tallied<Rooted>
+    requires { sc.now.d ≤ 4 }
+    ensures value { result.value ≡ rooted_of (factorize_of sine sc.now depth) }
+    ensures systems { result.systems ≡ factorize_systems_of sine sc.now depth }
+{
+    if sc.d <= 2 {
+        return few_of(&sc.g, sc.d);
+    }
+    parted(sine, sc, depth)
+}
+
+// The same of a polynomial by value. (Lent part by part: a copy of the whole would need memcpy.)
+#[cycle(scalings)]
+pub fn factorize_rooted(sine: Sine, sc: scaled::Scaled, depth: u32) -> Tallied<Rooted>
+    requires { sc.d ≤ 4 }
+    ensures value { result.value ≡ rooted_of (factorize_of sine sc depth) }
+    ensures systems { result.systems ≡ factorize_systems_of sine sc depth }
+{
+    let f = sc.f;
+    let g = sc.g;
+    let lg = sc.lg;
+    let own = scaled::Scaled {
+        f,
+        g,
+        lg,
+        d: sc.d,
+        e: sc.e,
+        unit: sc.unit,
+    };
+    factorize_lent(sine, &own, depth)
 }
 
 #[tactic(auto, using(crate::proofs::Discs::the_factors))]

@@ -21,7 +21,7 @@ use Rattle.roots.specs.declared.RealRoot.{RealRoot}
 use Rattle.finish.specs.Finish.{multiplicity_at, by_value, ordered_at, ordered_of, polished_at, polished_of}
 
 -- ---- their multiplicities are the candidates'
-sum_placed : (n : ℕ) (poly : Scaled) (l : List RealRoot) (i k : ℕ) → i + k ≡ length l
+pub sum_placed : (n : ℕ) (poly : Scaled) (l : List RealRoot) (i k : ℕ) → i + k ≡ length l
     → multiplicities (map (polished_at n poly) (fill_from i k (ordered_at l))) ≡ multiplicities (drop i l)
 unfolding polished_at ordered_at
 sum_placed n poly l i zero e = sym (ap multiplicities (drop_of_length-le l {i = i} (omega arith)))
@@ -49,5 +49,5 @@ pub placed_bound : (poly : Scaled) (c : Roots) (p : List RealRoot) (most : ℕ)
     → multiplicities (list_of c) < most → multiplicities p < most
 placed_bound poly c p most e h = rw (e, sum_polished 4 poly (list_of c)) h
 
--- What the function's proof rests on.
+-- The two steps, for `using`.
 pub ruleset placed = (length_mapped, placed_list, placed_sum)

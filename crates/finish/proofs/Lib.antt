@@ -5,3 +5,4 @@ pub mod Places
 pub mod Sorted
 pub mod Counts
 pub mod Simple
+pub mod Each

@@ -26,7 +26,7 @@ use Rattle.finish.specs.Finish.{value_at, by_value, below_of, above_of, ordered_
 use Rattle.finish.specs.Places.{place_of, place_polished}
 
 -- ---- arrays by a rule
-map_filled : {A B : Type 0} (h : A → B) (f : ℕ → A) (i k : ℕ) → map h (fill_from i k f) ≡ fill_from i k (λ j. h (f j))
+pub map_filled : {A B : Type 0} (h : A → B) (f : ℕ → A) (i k : ℕ) → map h (fill_from i k f) ≡ fill_from i k (λ j. h (f j))
 map_filled h f i zero = refl
 map_filled {A} {B} h f i (suc k) = ap (λ (m : List B). h (f i) ∷ m) (map_filled h f (i + 1) k)
 
@@ -97,7 +97,7 @@ module _ (l : List RealRoot) (n : ℕ) where
 
 -- ---- polished: place k, and all of them
 module _ (poly : Scaled) (o : Roots) where
-  abbrev polished_in : ℕ → RealRoot
+  abbrev pub polished_in : ℕ → RealRoot
   polished_in k = polished_at 4 poly (ordered_at (list_of o) k)
 
   pub polished_is : (k : ℕ) {p : RealRoot} {gap : Float} → k < o.len → gap ≡ min_of (below_of (list_of o) k) (above_of (list_of o) k)

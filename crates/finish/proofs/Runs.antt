@@ -87,7 +87,7 @@ module _ (poly : Scaled) (tol : Float) (whole : Roots) (l : List RealRoot) (k : 
   unfolding runs_of
   joins_last h w = sym (ap (runs_of poly tol run) (drop_of_length-le l {i = k} h)) ∙ w.gives
 
--- What the functions' proofs rest on.
+-- What the functions' proofs rest on; and the laws of a loop over a list of places.
 pub ruleset next = (next_joined, next_ended)
 
 pub ruleset runs = (length_mapped, joined_none, joins_first, joins_both, next_gives, next_adds, joins_last)

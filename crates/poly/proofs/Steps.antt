@@ -136,3 +136,22 @@ module _ (sine : Sine) (coeffs : List Float) (tol : Float) {r : Result Solved Re
       go : (q : Result Solved Refusal) → r ≡ and_then q (λ x. Ok (relogged by.0 x)) → (solved_in q).roots.len ≤ 4 → s.roots.len ≤ 4
       go (Ok x) i f = subst (λ (y : Result Solved Refusal). (solved_in y).roots.len ≤ 4) (sym i ∙ e) f
       go (Err refusal) i f = subst (λ (y : Result Solved Refusal). (solved_in y).roots.len ≤ 4) (sym i ∙ e) f
+
+-- ---- solved from its parts, with enough logarithms; and refused
+module _ (sine : Sine) (coeffs : List Float) (tol : Float) where
+  pub parts_solved : (p : Polynomial) (n zeros l : ℕ) (poly : Scaled) (t : Float) (c : Found) (roots : Roots) (systems : ℕ)
+      → counted_of coeffs ≡ Ok n → zeros ≡ zeros_of coeffs → p.f ≡ middle_of coeffs zeros n → p.d ≡ n - zeros - 1 → Enough p.f p.d l
+      → poly ≡ with_logs_of p.f p.d l → t ≡ max_of tol zero64 → c ≡ found_of (candidates_of poly zeros (factorize_of sine poly 0) t)
+      → roots ≡ roots_of (finish_of poly (list_of c.roots) t) → systems ≡ factorize_systems_of sine poly 0
+      → ButLogs (Ok (record { poly = poly; tol = t; roots = roots; pairs = c.pairs; systems = systems })) (solve_of sine coeffs tol)
+  parts_solved p n zeros l poly t c roots systems e z m D given P T C R S =
+      solved_brief sine coeffs tol
+      (answered_by sine (λ q k. Enough q.f q.d k) coeffs tol p n zeros l poly t e z m D given P T (finished_is sine poly zeros t c roots systems C R S))
+      (λ q k enough. enough)
+
+  pub none_solved : (refusal : Refusal) → counted_of coeffs ≡ Err refusal → ButLogs (Err refusal) (solve_of sine coeffs tol)
+  none_solved refusal e = solved_brief sine coeffs tol (refused_by sine (λ q k. Enough q.f q.d k) coeffs tol refusal e refl) (λ q k enough. enough)
+
+  pub refused_lists : (refusal : Refusal) {a : Result (Tallied Roots) Refusal} → counted_of coeffs ≡ Err refusal → a ≡ Err refusal
+      → (answer_in a ≡ real_roots_of sine coeffs tol) × Within (degree_left coeffs) (list_of (roots_in (answer_in a)))
+  refused_lists refusal e is = lists_none sine coeffs tol (none_solved refusal e) refusal refl is

@@ -15,6 +15,7 @@ use Rattle.float.specs.Methods.{max_of}
 use Rattle.angle.specs.declared.Sine.{Sine}
 use Rattle.factorize.specs.Factorize.{factorize_systems_of, systems_most}
 use Rattle.factorize.proofs.Most.{factorize_most}
+use Rattle.roots.specs.declared.Roots.{Roots}
 use Rattle.poly.specs.declared.Solved.{Solved}
 use Rattle.poly.specs.Coefficients.{zeros_of, counted_of, refusal_of, poly_of}
 use Rattle.poly.specs.Solve.{finished_of, solve_of, solved_in}
@@ -23,6 +24,7 @@ use Rattle.poly.specs.Short.{short_of}
 use Rattle.poly.specs.Brief.{relogged, ButLogs}
 use Rattle.poly.proofs.Coefficients.{counted_when, room}
 use Rattle.poly.proofs.Short.{short_solves}
+use Rattle.poly.proofs.Steps.{none_solved}
 use Rattle.poly.proofs.Sums.{poly_degree}
 
 module _ (sine : Sine) (coeffs : List Float) where
@@ -97,3 +99,7 @@ module _ (sine : Sine) (coeffs : List Float) (tol : Float) where
 
     pub systems_solved : (s : Solved) → r ≡ Ok s → s.systems ≡ real_roots_systems_of sine coeffs tol
     systems_solved s e = rw e at same_systems
+
+  pub refused_systems : (refusal : Refusal) {a : Result (Tallied Roots) Refusal} → counted_of coeffs ≡ Err refusal → a ≡ Err refusal
+      → systems_in a ≡ real_roots_systems_of sine coeffs tol
+  refused_systems refusal e is = systems_refused (none_solved sine coeffs tol refusal e) refusal refl is

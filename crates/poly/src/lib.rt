@@ -2,7 +2,7 @@
 // It rests on scaling, factoring, the band and finishing; the inquiry and the programs rest on it.
 #![tactic(auto)]
 
-ghost use Rattle.std.specs.Prelude.{◌≡◌, ℕ, ◌+◌, ◌≤◌, ◌<◌, length, IfOk};
+ghost use Rattle.std.specs.Prelude.{◌≡◌, ℕ, ◌+◌, ◌-◌, ◌≤◌, ◌<◌, length, IfOk};
 ghost use Rattle.facts.specs.Count.{count_up};
 ghost use Rattle.tally.specs.Tally.{answer_in, systems_in};
 ghost use Rattle.factorize.specs.Factorize.{factorize_of, factorize_systems_of};
@@ -32,12 +32,13 @@ pub struct Solved {
 }
 
 // A scaled polynomial without the zeros that came first, how many those are, and the tolerance.
+// (Lent: what was just made is not copied.)
 #[derive(Clone, Copy)]
-struct Stripped {
-    poly: scaled::Scaled,
+struct Stripped<'a> {
+    poly: &'a scaled::Scaled,
     zeros: usize,
     tol: f64,
-    ghost room: { poly.d + zeros ≤ 4 },
+    ghost room: { poly.now.d + zeros ≤ 4 },
 }
 
 // How many are left once trailing zeros are dropped.
@@ -83,6 +84,18 @@ fn middle(coeffs: &[f64], from: usize, to: usize) -> [f64; 5]
     std::array::from_fn(|i| if i < to - from { coeffs[from + i] } else { 0.0 })
 }
 
+// The polynomial that the coefficients in from..to are.
+fn polynomial(coeffs: &[f64], from: usize, to: usize) -> Polynomial
+    requires { (from < to) × (to ≤ 5) × (to ≤ length coeffs.now) }
+    ensures { (result.f ≡ middle_of coeffs.now from to) × (result.d ≡ to - from - 1) }
+{
+    let d = to - from - 1;
+    Polynomial {
+        f: middle(coeffs, from, to),
+        d,
+    }
+}
+
 // The leading zeros are one root.
 #[tactic(auto, using(crate::proofs::Arrays::zeros_some, crate::proofs::Arrays::zeros_none))]
 fn zero_roots(zeros: usize) -> roots::Roots
@@ -109,44 +122,48 @@ fn with_lins(f: &factors::Factors, start: roots::Roots) -> roots::Roots
     s
 }
 
-impl Stripped {
+impl Stripped<'_> {
     // The candidates with the roots of the quadratic factors, and the pairs.
     #[tactic(auto, using(crate::proofs::Turns::turns, push::proofs::Laws::same_push, factorize::proofs::Discs::disc_is))]
     fn with_quads(&self, r: &factorize::Rooted, start: push::Found) -> push::Found
         requires { (r.now.f.nquad ≤ 2) × (r.now ≡ rooted_of r.now.f) }
-        ensures { result ≡ count_up r.now.f.nquad (with_quad_in self.now.poly r.now.f self.now.tol) r.now.f.nquad start }
+        ensures { result ≡ count_up r.now.f.nquad (with_quad_in self.now.poly.now r.now.f self.now.tol) r.now.f.nquad start }
     {
         let mut s = start;
         // By index: that what a zip of the two arrays has left is their rest does not prove from one turn to the next.
         for i in 0..r.f.nquad {
             let q = r.f.quad[i];
-            s = push::push_rooted(self.poly, q.al, q.be, r.disc[i], self.tol, s);
+            s = push::push_rooted(*self.poly, q.al, q.be, r.disc[i], self.tol, s);
         }
         s
     }
 
     // The candidates and the complex pairs.
     fn candidates(&self, sine: Sine) -> Tallied<push::Found>
-        ensures value { result.value ≡ found_of (candidates_of self.now.poly self.now.zeros (factorize_of sine self.now.poly 0) self.now.tol) }
-        ensures systems { result.systems ≡ factorize_systems_of sine self.now.poly 0 }
+        ensures value { result.value ≡ found_of (candidates_of self.now.poly.now self.now.zeros (factorize_of sine self.now.poly.now 0) self.now.tol) }
+        ensures systems { result.systems ≡ factorize_systems_of sine self.now.poly.now 0 }
     {
-        let factors = factorize::factorize_rooted(sine, self.poly, 0);
+        let factors = &factorize::factorize_lent(sine, self.poly, 0);
         let r = &factors.value;
         let roots = with_lins(&r.f, zero_roots(self.zeros));
         let pairs = roots::Pairs::default();
         let value = self.with_quads(r, push::Found { roots, pairs });
-        factors.with(value)
+        // (Not by `with`, which takes the factors by value.)
+        Tallied {
+            value,
+            systems: factors.systems,
+        }
     }
 
     // Factored and finished.
     #[tactic(auto, using(crate::proofs::Steps::finished_is))]
     fn finished(&self, sine: Sine) -> Solved
-        ensures { result ≡ finished_of sine self.now.poly self.now.zeros self.now.tol }
+        ensures { result ≡ finished_of sine self.now.poly.now self.now.zeros self.now.tol }
     {
-        let poly = self.poly;
+        let found = &self.candidates(sine);
+        let poly = *self.poly;
         let tol = self.tol;
-        let found = self.candidates(sine);
-        let roots = finish::finish(poly, found.value.roots, tol);
+        let roots = finish::finish_lent(self.poly, &found.value.roots, tol);
         let pairs = found.value.pairs;
         let systems = found.systems;
         Solved {
@@ -183,10 +200,8 @@ fn solve_by<F: Fn(Polynomial) -> usize>(
 {
     let n = counted(coeffs)?;
     let zeros = leading_zeros(coeffs);
-    let a = middle(coeffs, zeros, n);
-    let d = n - zeros - 1;
-    let p = Polynomial { f: a, d };
-    let poly = scaled::Scaled::with_logs(p, logs(p));
+    let p = polynomial(coeffs, zeros, n);
+    let poly = &scaled::Scaled::with_logs(p, logs(p));
     let tol = float::max(tol, 0.0);
     Ok(Stripped { poly, zeros, tol }.finished(sine))
 }
@@ -221,19 +236,21 @@ fn unscaled_all(s: &roots::Roots, e: i32) -> roots::Roots
 
 // Demand 1 holds of the answer: at most four finite roots, each counting at least once, together at most the degree left.
 // `sine` is the mode: the third angle's sine is that of the rounded cosine, as in the reference build, or of the exact one.
+#[tactic(auto, using(crate::proofs::Steps::new_degree, crate::proofs::Steps::refused_lists, crate::proofs::Systems::refused_systems))]
 pub fn real_roots(sine: Sine, coeffs: &[f64], tol: f64) -> Result<Tallied<roots::Roots>, Refusal>
     ensures value { (answer_in result ≡ real_roots_of sine coeffs.now tol)
         × Within (degree_left coeffs.now) (list_of (roots_in (answer_in result))) }
     ensures systems { systems_in result ≡ real_roots_systems_of sine coeffs.now tol }
 {
-    // (By reference, and not by `?`, which copies what was solved.)
-    let solved = solve_brief(sine, coeffs, tol);
-    match &solved {
-        Ok(s) => {
-            let value = unscaled_all(&s.roots, s.poly.e);
-            let systems = s.systems;
-            Ok(Tallied { value, systems })
-        }
-        Err(refusal) => Err(*refusal),
-    }
+    // (Not by solve_brief, which copies all that is solved: here the roots alone are read.)
+    let n = counted(coeffs)?;
+    let zeros = leading_zeros(coeffs);
+    let p = polynomial(coeffs, zeros, n);
+    let poly = &scaled::Scaled::with_logs(p, needed(p));
+    let tol = float::max(tol, 0.0);
+    let s = &Stripped { poly, zeros, tol }.candidates(sine);
+    let roots = &finish::finish_lent(poly, &s.value.roots, tol);
+    let value = unscaled_all(roots, poly.e);
+    let systems = s.systems;
+    Ok(Tallied { value, systems })
 }

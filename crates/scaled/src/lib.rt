@@ -49,8 +49,8 @@ fn reach(lead: Digits, n: Digits, j: u64) -> u64
 
 // e: the largest that one of the coefficients below the leading one needs. One without digits, as a zero, needs nothing; where none needs any, e is 0.
 #[tactic(auto, using(crate::proofs::Best::best))]
-pub fn scale_exponent(p: Polynomial) -> i32
-    ensures { result ≡ scale_exponent_of p.f p.d }
+fn exponent_for(p: &Polynomial) -> i32
+    ensures { result ≡ scale_exponent_of p.now.f p.now.d }
 {
     let Some(lead) = decode::normal_of(p.f[p.d]) else {
         return 0;
@@ -65,6 +65,13 @@ pub fn scale_exponent(p: Polynomial) -> i32
         return 0;
     }
     k as i32 - 2098
+}
+
+// The same by value.
+pub fn scale_exponent(p: Polynomial) -> i32
+    ensures { result ≡ scale_exponent_of p.f p.d }
+{
+    exponent_for(&p)
 }
 
 // The leading coefficient x has this exponent in y.
@@ -87,8 +94,8 @@ impl Shift {
     }
 
     #[tactic(auto, using(crate::proofs::Signed::read), unfolding(crate::specs::Scaled::coefficient_of))]
-    fn coefficient(self, a: [f64; 5], i: usize) -> f64
-        ensures { result ≡ coefficient_of a self.d self.e self.top i }
+    fn coefficient(self, a: &[f64; 5], i: usize) -> f64
+        ensures { result ≡ coefficient_of a.now self.d self.e self.top i }
     {
         if i <= self.d {
             return ldexp::ldexp(a[i], self.at(i));
@@ -97,8 +104,8 @@ impl Shift {
     }
 
     #[tactic(auto, using(float::proofs::Made::made_by), unfolding(crate::specs::Scaled::coefficients_of))]
-    fn coefficients(self, a: [f64; 5]) -> [f64; 5]
-        ensures { result ≡ coefficients_of a self.d self.e self.top }
+    fn coefficients(self, a: &[f64; 5]) -> [f64; 5]
+        ensures { result ≡ coefficients_of a.now self.d self.e self.top }
     {
         std::array::from_fn(|i| self.coefficient(a, i))
     }
@@ -114,20 +121,20 @@ impl Shift {
     }
 
     #[tactic(auto, using(crate::proofs::Built::no_logs))]
-    fn log_sizes(self, a: [f64; 5]) -> [f64; 5]
-        ensures { result ≡ log_sizes_of a self.d self.e self.top }
+    fn log_sizes(self, a: &[f64; 5]) -> [f64; 5]
+        ensures { result ≡ log_sizes_of a.now self.d self.e self.top }
     {
         if self.d < 3 {
             return [f64::NEG_INFINITY; 5];
         }
-        let l = log2::log2_five(sizes(a));
+        let l = log2::log2_five(sizes(*a));
         std::array::from_fn(|i| self.log_size(l[i], i))
     }
 }
 
 #[tactic(auto, unfolding(crate::specs::Scaled::monic_at))]
-fn monic_at(p: Polynomial, i: usize) -> f64
-    ensures { result ≡ monic_at p.f p.d i }
+fn monic_at(p: &Polynomial, i: usize) -> f64
+    ensures { result ≡ monic_at p.now.f p.now.d i }
 {
     if i < p.d {
         return p.f[i] / p.f[p.d];
@@ -139,8 +146,8 @@ fn monic_at(p: Polynomial, i: usize) -> f64
 }
 
 #[tactic(auto, using(float::proofs::Made::made_by), unfolding(crate::specs::Scaled::monic_of))]
-fn monic(p: Polynomial) -> [f64; 5]
-    ensures { result ≡ monic_of p.f p.d }
+fn monic(p: &Polynomial) -> [f64; 5]
+    ensures { result ≡ monic_of p.now.f p.now.d }
 {
     std::array::from_fn(|i| monic_at(p, i))
 }
@@ -168,13 +175,13 @@ impl Scaled {
         requires { l ≤ 4 }
         ensures { result ≡ with_logs_of p.f p.d l }
     {
-        let a = p.f;
+        let a = &p.f;
         let d = p.d;
-        let e = scale_exponent(p);
+        let e = exponent_for(&p);
         let top = top_of(a[d], e, d);
         let shift = Shift { d, e, top };
         let f = shift.coefficients(a);
-        let g = monic(Polynomial { f, d });
+        let g = monic(&Polynomial { f, d });
         let logs = Shift { d: l, e, top };
         let lg = logs.log_sizes(a);
         let unit = ldexp::ldexp(1.0, -e);

@@ -1,22 +1,31 @@
--- `real_roots` is its definition, the list of what `solve_brief` gives, and demand 1 holds of that; and how many systems were solved for it.
-use mathlib.Core.Path.{refl}
-use Rattle.roots.specs.declared.Roots.{Roots}
-use Rattle.poly.proofs.Steps.{lists_none, lists_all, four_solved}
-use Rattle.poly.proofs.Systems.{systems_refused, systems_solved}
+-- `real_roots` is its definition, and demand 1 holds of it; and how many systems were solved.
+use mathlib.Core.Path.{refl, sym, ◌∙◌}
+use Rattle.poly.proofs.Steps.{parts_solved, lists_all}
+use Rattle.poly.proofs.Sums.{candidates_fit}
+use Rattle.poly.proofs.Systems.{systems_solved}
+use Rattle.facts.specs.Lists.{length_mapped}
 use borrow.Author.Rules.{rules}
 use Rattle.poly.proofs.real_roots.Goals as goal
 
-pub returns-in-Err-clause-value : goal.returns-in-Err-clause-value
-returns-in-Err-clause-value c = lists_none _ _ _ c.solve_brief-solved.ensures _ c.in-Err.is refl
+pub finish_lent-requires-clause-c_fits : goal.finish_lent-requires-clause-c_fits
+finish_lent-requires-clause-c_fits c =
+    let fit = candidates_fit _ _ _ _ _ c.candidates.ensures.value (search rules) in
+    ((search (rules, length_mapped), fit.0), fit.1)
 
-pub returns-in-Err-clause-systems : goal.returns-in-Err-clause-systems
-returns-in-Err-clause-systems c = systems_refused _ _ _ c.solve_brief-solved.ensures {A = Roots} _ c.in-Err.is refl
+pub returns-clause-value : goal.returns-clause-value
+returns-clause-value c =
+    lists_all _ _ _
+    (parts_solved _ _ _ c.polynomial-p.result _ _ _ _ _ _ _ _ (sym c.counted.ensures.value ∙ c.in_ok-n.was)
+    c.leading_zeros-zeros.ensures c.polynomial-p.ensures.0 c.polynomial-p.ensures.1 c.needed.ensures.1
+    c.with_logs.ensures c.max-tol.ensures c.candidates.ensures.value c.finish_lent.ensures
+    c.candidates.ensures.systems)
+    _ refl (search rules)
 
-pub unscaled_all-value-requires : goal.unscaled_all-value-requires
-unscaled_all-value-requires c = (search rules, four_solved _ _ _ c.solve_brief-solved.ensures _ c.in-Ok.is)
-
-pub returns-in-Ok-clause-value : goal.returns-in-Ok-clause-value
-returns-in-Ok-clause-value c = lists_all _ _ _ c.solve_brief-solved.ensures _ c.in-Ok.is (search rules)
-
-pub returns-in-Ok-clause-systems : goal.returns-in-Ok-clause-systems
-returns-in-Ok-clause-systems c = systems_solved _ _ _ c.solve_brief-solved.ensures _ c.in-Ok.is
+pub returns-clause-systems : goal.returns-clause-systems
+returns-clause-systems c =
+    systems_solved _ _ _
+    (parts_solved _ _ _ c.polynomial-p.result _ _ _ _ _ _ _ _ (sym c.counted.ensures.value ∙ c.in_ok-n.was)
+    c.leading_zeros-zeros.ensures c.polynomial-p.ensures.0 c.polynomial-p.ensures.1 c.needed.ensures.1
+    c.with_logs.ensures c.max-tol.ensures c.candidates.ensures.value c.finish_lent.ensures
+    c.candidates.ensures.systems)
+    _ refl

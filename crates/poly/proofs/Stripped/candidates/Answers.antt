@@ -7,15 +7,15 @@ use borrow.Author.Rules.{rules}
 use Rattle.poly.proofs.Stripped.candidates.Goals as goal
 
 pub with_lins-roots-requires : goal.with_lins-roots-requires
-with_lins-roots-requires c = (counts_fit _ c.args.self.now.poly _ (the_factors c.factorize_rooted-factors.ensures.value) (search rules)).0
+with_lins-roots-requires c = (counts_fit _ c.args.self.now.poly.now _ (the_factors c.factorize_lent.ensures.value) (search rules)).0
 
 pub with_quads-value-requires : goal.with_quads-value-requires
 with_quads-value-requires c =
-    let is = c.factorize_rooted-factors.ensures.value in
-    ((counts_fit _ c.args.self.now.poly _ (the_factors is) (search rules)).1, handed_on_is _ is refl)
+    let is = c.factorize_lent.ensures.value in
+    ((counts_fit _ c.args.self.now.poly.now _ (the_factors is) (search rules)).1, handed_on_is _ is refl)
 
 pub returns-clause-value : goal.returns-clause-value
 returns-clause-value c =
-    let f = the_factors c.factorize_rooted-factors.ensures.value in
-    rw (c.with.ensures, ← f) (candidates_found _ _ _ _ _ _ _ c.zero_roots.ensures c.with_lins-roots.ensures
+    let f = the_factors c.factorize_lent.ensures.value in
+    rw (← f) (candidates_found _ _ _ _ _ _ _ c.zero_roots.ensures c.with_lins-roots.ensures
     (c.with_quads-value.ensures ∙ rw c.default-pairs.ensures))

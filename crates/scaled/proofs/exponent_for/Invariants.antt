@@ -1,5 +1,5 @@
 use Rattle.scaled.proofs.Best.{Best}
-use Rattle.scaled.proofs.scale_exponent.Given as goal
+use Rattle.scaled.proofs.exponent_for.Given as goal
 
 abbrev pub invariant-loop-i : goal.invariant-loop-i
 invariant-loop-i l = Best l.p.f l.p.d l.i l.k

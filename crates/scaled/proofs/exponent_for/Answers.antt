@@ -4,8 +4,8 @@ use native.Mathlib.Omega.{arith}
 use borrow.Author.Rules.{rules}
 use Rattle.decode.proofs.Class.{decoded_regular}
 use Rattle.scaled.proofs.Best.{best_by_digits, best_same, exponent_some}
-use Rattle.scaled.proofs.scale_exponent.Goals as goal
-use Rattle.scaled.proofs.scale_exponent.Goals.{in-Some-normal_of, in_default-normal_of}
+use Rattle.scaled.proofs.exponent_for.Goals as goal
+use Rattle.scaled.proofs.exponent_for.Goals.{in-Some-normal_of, in_default-normal_of}
 
 pub loop-i-preserved : goal.loop-i-preserved
 loop-i-preserved c =
