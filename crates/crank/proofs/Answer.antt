@@ -60,6 +60,19 @@ module _ (sine : Sine) (confusion : Float) (rs : Replies) where
   unfolding crank_shown_of crank_start_of
   shown_is trig = front_shown (crank_front_of trig)
 
+  -- a refusal of the front's quartic is that of what is shown
+  pub shown_refused : (trig : TrigEquation) (front : Crank) (refusal : Refusal)
+      {a : Result (Tallied CrankShown) Refusal} → Ok front ≡ crank_front_of trig
+      → Err refusal ≡ shown_after_of sine front.q confusion rs → a ≡ Err refusal
+      → answer_in a ≡ crank_shown_of sine confusion trig rs
+  shown_refused trig front refusal f e is =
+      let by_front = λ (r : Result Crank Refusal).
+      and_then r (λ c. and_then (shown_after_of sine c.q confusion rs)
+      (λ seen. Ok (record { k = c.k; seen = seen }))) in
+      ap answer_in is
+      ∙ ap (λ (r : Result Seen Refusal). and_then r (λ seen. Ok (record { k = front.k; seen = seen }))) e
+      ∙ ap by_front f ∙ shown_is trig
+
 -- ---- how many systems are solved: those of the front's quartic
 module _ (sine : Sine) (confusion : Float) where
   abbrev begun : ℕ → Result Inquiry Refusal → Result CrankInquiry Refusal
@@ -73,10 +86,23 @@ module _ (sine : Sine) (confusion : Float) where
   begun_systems k (Err refusal) = refl
 
   module _ (trig : TrigEquation) where
-    pub none_by_front : (refusal : Refusal) (r : CrankRefused) {a : Result (Tallied CrankShown) CrankRefused} → Err refusal ≡ crank_front_of trig → a ≡ Err r
+    -- no system is solved where the equation is refused, whatever type the refusal has
+    none_solved : {R : Type 0} {r : R} {refusal : Refusal} {a : Result (Tallied CrankShown) R}
+        → Err refusal ≡ crank_front_of trig → a ≡ Err r
         → systems_in a ≡ crank_systems_of sine confusion trig
     unfolding crank_systems_of crank_start_of
-    none_by_front refusal r e is = ap systems_in is ∙ ap systems_by e
+    none_solved e is = ap systems_in is ∙ ap systems_by e
+
+    pub none_by_front : (refusal : Refusal) {a : Result (Tallied CrankShown) Refusal}
+        → Err refusal ≡ crank_front_of trig → a ≡ Err refusal
+        → systems_in a ≡ crank_systems_of sine confusion trig
+    none_by_front refusal e is = none_solved e is
+
+    -- the same where k stands beside the refusal
+    pub none_with_k : (refusal : Refusal) (r : CrankRefused)
+        {a : Result (Tallied CrankShown) CrankRefused} → Err refusal ≡ crank_front_of trig
+        → a ≡ Err r → systems_in a ≡ crank_systems_of sine confusion trig
+    none_with_k refusal r e is = none_solved e is
 
     pub systems_by_front : (front : Crank) {n : ℕ} → Ok front ≡ crank_front_of trig → n ≡ real_roots_systems_of sine front.q confusion
         → n ≡ crank_systems_of sine confusion trig

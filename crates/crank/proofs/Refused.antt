@@ -21,7 +21,7 @@ use Rattle.crank.specs.declared.CrankInquiry.{CrankInquiry}
 use Rattle.crank.specs.declared.CrankShown.{CrankShown}
 use Rattle.crank.specs.declared.CrankRefused.{CrankRefused}
 use Rattle.crank.specs.Crank.{crank_start_of, crank_shown_of, crank_systems_of, crank_k_of, with_k}
-use Rattle.crank.proofs.Answer.{shown_is, none_by_front}
+use Rattle.crank.proofs.Answer.{shown_is, none_with_k}
 
 -- a refusal with its k, by what both are
 abbrev err_of : (A : Type 0) → CrankRefused → Result A CrankRefused
@@ -98,7 +98,7 @@ module _ (sine : Sine) (confusion : Float) (trig : TrigEquation) where
         → IsErr a × IsErrAnd a (λ r. (r.refusal ≡ refusal) × (r.k ≡ 0)) → Err refusal ≡ crank_front_of trig
         → (answer_in a ≡ with_k (crank_k_of trig) (crank_shown_of sine confusion trig rs)) × (systems_in a ≡ crank_systems_of sine confusion trig)
     shown_err refusal (Ok s) h e = absurd h.1
-    shown_err refusal (Err r) h e = (shown_none refusal r e h.1, none_by_front sine confusion trig refusal r e refl)
+    shown_err refusal (Err r) h e = (shown_none refusal r e h.1, none_with_k sine confusion trig refusal r e refl)
 
     module _ (front : Crank) (e : Ok front ≡ crank_front_of trig) where
       pub shown_some : (seen : Seen) → Ok seen ≡ shown_after_of sine front.q confusion rs
